@@ -1,0 +1,2 @@
+pub mod FrameTable
+pub mod Slots

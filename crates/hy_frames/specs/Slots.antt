@@ -1,0 +1,31 @@
+-- How the slots of a table and the list of unused numbers fit together.
+use Rattle.std.specs.Prelude.{◌≡◌, ℕ, ◌+◌, ◌<◌, ◌≤◌, ◌⊎◌, ◌==◌, List, [], ◌∷◌, ◌++◌, length, slice_index_or, slice_set, count_by, if◌then◌else◌}
+use Rattle.hy_frames.specs.FrameTable.{Frame, FrameTable, in_use, shared_of, IsSoundTable}
+
+-- how often a number stands in a list
+abbrev pub occurrences : ℕ → List ℕ → ℕ
+occurrences n numbers = count_by (λ number. number == n) numbers
+
+-- 1 at a number whose slot exists and is unused, else 0
+abbrev pub unused_at : List Frame → ℕ → ℕ
+unused_at slots f = if (slice_index_or slots f (record { count = 1; bytes = [] })).count == 0 then 1 else 0
+
+-- the list names each unused slot once, has room for every slot, and the counters are right
+pub record IsSoundSlots (page_size : ℕ) (slots : FrameTable) (unused : List ℕ) (room shared : ℕ) : Type 0 where
+  pub table : IsSoundTable page_size slots
+  pub each_once : (f : ℕ) → occurrences f unused ≡ unused_at slots.frames f
+  pub partition : in_use slots + length unused ≡ length slots.frames
+  pub fits : length slots.frames ≤ room
+  pub small : length slots.frames ≤ 10000000
+  pub sharing : shared ≡ shared_of slots
+
+-- a slot is unused, or there is room for one more slot and its number
+abbrev pub HasRoom : List Frame → ℕ → List ℕ → ℕ → Type 0
+HasRoom slots slot_room unused unused_room =
+    (unused ≡ [] → (length slots < slot_room) × (length slots < unused_room))
+
+-- a slot was put where the last unused number says, or behind all slots where no number is unused
+abbrev pub IsPut : List Frame → List ℕ → List Frame → List ℕ → Frame → ℕ → Type 0
+IsPut slots unused slots' unused' frame f =
+    ((unused ≡ unused' ++ f ∷ []) × (slots' ≡ slice_set slots f frame))
+    ⊎ ((unused ≡ []) × (unused' ≡ []) × (f ≡ length slots) × (slots' ≡ slots ++ frame ∷ []))

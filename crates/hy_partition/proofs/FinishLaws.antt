@@ -1,0 +1,146 @@
+-- Steps one after another, until nothing runs.
+use Rattle.std.proofs.Common.{◌≡◌, ℕ, ◌-◌, ◌<◌, ◌⊎◌, inl, inr, [], ◌∷◌, ◌++◌, Option, Some, None, Result, Ok, Err, refl, sym, ap, ◌∙◌, subst, arith}
+use Rattle.std.specs.Prelude.{IsSome, MatchOption, IsOkAnd}
+use Rattle.hy_schema.specs.declared.command.Commit.TheVariants as commits
+use Rattle.hy_schema.specs.declared.command.Reply.{Reply}
+use Rattle.hy_schema.specs.declared.refusal.Refusal.{Refusal}
+use Rattle.hy_schema.specs.declared.refusal.Refusal.TheVariants as refusals
+use Rattle.hy_schema.specs.Replay.{replay}
+use Rattle.hy_schema.specs.Transactions.{act}
+use Rattle.hy_space.specs.Space.{owner_bytes}
+use Rattle.hy_partition.specs.Jobs.{RunningJob}
+use Rattle.hy_partition.specs.Partition.{PartitionState, rows_now}
+use Rattle.hy_partition.specs.Soundness.{IsSound}
+use Rattle.hy_partition.specs.Steps.{Accepts, Ends, KeepsRest, Refuses, StepsTo}
+use Rattle.hy_partition.specs.Undone.{undone}
+use Rattle.hy_partition.specs.declared.job.Progress.{Progress}
+use Rattle.hy_partition.specs.declared.job.Progress.TheVariants as progress
+use Rattle.hy_partition.proofs.SoundLaws.{runs}
+
+-- the same command runs, and nothing was kept
+pub record IsUnderWay (old now : PartitionState) (first job : RunningJob) : Type 0 where
+  pub command : job.command ≡ first.command
+  pub kept : now.kept ≡ old.kept
+  pub bytes : undone (owner_bytes now.space) now.earlier ≡ undone (owner_bytes old.space) old.earlier
+  pub rest : KeepsRest old now
+
+-- what some steps have reached of the job that ran at first
+abbrev pub Reached : PartitionState → PartitionState → Type 0
+Reached old now = MatchOption old.running (now ≡ old) (λ first. MatchOption now.running (Accepts first.command old now ⊎ Refuses old now) (IsUnderWay old now first))
+
+keeps_rest-then : (old now new : PartitionState) → KeepsRest old now → KeepsRest now new → KeepsRest old new
+keeps_rest-then old now new first second = record {
+  warehouse = second.warehouse ∙ first.warehouse;
+  loaded = second.loaded ∙ first.loaded;
+  max_kept = second.max_kept ∙ first.max_kept;
+  snapshots = second.snapshots ∙ first.snapshots;
+  children = record { tables = second.children.tables ∙ first.children.tables; bytes = λ child. second.children.bytes child ∙ first.children.bytes child };
+}
+
+ends-then : (old now new : PartitionState) (reply : Reply) → KeepsRest old now → Ends now new reply → Ends old new reply
+ends-then old now new reply first ends = record { running = ends.running; earlier = ends.earlier; finished = ends.finished; rest = keeps_rest-then old now new first ends.rest }
+
+pub reached-start : (p : PartitionState) → Reached p p
+reached-start p = at p.running refl
+  where
+    at : (running : Option RunningJob) → p.running ≡ running → MatchOption running (p ≡ p) (λ first. MatchOption p.running (Accepts first.command p p ⊎ Refuses p p) (IsUnderWay p p first))
+    at None is = refl
+    at (Some first) is =
+        subst (λ (running : Option RunningJob). MatchOption running (Accepts first.command p p ⊎ Refuses p p) (IsUnderWay p p first)) (sym is) (record {
+          command = refl;
+          kept = refl;
+          bytes = refl;
+          rest = record { warehouse = refl; loaded = refl; max_kept = refl; snapshots = refl; children = record { tables = refl; bytes = λ child. refl } };
+        })
+
+same_rows : (old now : PartitionState) → KeepsRest old now → now.kept ≡ old.kept → rows_now now ≡ rows_now old
+same_rows old now rest kept = ap (λ w. replay w now.loaded now.kept) rest.warehouse ∙ ap (λ l. replay old.warehouse l now.kept) rest.loaded ∙ ap (replay old.warehouse old.loaded) kept
+
+accepts-then : (old now new : PartitionState) (first job : RunningJob) → IsUnderWay old now first job → Accepts job.command now new → Accepts first.command old new
+accepts-then old now new first job way accepts = record {
+  kept = accepts.kept ∙ ap (λ kept. kept ++ commits.Local job.command ∷ []) way.kept ∙ ap (λ command. old.kept ++ commits.Local command ∷ []) way.command;
+  ends =
+      subst (λ (reply : Reply). Ends old new reply)
+      (ap (λ w. (act w job.command (rows_now now)).reply) way.rest.warehouse ∙ ap (λ command. (act old.warehouse command (rows_now now)).reply) way.command ∙ ap (λ rows. (act old.warehouse first.command rows).reply) (same_rows old now way.rest way.kept))
+      (ends-then old now new _ way.rest accepts.ends);
+}
+
+refuses-then : (old now new : PartitionState) (first job : RunningJob) → IsUnderWay old now first job → Refuses now new → Refuses old new
+refuses-then old now new first job way refuses = record {
+  kept = refuses.kept ∙ way.kept;
+  bytes = refuses.bytes ∙ way.bytes;
+  reason = elim refuses.reason [
+    | inl memory ↦ inl (ends-then old now new _ way.rest memory)
+    | inr frame ↦ inr (ends-then old now new _ way.rest frame.0, frame.1)
+  ];
+}
+
+-- one step more
+module _ (old now new : PartitionState) (first job : RunningJob) (way : IsUnderWay old now first job) where
+  ended : new.running ≡ None → Accepts first.command old new ⊎ Refuses old new → MatchOption new.running (Accepts first.command old new ⊎ Refuses old new) (IsUnderWay old new first)
+  ended none how = subst (λ (running : Option RunningJob). MatchOption running (Accepts first.command old new ⊎ Refuses old new) (IsUnderWay old new first)) (sym none) how
+
+  refused_running : Refuses now new → new.running ≡ None
+  refused_running refuses = elim refuses.reason [ inl memory ↦ memory.running | inr frame ↦ frame.0.running ]
+
+  stepped : (reached : Progress) → StepsTo job now new reached → MatchOption new.running (Accepts first.command old new ⊎ Refuses old new) (IsUnderWay old new first)
+  stepped progress.More steps =
+      let more = steps.1 in
+      subst (λ (running : Option RunningJob). MatchOption running (Accepts first.command old new ⊎ Refuses old new) (IsUnderWay old new first)) (sym more.running) (record {
+        command = way.command;
+        kept = more.kept ∙ way.kept;
+        bytes = more.bytes ∙ way.bytes;
+        rest = keeps_rest-then old now new way.rest more.rest;
+      })
+  stepped progress.Finished steps = elim steps [
+    | inl last ↦ ended last.1.ends.running (inl (accepts-then old now new first job way last.1))
+    | inr refuses ↦ ended (refused_running refuses) (inr (refuses-then old now new first job way refuses))
+  ]
+
+pub reached-step : (old now new : PartitionState) (outcome : Result Progress Refusal) → IsSome now.running → Reached old now
+    → MatchOption now.running ((outcome ≡ Err refusals.NotRunning) × (new ≡ now)) (λ job. IsOkAnd outcome (StepsTo job now new)) → Reached old new
+reached-step old now new outcome running reached step = at old.running now.running refl refl reached step
+  where
+    at : (before current : Option RunningJob) → old.running ≡ before → now.running ≡ current
+        → MatchOption before (now ≡ old) (λ first. MatchOption current (Accepts first.command old now ⊎ Refuses old now) (IsUnderWay old now first))
+        → MatchOption current ((outcome ≡ Err refusals.NotRunning) × (new ≡ now)) (λ job. IsOkAnd outcome (StepsTo job now new))
+        → MatchOption before (new ≡ old) (λ first. MatchOption new.running (Accepts first.command old new ⊎ Refuses old new) (IsUnderWay old new first))
+    at None current before_is current_is same step = let none : now.running ≡ None = ap (λ p. p.running) same ∙ before_is in absurd (cc)
+    at (Some first) None before_is current_is way step = absurd (cc)
+    at (Some first) (Some job) before_is current_is way step = by outcome step
+      where
+        by : (outcome : Result Progress Refusal) → IsOkAnd outcome (StepsTo job now new) → MatchOption new.running (Accepts first.command old new ⊎ Refuses old new) (IsUnderWay old new first)
+        by (Ok reached) steps = stepped old now new first job way reached steps
+        by (Err refusal) steps = absurd steps
+
+-- the steps have ended
+pub reached-end : (old now : PartitionState) → now.running ≡ None → Reached old now → MatchOption old.running (now ≡ old) (λ first. Accepts first.command old now ⊎ Refuses old now)
+reached-end old now none reached = at old.running reached
+  where
+    at : (before : Option RunningJob) → MatchOption before (now ≡ old) (λ first. MatchOption now.running (Accepts first.command old now ⊎ Refuses old now) (IsUnderWay old now first))
+        → MatchOption before (now ≡ old) (λ first. Accepts first.command old now ⊎ Refuses old now)
+    at None same = same
+    at (Some first) reached = subst (λ (running : Option RunningJob). MatchOption running (Accepts first.command old now ⊎ Refuses old now) (IsUnderWay old now first)) none reached
+
+-- how many steps are left at most
+abbrev pub steps_left : Option RunningJob → ℕ
+steps_left None = 0
+steps_left (Some job) = 3 - job.slices
+
+fewer : (n places : ℕ) (p new : PartitionState) (job : RunningJob) (sound : IsSound n places p) → p.running ≡ Some job → (reached : Progress) → StepsTo job p new reached → steps_left new.running < steps_left (Some job)
+fewer n places p new job sound running progress.More steps = omega (arith, (runs n places p sound job running).slices, ap steps_left steps.1.running)
+fewer n places p new job sound running progress.Finished steps =
+    let none : new.running ≡ None = elim steps [ inl last ↦ last.1.ends.running | inr refuses ↦ elim refuses.reason [ inl memory ↦ memory.running | inr frame ↦ frame.0.running ] ] in
+    omega (arith, (runs n places p sound job running).slices, ap steps_left none)
+
+pub fewer_left : (n places : ℕ) (p new : PartitionState) (outcome : Result Progress Refusal) (sound : IsSound n places p) → IsSome p.running
+    → MatchOption p.running ((outcome ≡ Err refusals.NotRunning) × (new ≡ p)) (λ job. IsOkAnd outcome (StepsTo job p new)) → steps_left new.running < steps_left p.running
+fewer_left n places p new outcome sound running step = at p.running refl step
+  where
+    at : (current : Option RunningJob) → p.running ≡ current → MatchOption current ((outcome ≡ Err refusals.NotRunning) × (new ≡ p)) (λ job. IsOkAnd outcome (StepsTo job p new)) → steps_left new.running < steps_left current
+    at None is step = absurd (cc)
+    at (Some job) is step = by outcome step
+      where
+        by : (outcome : Result Progress Refusal) → IsOkAnd outcome (StepsTo job p new) → steps_left new.running < steps_left (Some job)
+        by (Ok reached) steps = fewer n places p new job sound is reached steps
+        by (Err refusal) steps = absurd steps

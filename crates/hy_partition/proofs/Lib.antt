@@ -1,0 +1,14 @@
+pub mod SnapshotLaws
+pub mod PageChanges
+pub mod GrowthLaws
+pub mod PlaceLaws
+pub mod StepLaws
+pub mod FindLaws
+pub mod KeptLaws
+pub mod UndoLaws
+pub mod TablesLaws
+pub mod EmptyLaws
+pub mod SoundLaws
+pub mod LoadLaws
+pub mod StepsToLaws
+pub mod FinishLaws

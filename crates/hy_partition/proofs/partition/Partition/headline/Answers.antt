@@ -1,0 +1,11 @@
+use Rattle.std.proofs.Common.{subst}
+use Rattle.hy_partition.specs.Partition.{PartitionState}
+use Rattle.hy_partition.specs.Headline.{Headline}
+use Rattle.hy_partition.proofs.partition.Partition.headline.Goals as goal
+
+pub returns : goal.returns
+returns g c = subst (λ (p : PartitionState). Headline g.row.N p) c.self.view_is (record {
+  frame_counts_are_exact = record { counts = c.sound.ensures.counts; once = c.sound.ensures.once };
+  open_snapshots_spell_a_beginning = c.self.invariant.snapshots;
+  live_pages_undone_spell_all = c.self.invariant.live;
+})

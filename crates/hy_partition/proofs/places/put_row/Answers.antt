@@ -1,0 +1,37 @@
+use Rattle.std.proofs.Common.{◌≡◌, ℕ, ◌+◌, List, [], ◌++◌, arith, sym, ap, ◌∙◌, subst}
+use Rattle.std.proofs.lemmas.Result.{on_ok_weaker}
+use Rattle.hy_page.specs.Bytes.{overwritten}
+use Rattle.hy_schema.specs.Spelling.{HasTables, list_at, slot_page, slot_offset, rows_of}
+use Rattle.hy_space.specs.Space.{owner_bytes, page_at, with_page, HasPagesOf}
+use Rattle.hy_partition.proofs.PlaceLaws.{rows-row_written, tables-row_written}
+use Rattle.hy_partition.proofs.places.put_row.Goals as goal
+use Rattle.hy_partition.proofs.places.put_row.Given as given
+
+-- what the write did, in the terms of the row
+after : (g : given.Over) (c : goal.After-write g) → owner_bytes c.write.new.self ≡ with_page (owner_bytes c.args.space.now) c.SEGMENT.result c.place_in-place.result.page (overwritten (page_at (owner_bytes c.args.space.now) c.SEGMENT.result c.place_in-place.result.page) (c.place_in-place.result.offset + 1) c.as_slice.result.now)
+    → owner_bytes c.write.new.self ≡ with_page (owner_bytes c.args.space.now) g.R.Row.SEGMENT (slot_page g.row.N g.R.Row.BYTES c.args.slot) (overwritten (page_at (owner_bytes c.args.space.now) g.R.Row.SEGMENT (slot_page g.row.N g.R.Row.BYTES c.args.slot)) (slot_offset g.row.N g.R.Row.BYTES c.args.slot + 1) (g.R.Row.bytes_of_row c.args.row.now))
+after g c raw =
+    let old : List (List (List ℕ)) = owner_bytes c.args.space.now in
+    let row : c.as_slice.result.now ≡ g.R.Row.bytes_of_row c.args.row.now = c.as_slice.ensures.value ∙ c.encode.ensures.bytes ∙ ap (λ (front : List ℕ). front ++ g.R.Row.bytes_of_row c.args.row.now) c.new-bytes.ensures in
+    raw
+    ∙ ap (λ (s : ℕ). with_page old s c.place_in-place.result.page (overwritten (page_at old s c.place_in-place.result.page) (c.place_in-place.result.offset + 1) c.as_slice.result.now)) c.SEGMENT.ensures
+    ∙ ap (λ (p : ℕ). with_page old g.R.Row.SEGMENT p (overwritten (page_at old g.R.Row.SEGMENT p) (c.place_in-place.result.offset + 1) c.as_slice.result.now)) c.place_in-place.ensures.page
+    ∙ ap (λ (o : ℕ). with_page old g.R.Row.SEGMENT (slot_page g.row.N g.R.Row.BYTES c.args.slot) (overwritten (page_at old g.R.Row.SEGMENT (slot_page g.row.N g.R.Row.BYTES c.args.slot)) (o + 1) c.as_slice.result.now)) c.place_in-place.ensures.offset
+    ∙ ap (λ (b : List ℕ). with_page old g.R.Row.SEGMENT (slot_page g.row.N g.R.Row.BYTES c.args.slot) (overwritten (page_at old g.R.Row.SEGMENT (slot_page g.row.N g.R.Row.BYTES c.args.slot)) (slot_offset g.row.N g.R.Row.BYTES c.args.slot + 1) b)) row
+
+-- the pages of the owner have all their bytes
+sizes : (g : given.Over) (c : goal.After-write g) → HasPagesOf g.row.N (owner_bytes c.args.space.now)
+sizes g c = c.sound.ensures.pages 0 [] (omega arith)
+
+pub returns-clause-tables : goal.returns-clause-tables
+returns-clause-tables g c = on_ok_weaker c.write.result (λ raw.
+    subst (λ (bytes : List (List (List ℕ))). HasTables g.row.N bytes) (sym (after g c raw))
+    (tables-row_written g.row.N g.R.Row.SEGMENT g.R.Row.BYTES (owner_bytes c.args.space.now) c.args.slot (g.R.Row.bytes_of_row c.args.row.now) c.sound.ensures.smallest g.met.R.Row.is_table c.requires.tables (sizes g c) c.requires.used c.encode.ensures.width)) c.write.ensures.bytes
+
+pub returns-clause-rows : goal.returns-clause-rows
+returns-clause-rows g c = on_ok_weaker c.write.result (λ raw test step before found stepped.
+    ap (λ (bytes : List (List (List ℕ))). rows_of g.row.N g.R.Row.BYTES g.R.Row.row_of_bytes (list_at bytes g.R.Row.SEGMENT)) (after g c raw)
+    ∙ rows-row_written g.row.N g.R.Row.SEGMENT g.R.Row.BYTES (owner_bytes c.args.space.now) c.args.slot (g.R.Row.bytes_of_row c.args.row.now) c.sound.ensures.smallest g.met.R.Row.is_table c.requires.tables (sizes g c) c.requires.used c.encode.ensures.width g.R.Row.row_of_bytes test step before found (c.encode.ensures.reads_back ∙ stepped)) c.write.ensures.bytes
+
+pub returns-clause-page : goal.returns-clause-page
+returns-clause-page g c = on_ok_weaker c.write.result (λ raw. (_, after g c raw)) c.write.ensures.bytes

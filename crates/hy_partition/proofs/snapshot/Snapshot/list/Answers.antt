@@ -1,0 +1,26 @@
+use Rattle.std.proofs.Common.{rules, ◌≡◌, ℕ, List, IfOk, sym, ap, subst, ◌∙◌, arith}
+use Rattle.hy_schema.specs.Spelling.{HasSlots, rows_of, list_at}
+use Rattle.hy_partition.proofs.SnapshotLaws.{segment_there}
+use Rattle.hy_partition.proofs.snapshot.Snapshot.list.Goals as goal
+
+pub segment-requires : goal.segment-requires
+segment-requires g c = (search rules, (search rules, omega (arith, segment_there g.R.Row.SEGMENT g.R.Row.BYTES g.met.R.Row.is_table, c.SEGMENT.ensures)))
+
+pub rows_on_pages-requires : goal.rows_on_pages-requires
+rows_on_pages-requires g c =
+    let pages : c.segment.result.now ≡ list_at c.args.self.now.bytes g.R.Row.SEGMENT = c.segment.ensures.pages ∙ ap (list_at c.args.self.now.bytes) c.SEGMENT.ensures in
+    let P : List (List ℕ) → Type 0 = HasSlots g.row.N g.R.Row.BYTES in (
+      search rules,
+      (
+        subst P (sym pages) (c.segment.ensures.whole.tables.slots g.R.Row.SEGMENT g.R.Row.BYTES g.met.R.Row.is_table),
+        (c.segment.ensures.whole.smallest, c.segment.ensures.whole.largest),
+      ),
+    )
+
+pub returns : goal.returns
+returns g c =
+    let pages : c.segment.result.now ≡ list_at c.args.self.now.bytes g.R.Row.SEGMENT = c.segment.ensures.pages ∙ ap (list_at c.args.self.now.bytes) c.SEGMENT.ensures in
+    let P : List g.row.R.Denot → Type 0 = λ rows. IfOk c.rows_on_pages.result (λ found. found.items ≡ rows) in
+    subst P
+    (ap (rows_of g.row.N g.R.Row.BYTES g.R.Row.row_of_bytes) pages ∙ sym (g.met.R.Row.spelled g.row.N c.args.self.now.bytes))
+    c.rows_on_pages.ensures

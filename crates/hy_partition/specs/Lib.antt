@@ -1,0 +1,12 @@
+pub mod Rows
+pub mod Snapshots
+pub mod Shortages
+pub mod Undone
+pub mod Growth
+pub mod Jobs
+pub mod Partition
+pub mod Headline
+pub mod Soundness
+pub mod Steps
+pub mod Changes
+pub mod Views

@@ -1,0 +1,16 @@
+-- Snapshots.
+use Rattle.std.specs.Prelude.{ℕ, ◌≤◌, List}
+use Rattle.hy_schema.specs.Spelling.{HasTables}
+
+-- the warehouse, the child of its page tables, the number of commits, and the bytes of the pages by segment
+pub record SnapshotState : Type 0 where
+  pub warehouse : ℕ
+  pub child : ℕ
+  pub commits : ℕ
+  pub bytes : List (List (List ℕ))
+
+-- a snapshot has its tables, on pages of n bytes
+pub record IsWhole (n : ℕ) (bytes : List (List (List ℕ))) : Type 0 where
+  pub smallest : 256 ≤ n
+  pub largest : n ≤ 65536
+  pub tables : HasTables n bytes

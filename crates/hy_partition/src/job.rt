@@ -1,0 +1,162 @@
+//! Jobs: commands that are handed to a partition, and their replies.
+
+ghost use Rattle.std.specs.Prelude.{◌≡◌, ◌+◌, ◌≤◌};
+ghost use Rattle.hy_schema.specs.declared.command.Reply.TheVariants as replies;
+
+use hy_schema::{Command, Refusal, Reply};
+use std::marker::Model;
+
+/// A command on its way to a partition. It can't be cloned, so that it is done once at most.
+#[derive(Drop)]
+pub struct Job {
+    command: Command,
+}
+
+// Clauses see the command.
+impl Model for Job {
+    ghost use Rattle.hy_schema.specs.declared.command.Command.{Command};
+
+    ghost Value = { Command };
+
+    ghost view = { λ job. job.command };
+}
+
+impl Job {
+    /// A job that runs a command.
+    pub fn new(command: Command) -> Job
+        ensures { result ≡ command }
+    {
+        Job { command }
+    }
+
+    /// The command.
+    pub fn command(&self) -> &Command
+        ensures { result.now ≡ self.now }
+    {
+        &self.command
+    }
+
+    /// The answer to a job that nobody begins.
+    pub fn refuse(self, refusal: Refusal) -> Done
+        ensures { result ≡ replies.Refused refusal }
+    {
+        let Job { command: _ } = self;
+        Done {
+            reply: Reply::Refused(refusal),
+        }
+    }
+
+    /// The command, to be begun.
+    pub(crate) fn into_command(self) -> Command
+        ensures { result ≡ self }
+    {
+        let Job { command } = self;
+        command
+    }
+}
+
+/// A reply on its way back. It can't be cloned, so that it is read once at most.
+#[derive(Drop)]
+pub struct Done {
+    reply: Reply,
+}
+
+// Clauses see the reply.
+impl Model for Done {
+    ghost use Rattle.hy_schema.specs.declared.command.Reply.{Reply};
+
+    ghost Value = { Reply };
+
+    ghost view = { λ done. done.reply };
+}
+
+impl Done {
+    /// The answer to a job that ended.
+    pub(crate) fn new(reply: Reply) -> Done
+        ensures { result ≡ reply }
+    {
+        Done { reply }
+    }
+
+    /// The reply.
+    pub fn open(self) -> Reply
+        ensures { result ≡ self }
+    {
+        let Done { reply } = self;
+        reply
+    }
+}
+
+/// What a step left of a job.
+#[derive(Clone, Copy, Debug, PartialEq, Eq)]
+pub enum Progress {
+    /// More slices are to come.
+    More,
+    /// The job ended: its answer can be taken.
+    Finished,
+}
+
+/// A command that runs, and how many of its slices are done.
+#[derive(Clone, Copy, Debug)]
+pub struct Running {
+    command: Command,
+    slices: u64,
+}
+
+// Clauses see both.
+impl Model for Running {
+    ghost use Rattle.hy_partition.specs.Jobs.{RunningJob};
+
+    ghost Value = { RunningJob };
+
+    ghost view = { λ running. record { command = running.command; slices = running.slices } };
+
+    ghost inverse = { λ job. record { command = job.command; slices = job.slices } };
+}
+
+impl Running {
+    ghost use Rattle.hy_partition.specs.Jobs.{RunningJob, is_last, slice_count};
+
+    /// A command of which no slice is done.
+    pub(crate) fn new(command: Command) -> Running
+        ensures { result ≡ record { command = command; slices = 0 } }
+    {
+        Running { command, slices: 0 }
+    }
+
+    /// The command.
+    pub(crate) fn command(&self) -> Command
+        ensures { result ≡ self.now.command }
+    {
+        self.command
+    }
+
+    /// How many slices are done.
+    pub(crate) fn slices(&self) -> u64
+        ensures { result ≡ self.now.slices }
+    {
+        self.slices
+    }
+
+    /// The job after one slice more.
+    pub(crate) fn next(&self) -> Running
+        requires { self.now.slices ≤ 1 }
+        ensures { result ≡ record self.now { slices = self.now.slices + 1 } }
+    {
+        Running {
+            command: self.command,
+            slices: self.slices + 1,
+        }
+    }
+
+    /// Whether the next slice is the last one.
+    pub(crate) fn is_last(&self) -> bool
+        requires { self.now.slices ≤ 1 }
+        ensures { result ≡ is_last self.now }
+    {
+        let count = match self.command {
+            Command::Payment(_) => 2,
+        };
+        self.slices + 1 == count
+    }
+}

@@ -1,0 +1,288 @@
+//! The partition of one warehouse.
+
+ghost use Rattle.std.specs.Prelude.{◌≡◌, ◌≢◌, ℕ, ◌+◌, ◌<◌, ◌≤◌, vec_capacity, slice_index_or, ◌↔◌, ◌⊎◌, IsTrue, IsSome, IsSomeAnd, List, length, Option, Some, None, Ok, Err, IfOk, IfErr, IsOk, IsOkAnd, OnOk, OnErr, MatchOption, MatchResult};
+ghost use Rattle.hy_frames.specs.FrameTable.{free_of, shared_of, IsLimitFor};
+ghost use Rattle.hy_schema.specs.declared.refusal.Refusal.{Refusal};
+ghost use Rattle.hy_partition.specs.Headline.{Headline};
+ghost use Rattle.hy_partition.specs.Partition.{PartitionState, rows_now};
+ghost use Rattle.hy_partition.specs.Jobs.{is_last};
+ghost use Rattle.hy_partition.specs.Steps.{begin_refusal, Accepts, Begins, Closes, Forks, IsOpen, KeepsJob, Refuses, StepsTo};
+
+use crate::earlier::EarlierPages;
+use crate::fill::{LoadedRows, pages_with, rows_of_warehouse};
+use crate::job::{Done, Job, Progress, Running};
+use crate::refusals::refusal_for_shortage;
+use crate::slices::{refusal_for, run_slice};
+use crate::snapshot::Snapshot;
+use hy_schema::{Commit, Load, Refusal, Reply};
+use hy_space::Space;
+use std::alloc::Global;
+use std::marker::Model;
+
+/// One warehouse: its rows on pages of `N` bytes, the commits that are kept, the job that runs, and the open snapshots.
+#[derive(Drop)]
+pub struct Partition<const N: usize> {
+    warehouse: u8,
+    loaded: LoadedRows,
+    kept: Vec<Commit>,
+    max_kept: u64,
+    running: Option<Running>,
+    earlier: EarlierPages<N>,
+    finished: Option<Done>,
+    space: Space<N>,
+    snapshots: Vec<Option<u64>>,
+}
+
+// Clauses see the whole of it; `specs/Partition.antt` has the words.
+impl<const N: usize> Model for Partition<N> {
+    ghost use Rattle.std.specs.Prelude.{vec_capacity};
+    ghost use Rattle.hy_partition.specs.Partition.{PartitionState};
+    ghost use Rattle.hy_partition.specs.Soundness.{IsSound};
+
+    ghost Value = { PartitionState };
+
+    ghost use Rattle.hy_partition.specs.Views.{partition_of};
+
+    ghost view = { partition_of };
+
+    ghost invariant = { λ p. IsSound N (vec_capacity p.kept) (partition_of p) };
+}
+
+impl<const N: usize> Partition<N> {
+    /// The warehouse's rows of the load, with nothing kept and no snapshot. E2 where `max_frames` is too small for the
+    /// rows; at most `max_kept` commits will be kept.
+    pub fn new(
+        alloc: Global,
+        load: &Load,
+        warehouse: u8,
+        max_frames: u64,
+        max_kept: u64,
+    ) -> Result<Partition<N>, Refusal>
+        requires smallest { 256 ≤ N }
+        requires largest { N ≤ 65536 }
+        requires some_frames { 1 ≤ max_frames }
+        requires frames { max_frames ≤ 10000000 }
+        requires some_kept { 1 ≤ max_kept }
+        requires kept { max_kept ≤ 100000000 }
+        requires first { 1 ≤ warehouse }
+        requires last { warehouse ≤ length load.now.warehouses }
+        ensures begins { IfOk result (Begins load.now warehouse max_frames max_kept) }
+        ensures refused { IfErr result (λ refusal. (refusal ≡ Refusal.NoMemory) ⊎ (refusal ≡ Refusal.NoFrame)) }
+    {
+        load.sound();
+        let Ok(loaded) = rows_of_warehouse(alloc, load, warehouse) else {
+            return Err(Refusal::NoMemory);
+        };
+        match pages_with(alloc, &loaded, max_frames) {
+            Ok(space) => Ok(Partition {
+                warehouse,
+                loaded,
+                kept: Vec::new(alloc),
+                max_kept,
+                running: None,
+                earlier: EarlierPages::new(alloc),
+                finished: None,
+                space,
+                snapshots: Vec::new(alloc),
+            }),
+            Err(shortage) => Err(refusal_for_shortage(shortage)),
+        }
+    }
+
+    /// The theorem that holds of every partition whenever nobody holds it.
+    pub fn headline(&self)
+        ensures { Headline N self.now }
+    {
+        self.space.sound();
+    }
+
+    /// Begins a job, and makes room for its commit. A refusal gives the job back and changes nothing. It is the first of
+    /// these that holds: E9 where a job runs or its answer wasn't taken; E8, E4, E5, E6 of the command; E3 where as many
+    /// commits are kept as may be; E1.
+    pub fn begin(&mut self, job: Job) -> Result<(), (Job, Refusal)>
+        ensures begun { OnOk result (self.new ≡ record self.old { running = Some (record { command = job; slices = 0 }) }) }
+        ensures accepted { OnOk result (begin_refusal self.old job ≡ None) }
+        ensures refused { IfErr result (λ refused. (begin_refusal self.old job ≡ Some refused.1) ⊎ ((begin_refusal self.old job ≡ None) × (refused.1 ≡ Refusal.NoMemory))) }
+        ensures back { IfErr result (λ refused. refused.0 ≡ job) }
+        ensures err { OnErr result (self.new ≡ self.old) }
+    {
+        if self.running.is_some() || self.finished.is_some() {
+            return Err((job, Refusal::Busy));
+        }
+        if let Some(refusal) = refusal_for(self.warehouse, &self.space, job.command()) {
+            return Err((job, refusal));
+        }
+        if self.kept.len() as u64 == self.max_kept {
+            return Err((job, Refusal::HistoryFull));
+        }
+        if self.kept.reserve(1).is_err() {
+            return Err((job, Refusal::NoMemory));
+        }
+        self.running = Some(Running::new(job.into_command()));
+        Ok(())
+    }
+
+    /// Does one slice of the job that runs. The last one accepts the command; a slice that is refused for want of memory or
+    /// of a frame undoes what was done. In both cases the reply waits to be taken. E10 where nothing runs.
+    pub fn step(&mut self) -> Result<Progress, Refusal>
+        ensures { MatchOption self.old.running ((result ≡ Err Refusal.NotRunning) × (self.new ≡ self.old)) (λ job. IsOkAnd result (StepsTo job self.old self.new)) }
+    {
+        let Some(running) = self.running else {
+            return Err(Refusal::NotRunning);
+        };
+        match run_slice(&mut self.space, &mut self.earlier, &running) {
+            Ok(None) => {
+                self.running = Some(running.next());
+                Ok(Progress::More)
+            }
+            Ok(Some(reply)) => {
+                self.kept.push_reserved(Commit::Local(running.command()));
+                self.earlier.clear();
+                self.running = None;
+                self.finished = Some(Done::new(reply));
+                Ok(Progress::Finished)
+            }
+            Err(shortage) => {
+                self.earlier.roll_back(&mut self.space);
+                self.running = None;
+                self.finished = Some(Done::new(Reply::Refused(refusal_for_shortage(shortage))));
+                Ok(Progress::Finished)
+            }
+        }
+    }
+
+    /// Steps until nothing runs.
+    pub fn finish_running(&mut self)
+        ensures { MatchOption self.old.running (self.new ≡ self.old) (λ job. Accepts job.command self.old self.new ⊎ Refuses self.old self.new) }
+    {
+        while self.running.is_some() {
+            let _progress = self.step();
+        }
+    }
+
+    /// The answer to the job that ended, once.
+    pub fn take_done(&mut self) -> Option<Done>
+        ensures taken { result ≡ self.old.finished }
+        ensures after { self.new ≡ record self.old { finished = None } }
+    {
+        self.finished.take()
+    }
+
+    /// A snapshot of the rows after all kept commits. No page is copied and no frame taken. E9 while a job runs; else E1.
+    pub fn fork(&mut self, alloc: Global) -> Result<Snapshot<N>, Refusal>
+        ensures forks { IfOk result (Forks N self.old self.new) }
+        ensures idle { OnOk result (self.old.running ≡ None) }
+        ensures busy { IsSome self.old.running → result ≡ Err Refusal.Busy }
+        ensures refused { IfErr result (λ refusal. (IsSome self.old.running × (refusal ≡ Refusal.Busy)) ⊎ (refusal ≡ Refusal.NoMemory)) }
+        ensures err { OnErr result (self.new ≡ self.old) }
+    {
+        if self.running.is_some() {
+            return Err(Refusal::Busy);
+        }
+        self.space.sound();
+        let Ok(pages) = self.space.holds_of_owner() else {
+            return Err(Refusal::NoMemory);
+        };
+        if self.snapshots.reserve(1).is_err() {
+            return Err(Refusal::NoMemory);
+        }
+        let Ok(child) = self.space.fork() else {
+            return Err(Refusal::NoMemory);
+        };
+        let commits = self.kept.len() as u64;
+        open_snapshot(&mut self.snapshots, child, commits);
+        Ok(Snapshot::new(self.warehouse, child, commits, pages))
+    }
+
+    /// Closes a snapshot of this partition: the frames that only it had are free again. E11 where the snapshot is another
+    /// warehouse's, which comes back. Takes no memory.
+    pub fn close(&mut self, snapshot: Snapshot<N>) -> Result<(), (Snapshot<N>, Refusal)>
+        requires { snapshot.warehouse ≡ self.old.warehouse → IsOpen self.old snapshot }
+        ensures mine { IsOk result ↔ (snapshot.entry.warehouse ≡ self.old.warehouse) }
+        ensures closes { OnOk result (Closes self.old self.new snapshot.entry.child) }
+        ensures refused { IfErr result (λ refused. (refused.0 ≡ snapshot.entry) × (refused.1 ≡ Refusal.NotMine)) }
+        ensures err { OnErr result (self.new ≡ self.old) }
+    {
+        if snapshot.warehouse() != self.warehouse {
+            return Err((snapshot, Refusal::NotMine));
+        }
+        let child = snapshot.spend();
+        self.space.close(child);
+        self.snapshots[child as usize] = None;
+        Ok(())
+    }
+
+    /// Whether the next slice is the job's last. False where nothing runs.
+    pub fn at_last(&self) -> bool
+        ensures { IsTrue result ↔ IsSomeAnd self.now.running (λ job. IsTrue (is_last job)) }
+    {
+        match &self.running {
+            Some(running) => running.is_last(),
+            None => false,
+        }
+    }
+
+    /// The number of the warehouse.
+    pub fn warehouse(&self) -> u8
+        ensures { result ≡ self.now.warehouse }
+    {
+        self.warehouse
+    }
+
+    /// The commits that are kept, in order.
+    pub fn kept(&self) -> &[Commit]
+        ensures { result.now ≡ self.now.kept }
+    {
+        self.kept.as_slice()
+    }
+
+    /// How many pages the job that runs has written.
+    pub fn touched(&self) -> u64
+        ensures { result ≡ length self.now.earlier }
+    {
+        self.earlier.len()
+    }
+
+    /// How many frames are free.
+    pub fn free(&self) -> u64
+        ensures { result ≡ free_of self.now.space.frames }
+    {
+        self.space.free()
+    }
+
+    /// How many frames more than one page table maps.
+    pub fn shared(&self) -> u64
+        ensures { result ≡ shared_of self.now.space.frames }
+    {
+        self.space.shared()
+    }
+
+    /// Sets how many frames may be in use. E8 exactly where `max` isn't 1 to 10,000,000 or is less than the frames in use.
+    pub fn set_max(&mut self, max: u64) -> Result<(), Refusal>
+        ensures range { IsOk result ↔ IsLimitFor self.old.space.frames max }
+        ensures max { OnOk result (self.new.space.frames.max ≡ max) }
+        ensures job { OnOk result (KeepsJob self.old self.new) }
+        ensures refused { IfErr result (λ refusal. refusal ≡ Refusal.OutOfRange) }
+        ensures err { OnErr result (self.new ≡ self.old) }
+    {
+        match self.space.set_max(max) {
+            Ok(()) => Ok(()),
+            Err(_) => Err(Refusal::OutOfRange),
+        }
+    }
+}
+
+/// Notes a snapshot's number of commits.
+fn open_snapshot(snapshots: &mut Vec<Option<u64>>, child: u64, commits: u64)
+    requires within { child ≤ length snapshots.old.items }
+    requires room { length snapshots.old.items < vec_capacity snapshots.old }
+    ensures opened { slice_index_or snapshots.new.items child None ≡ Some commits }
+    ensures others { (other : ℕ) → other ≢ child → slice_index_or snapshots.new.items other None ≡ slice_index_or snapshots.old.items other None }
+{
+    let place = child as usize;
+    if place == snapshots.len() {
+        snapshots.push_reserved(Some(commits));
+    } else {
+        snapshots[place] = Some(commits);
+    }
+}

@@ -1,0 +1,18 @@
+//! What the layers below answer, as refusals.
+
+ghost use Rattle.std.specs.Prelude.{◌≡◌};
+ghost use Rattle.hy_schema.specs.declared.refusal.Refusal.{Refusal};
+ghost use Rattle.hy_partition.specs.Shortages.{refusal_for};
+
+use hy_frames::Shortage;
+use hy_schema::Refusal;
+
+/// E1 or E2.
+pub(crate) fn refusal_for_shortage(shortage: Shortage) -> Refusal
+    ensures { result ≡ refusal_for shortage }
+{
+    match shortage {
+        Shortage::NoMemory => Refusal::NoMemory,
+        Shortage::NoFrame => Refusal::NoFrame,
+    }
+}

@@ -1,0 +1,122 @@
+//! Snapshots: the committed rows of a warehouse at one moment.
+
+ghost use Rattle.std.specs.Prelude.{◌≡◌, ℕ, ◌<◌, ◌≤◌, List, length, map, IfOk};
+ghost use Rattle.hy_schema.specs.Spelling.{HasSlots, list_at, rows_of, segments, slot_width, tables_of};
+ghost use Rattle.hy_partition.specs.Snapshots.{SnapshotState, IsWhole};
+
+use crate::places::{place_of, row_at};
+use hy_frames::Hold;
+use hy_schema::Row;
+use std::alloc::{AllocError, Global};
+use std::marker::Model;
+
+/// The rows of a warehouse after a number of its commits. It has a hold on its pages, so that no lock is needed to read it,
+/// and nothing changes it. It must be given back to its partition by `close`.
+pub struct Snapshot<const N: usize> {
+    warehouse: u8,
+    child: u64,
+    commits: u64,
+    pages: Vec<Vec<Hold<N>>>,
+}
+
+// Clauses see the numbers, and the bytes of the pages by segment.
+impl<const N: usize> Model for Snapshot<N> {
+    ghost use Rattle.std.specs.Prelude.{map};
+    ghost use Rattle.hy_partition.specs.Snapshots.{SnapshotState, IsWhole};
+
+    ghost Value = { SnapshotState };
+
+    ghost view = { λ snapshot. record {
+      warehouse = snapshot.warehouse;
+      child = snapshot.child;
+      commits = snapshot.commits;
+      bytes = map (λ segment. segment.items) snapshot.pages.items;
+    } };
+
+    ghost invariant = { λ snapshot. IsWhole N (map (λ segment. segment.items) snapshot.pages.items) };
+}
+
+impl<const N: usize> Snapshot<N> {
+    /// A snapshot with these pages.
+    pub(crate) fn new(
+        warehouse: u8,
+        child: u64,
+        commits: u64,
+        pages: Vec<Vec<Hold<N>>>,
+    ) -> Snapshot<N>
+        requires { IsWhole N (map (λ segment. segment.items) pages.items) }
+        ensures { result ≡ record { warehouse = warehouse; child = child; commits = commits; bytes = map (λ segment. segment.items) pages.entry.items } }
+    {
+        Snapshot {
+            warehouse,
+            child,
+            commits,
+            pages,
+        }
+    }
+
+    /// The number of the warehouse.
+    pub(crate) fn warehouse(&self) -> u8
+        ensures { result ≡ self.now.warehouse }
+    {
+        self.warehouse
+    }
+
+    /// The child of the page tables, which is to be closed.
+    pub(crate) fn spend(self) -> u64
+        ensures { result ≡ self.entry.child }
+    {
+        let Snapshot {
+            warehouse: _,
+            child,
+            commits: _,
+            pages: _,
+        } = self;
+        child
+    }
+
+    /// How many commits there were.
+    pub fn commits(&self) -> u64
+        ensures { result ≡ self.now.commits }
+    {
+        self.commits
+    }
+
+    /// The rows of one table.
+    pub fn list<R: Row>(&self, alloc: Global) -> Result<Vec<R>, AllocError>
+        ensures { IfOk result (λ rows. rows.items ≡ R.rows_in (tables_of N self.now.bytes)) }
+    {
+        rows_on_pages(alloc, self.segment(R::SEGMENT))
+    }
+
+    /// The pages of a segment.
+    fn segment(&self, number: u32) -> &[Hold<N>]
+        requires { number < segments }
+        ensures pages { result.now ≡ list_at self.now.bytes number }
+        ensures whole { IsWhole N self.now.bytes }
+    {
+        self.pages[number as usize].as_slice()
+    }
+}
+
+/// The rows on the pages of a segment.
+fn rows_on_pages<R: Row, const N: usize>(
+    alloc: Global,
+    pages: &[Hold<N>],
+) -> Result<Vec<R>, AllocError>
+    requires slots { HasSlots N R.BYTES pages.now }
+    requires size { 256 ≤ N }
+    requires small { N ≤ 65536 }
+    ensures { IfOk result (λ rows. rows.items ≡ rows_of N R.BYTES R.row_of_bytes pages.now) }
+{
+    let used = pages[0].page().field(0, 8);
+    let mut rows = Vec::new(alloc);
+    for slot in 0..used {
+        let place = place_of(N, R::BYTES, slot);
+        let page = pages[place.page as usize].page();
+        if let Some(row) = row_at::<R, N>(page, place.offset) {
+            rows.push(row)?;
+        }
+    }
+    Ok(rows)
+}

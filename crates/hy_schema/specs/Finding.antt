@@ -1,0 +1,21 @@
+-- Finding a row by its key, and changing it. In a load no two rows of a table have the same key, so that the first
+-- row with a key is the row with that key.
+use Rattle.std.specs.Prelude.{ℕ, Bool, ◌==◌, ◌&&◌, if◌then◌else◌, List, [], ◌∷◌}
+use Rattle.hy_schema.specs.declared.warehouse.Warehouse.{Warehouse}
+use Rattle.hy_schema.specs.declared.district.District.{District}
+use Rattle.hy_schema.specs.declared.customer.Customer.{Customer}
+
+-- whether a row has the key: W_ID; (D_W_ID, D_ID); (C_W_ID, C_D_ID, C_ID)
+abbrev pub is_warehouse : ℕ → Warehouse → Bool
+is_warehouse number row = row.id == number
+
+abbrev pub is_district : ℕ → ℕ → District → Bool
+is_district warehouse number row = (row.warehouse == warehouse) && (row.id == number)
+
+abbrev pub is_customer : ℕ → ℕ → ℕ → Customer → Bool
+is_customer warehouse district number row = (row.warehouse == warehouse) && (row.district == district) && (row.id == number)
+
+-- the list with the first row that passes the test changed
+abbrev pub with_changed : {Row : Type 0} → (Row → Bool) → (Row → Row) → List Row → List Row
+with_changed test change [] = []
+with_changed test change (row ∷ rows) = if test row then change row ∷ rows else row ∷ with_changed test change rows

@@ -1,0 +1,13 @@
+pub mod Texts
+pub mod Rows
+pub mod Ranges
+pub mod Tables
+pub mod Finding
+pub mod Commands
+pub mod Transactions
+pub mod Replay
+pub mod Conditions
+pub mod Loads
+pub mod Spelling
+pub mod Slots
+pub mod WorkedRows

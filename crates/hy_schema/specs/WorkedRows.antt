@@ -1,0 +1,278 @@
+-- Worked examples, which the checker computes: a fresh load of one warehouse with three customers in each district, a
+-- few payments at it, the bytes of one row of each table, and a small page table.
+use Rattle.std.specs.Prelude.{◌≡◌, ℕ, pos, negsuc, ◌+ℤ◌, ◌*◌, true, false, List, [], ◌∷◌, ◌++◌, All, drop, replicate, codes, refl}
+use Rattle.std.specs.List.{flat_map}
+use Rattle.std.proofs.Common.{inl, inr, sym, subst, lit<, lit≤}
+use Rattle.std.proofs.lemmas.List.Elements.{All-nil, All-cons, All-append}
+use Rattle.hy_schema.specs.declared.warehouse.Warehouse.{Warehouse}
+use Rattle.hy_schema.specs.declared.district.District.{District}
+use Rattle.hy_schema.specs.declared.customer.Customer.{Customer}
+use Rattle.hy_schema.specs.declared.command.Command.TheVariants as commands
+use Rattle.hy_schema.specs.declared.command.Commit.TheVariants as commits
+use Rattle.hy_schema.specs.declared.command.Payment.{Payment}
+use Rattle.hy_schema.specs.declared.command.Reply.TheVariants as replies
+use Rattle.hy_schema.specs.declared.command.Who.TheVariants as who
+use Rattle.hy_schema.specs.declared.refusal.Refusal.TheVariants as refusals
+use Rattle.hy_schema.specs.Texts.{text_of, padded}
+use Rattle.hy_schema.specs.Rows.{warehouse_bytes, warehouse_of, district_bytes, district_of, customer_bytes, customer_of}
+use Rattle.hy_schema.specs.Tables.{Tables, of_warehouse}
+use Rattle.hy_schema.specs.Commands.{is_in_range, warehouses_of}
+use Rattle.hy_schema.specs.Transactions.{Outcome, act}
+use Rattle.hy_schema.specs.Replay.{replay}
+use Rattle.hy_schema.specs.Conditions.{Condition1, Condition12, ytd_of_districts}
+use Rattle.hy_schema.specs.Spelling.{HasSlots, IsTable, Spells, list_at, slots_per_page, rows_of}
+
+-- the warehouse of the fresh load
+abbrev pub fresh_warehouse : Warehouse
+fresh_warehouse = record { id = 1; name = codes "W1"; tax = 500; ytd = pos 30_000 }
+
+-- a district of the fresh load, by its number and name
+abbrev pub fresh_district : ℕ → List ℕ → District
+fresh_district number name = record { id = number; warehouse = 1; name = name; tax = 100 * number; ytd = pos 3_000; next_order = 1 }
+
+-- a customer of the fresh load, by district, number and names
+abbrev pub fresh_customer : ℕ → ℕ → List ℕ → List ℕ → Customer
+fresh_customer district number first last = record {
+  id = number;
+  district = district;
+  warehouse = 1;
+  first = first;
+  middle = codes "OE";
+  last = last;
+  credit = codes "GC";
+  discount = 100 * number;
+  balance = negsuc 999;
+  ytd_payment = pos 1_000;
+  payment_count = 1;
+  delivery_count = 0;
+}
+
+-- the three customers of a district
+abbrev pub fresh_customers : ℕ → List Customer
+fresh_customers district =
+    fresh_customer district 1 (codes "F0001") (codes "BARBARBAR")
+    ∷ fresh_customer district 2 (codes "F0002") (codes "BARBAROUGHT")
+    ∷ fresh_customer district 3 (codes "F0003") (codes "BARBARABLE")
+    ∷ []
+
+-- the fresh load
+abbrev pub fresh : Tables
+fresh = record {
+  warehouses = fresh_warehouse ∷ [];
+  districts =
+      fresh_district 1 (codes "D1")
+      ∷ fresh_district 2 (codes "D2")
+      ∷ fresh_district 3 (codes "D3")
+      ∷ fresh_district 4 (codes "D4")
+      ∷ fresh_district 5 (codes "D5")
+      ∷ fresh_district 6 (codes "D6")
+      ∷ fresh_district 7 (codes "D7")
+      ∷ fresh_district 8 (codes "D8")
+      ∷ fresh_district 9 (codes "D9")
+      ∷ fresh_district 10 (codes "D10")
+      ∷ [];
+  customers = flat_map fresh_customers (1 ∷ 2 ∷ 3 ∷ 4 ∷ 5 ∷ 6 ∷ 7 ∷ 8 ∷ 9 ∷ 10 ∷ []);
+}
+
+-- ten districts of 30.00 are a warehouse of 300.00
+pub fresh-condition_1 : Condition1 fresh
+fresh-condition_1 =
+    All-cons (λ row. row.ytd ≡ ytd_of_districts row.id fresh.districts) fresh_warehouse [] refl (All-nil (λ row. row.ytd ≡ ytd_of_districts row.id fresh.districts))
+
+-- the customers of any districts have paid what they owed
+pub fresh_customers-condition_12 : (districts : List ℕ) → All (λ row. row.balance +ℤ row.ytd_payment ≡ pos 0) (flat_map fresh_customers districts)
+fresh_customers-condition_12 [] = All-nil (λ row. row.balance +ℤ row.ytd_payment ≡ pos 0)
+fresh_customers-condition_12 (district ∷ districts) =
+    let Paid : Customer → Type 0 = λ row. row.balance +ℤ row.ytd_payment ≡ pos 0 in
+    let first = fresh_customer district 1 (codes "F0001") (codes "BARBARBAR") in
+    let second = fresh_customer district 2 (codes "F0002") (codes "BARBAROUGHT") in
+    let third = fresh_customer district 3 (codes "F0003") (codes "BARBARABLE") in
+    All-append Paid (fresh_customers district) (flat_map fresh_customers districts)
+    (All-cons Paid first (second ∷ third ∷ []) refl (All-cons Paid second (third ∷ []) refl (All-cons Paid third [] refl (All-nil Paid))))
+    (fresh_customers-condition_12 districts)
+
+pub fresh-condition_12 : Condition12 fresh
+fresh-condition_12 = fresh_customers-condition_12 (1 ∷ 2 ∷ 3 ∷ 4 ∷ 5 ∷ 6 ∷ 7 ∷ 8 ∷ 9 ∷ 10 ∷ [])
+
+-- all its rows are of warehouse 1, and none of warehouse 2
+pub fresh-of_warehouse_1 : of_warehouse 1 fresh ≡ fresh
+fresh-of_warehouse_1 = refl
+
+pub fresh-of_warehouse_2 : of_warehouse 2 fresh ≡ record { warehouses = []; districts = []; customers = [] }
+fresh-of_warehouse_2 = refl
+
+-- customer 1 of district 1 pays some cents there
+abbrev pub payment_of : ℕ → Payment
+payment_of cents = record {
+  warehouse = 1;
+  district = 1;
+  customer_warehouse = 1;
+  customer_district = 1;
+  who = who.Number 1;
+  amount = cents;
+  at = 1;
+}
+
+-- what a payment does to the rows of warehouse 1
+abbrev pub pay : Payment → Tables → Outcome
+pay payment tables = act 1 (commands.Payment payment) tables
+
+-- the rows after a payment of 1.00
+abbrev pub paid_once : Tables
+paid_once = (pay (payment_of 100) fresh).tables
+
+-- the rows after a payment of 5,000.00 more
+abbrev pub paid_twice : Tables
+paid_twice = (pay (payment_of 500_000) paid_once).tables
+
+-- 1.00 is the least payment: the balance goes from -10.00 to -11.00
+pub least-reply : (pay (payment_of 100) fresh).reply ≡ replies.Payment 1 (negsuc 1_099)
+least-reply = refl
+
+-- W_YTD rises by it
+pub least-warehouses : paid_once.warehouses ≡ record fresh_warehouse { ytd = pos 30_100 } ∷ []
+least-warehouses = refl
+
+-- D_YTD rises by it in district 1, and nothing else changes in any district
+pub least-districts : paid_once.districts ≡ record (fresh_district 1 (codes "D1")) { ytd = pos 3_100 } ∷ drop 1 fresh.districts
+least-districts = refl
+
+-- the customer's balance falls by it, the sum and the number of payments rise, and no other customer changes
+pub least-customers : paid_once.customers ≡ record (fresh_customer 1 1 (codes "F0001") (codes "BARBARBAR")) { balance = negsuc 1_099; ytd_payment = pos 1_100; payment_count = 2 } ∷ drop 1 fresh.customers
+least-customers = refl
+
+-- 5,000.00 is the greatest payment
+pub greatest-reply : (pay (payment_of 500_000) paid_once).reply ≡ replies.Payment 1 (negsuc 501_099)
+greatest-reply = refl
+
+pub greatest-warehouses : paid_twice.warehouses ≡ record fresh_warehouse { ytd = pos 530_100 } ∷ []
+greatest-warehouses = refl
+
+-- the two payments as a list of commits
+pub replay-payments : replay 1 fresh (commits.Local (commands.Payment (payment_of 100)) ∷ commits.Local (commands.Payment (payment_of 500_000)) ∷ []) ≡ paid_twice
+replay-payments = refl
+
+-- a cent less than the least payment, and a cent more than the greatest
+pub less-refused : pay (payment_of 99) fresh ≡ record { tables = fresh; reply = replies.Refused refusals.OutOfRange }
+less-refused = refl
+
+pub more-refused : pay (payment_of 500_001) fresh ≡ record { tables = fresh; reply = replies.Refused refusals.OutOfRange }
+more-refused = refl
+
+-- no moment is 0
+pub moment-refused : pay (record (payment_of 100) { at = 0 }) fresh ≡ record { tables = fresh; reply = replies.Refused refusals.OutOfRange }
+moment-refused = refl
+
+-- the home warehouse is another one
+pub home-refused : pay (record (payment_of 100) { warehouse = 2 }) fresh ≡ record { tables = fresh; reply = replies.Refused refusals.NoSuchWarehouse }
+home-refused = refl
+
+-- the customer's warehouse is another one
+pub customer_warehouse-refused : pay (record (payment_of 100) { customer_warehouse = 2 }) fresh ≡ record { tables = fresh; reply = replies.Refused refusals.NoSuchWarehouse }
+customer_warehouse-refused = refl
+
+-- no district is the eleventh
+pub district-refused : pay (record (payment_of 100) { district = 11 }) fresh ≡ record { tables = fresh; reply = replies.Refused refusals.NoSuchDistrict }
+district-refused = refl
+
+-- nor is that of a customer
+pub customer_district-refused : pay (record (payment_of 100) { customer_district = 11 }) fresh ≡ record { tables = fresh; reply = replies.Refused refusals.NoSuchDistrict }
+customer_district-refused = refl
+
+-- a district has three customers
+pub customer-refused : pay (record (payment_of 100) { who = who.Number 4 }) fresh ≡ record { tables = fresh; reply = replies.Refused refusals.NoSuchCustomer }
+customer-refused = refl
+
+-- the ranges of amounts
+pub least-in_range : is_in_range (commands.Payment (payment_of 100)) ≡ true
+least-in_range = refl
+
+pub less-in_range : is_in_range (commands.Payment (payment_of 99)) ≡ false
+less-in_range = refl
+
+pub more-in_range : is_in_range (commands.Payment (payment_of 500_001)) ≡ false
+more-in_range = refl
+
+-- a warehouse that is named twice counts once
+pub home-named : warehouses_of (commands.Payment (payment_of 100)) ≡ 1 ∷ []
+home-named = refl
+
+pub both-named : warehouses_of (commands.Payment (record (payment_of 100) { customer_warehouse = 2 })) ≡ 1 ∷ 2 ∷ []
+both-named = refl
+
+-- a text ends before the first zero byte of its field
+pub text-ends : text_of (65 ∷ 66 ∷ 0 ∷ 67 ∷ []) ≡ codes "AB"
+text-ends = refl
+
+pub text-padded : padded 4 (codes "AB") ≡ 65 ∷ 66 ∷ 0 ∷ 0 ∷ []
+text-padded = refl
+
+-- the bytes of the warehouse: 1, "W1", 500, 30000
+abbrev pub bytes_of_warehouse : List ℕ
+bytes_of_warehouse =
+    1 ∷ 87 ∷ 49 ∷ 0 ∷ 0 ∷ 0 ∷ 0 ∷ 0 ∷ 0 ∷ 0 ∷ 0 ∷ 244 ∷ 1 ∷ 48 ∷ 117 ∷ 0 ∷ 0 ∷ 0 ∷ 0 ∷ 0 ∷ 0 ∷ []
+
+pub warehouse-bytes : warehouse_bytes fresh_warehouse ≡ bytes_of_warehouse
+warehouse-bytes = refl
+
+pub warehouse-reads : warehouse_of bytes_of_warehouse ≡ fresh_warehouse
+warehouse-reads = refl
+
+-- the bytes of district 3: 3, 1, "D3", 300, 3000, 1
+abbrev pub bytes_of_district : List ℕ
+bytes_of_district =
+    3 ∷ 1 ∷ 68 ∷ 51 ∷ 0 ∷ 0 ∷ 0 ∷ 0 ∷ 0 ∷ 0 ∷ 0 ∷ 0 ∷ 44 ∷ 1 ∷ 184 ∷ 11 ∷ 0 ∷ 0 ∷ 0 ∷ 0 ∷ 0 ∷ 0 ∷ 1 ∷ 0 ∷ 0 ∷ 0 ∷ []
+
+pub district-bytes : district_bytes (fresh_district 3 (codes "D3")) ≡ bytes_of_district
+district-bytes = refl
+
+pub district-reads : district_of bytes_of_district ≡ fresh_district 3 (codes "D3")
+district-reads = refl
+
+-- the bytes of customer 2 of district 3: 2, 3, 1, "F0002", "OE", "BARBAROUGHT", "GC", 200, -1000, 1000, 1, 0
+abbrev pub bytes_of_customer : List ℕ
+bytes_of_customer =
+    2 ∷ 0 ∷ 3 ∷ 1 ∷ 70 ∷ 48 ∷ 48 ∷ 48 ∷ 50 ∷ 0 ∷ 0 ∷ 0 ∷ 0 ∷ 0 ∷ 0 ∷ 0 ∷ 0 ∷ 0 ∷ 0 ∷ 0 ∷ 79 ∷ 69 ∷ 66 ∷ 65 ∷ 82 ∷ 66 ∷ 65
+    ∷ 82 ∷ 79 ∷ 85 ∷ 71 ∷ 72 ∷ 84 ∷ 0 ∷ 0 ∷ 0 ∷ 0 ∷ 0 ∷ 71 ∷ 67 ∷ 200 ∷ 0 ∷ 24 ∷ 252 ∷ 255 ∷ 255 ∷ 255 ∷ 255 ∷ 255 ∷ 255
+    ∷ 232 ∷ 3 ∷ 0 ∷ 0 ∷ 0 ∷ 0 ∷ 0 ∷ 0 ∷ 1 ∷ 0 ∷ 0 ∷ 0 ∷ 0 ∷ 0 ∷ 0 ∷ 0 ∷ 0 ∷ 0 ∷ 0 ∷ 0 ∷ 0 ∷ 0 ∷ 0 ∷ 0 ∷ []
+
+pub customer-bytes : customer_bytes (fresh_customer 3 2 (codes "F0002") (codes "BARBAROUGHT")) ≡ bytes_of_customer
+customer-bytes = refl
+
+pub customer-reads : customer_of bytes_of_customer ≡ fresh_customer 3 2 (codes "F0002") (codes "BARBAROUGHT")
+customer-reads = refl
+
+-- two slots of a warehouse lie on a page of 64 bytes
+pub page-slots : slots_per_page 64 21 ≡ 2
+page-slots = refl
+
+-- a segment of three pages with three used slots: a warehouse, an erased one, and the warehouse after the least payment
+abbrev pub small_segment : List (List ℕ)
+small_segment =
+    (3 ∷ replicate 63 0)
+    ∷ (1 ∷ bytes_of_warehouse ++ 0 ∷ bytes_of_warehouse ++ replicate 20 0)
+    ∷ (1 ∷ warehouse_bytes (record fresh_warehouse { ytd = pos 30_100 }) ++ replicate 42 0)
+    ∷ []
+
+pub segment-rows : rows_of 64 21 warehouse_of small_segment ≡ fresh_warehouse ∷ record fresh_warehouse { ytd = pos 30_100 } ∷ []
+segment-rows = refl
+
+-- a segment with one page has no rows
+abbrev pub empty_segment : List (List ℕ)
+empty_segment = replicate 64 0 ∷ []
+
+-- the page table of these segments, with the slots of each table
+abbrev pub small_table : List (List (List ℕ))
+small_table = small_segment ∷ empty_segment ∷ empty_segment ∷ []
+
+pub small-slots : (segment row_bytes : ℕ) → IsTable segment row_bytes → HasSlots 64 row_bytes (list_at small_table segment)
+small-slots segment row_bytes (inl (here, width)) =
+    subst (λ s. HasSlots 64 row_bytes (list_at small_table s)) (sym here) (subst (λ w. HasSlots 64 w small_segment) (sym width) (record { first = lit< tt; slots = lit≤ tt }))
+small-slots segment row_bytes (inr (inl (here, width))) =
+    subst (λ s. HasSlots 64 row_bytes (list_at small_table s)) (sym here) (subst (λ w. HasSlots 64 w empty_segment) (sym width) (record { first = lit< tt; slots = lit≤ tt }))
+small-slots segment row_bytes (inr (inr (here, width))) =
+    subst (λ s. HasSlots 64 row_bytes (list_at small_table s)) (sym here) (subst (λ w. HasSlots 64 w empty_segment) (sym width) (record { first = lit< tt; slots = lit≤ tt }))
+
+-- it spells the two rows
+pub small-spelled : Spells 64 small_table (record { warehouses = fresh_warehouse ∷ record fresh_warehouse { ytd = pos 30_100 } ∷ []; districts = []; customers = [] })
+small-spelled = record { whole = record { all_segments = refl; slots = small-slots }; rows = refl }

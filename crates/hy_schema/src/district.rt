@@ -1,0 +1,104 @@
+ghost use Rattle.std.specs.Prelude.{◌≡◌, ◌↔◌, IsTrue};
+
+use crate::codec::{
+    SlotBytes, push_number, push_signed, push_text, read_number, read_signed, read_text,
+};
+use crate::load::Load;
+use crate::row::Row;
+use crate::text::Text;
+use crate::warehouse::is_loaded_money;
+
+/// A row of DISTRICT (TPC-C clause 1.3.1).
+#[derive(Clone, Copy, Debug, PartialEq, Eq)]
+pub struct District {
+    /// D_ID, 1 to 10.
+    pub id: u8,
+    /// D_W_ID, 1 to 16.
+    pub warehouse: u8,
+    /// D_NAME.
+    pub name: Text<10>,
+    /// D_TAX in ten-thousandths.
+    pub tax: u16,
+    /// D_YTD in cents.
+    pub ytd: i64,
+    /// D_NEXT_O_ID.
+    pub next_order: u32,
+}
+
+impl Row for District {
+    ghost use Rattle.std.proofs.Common.{refl, rules, inl, inr};
+    ghost use Rattle.hy_schema.specs.Rows.{district_bytes, district_of};
+
+    const SEGMENT: u32 = 1;
+
+    const BYTES: usize = 26;
+
+    ghost SEGMENT = { 1 };
+
+    ghost BYTES = { 26 };
+
+    ghost bytes_of_row = { district_bytes };
+
+    ghost row_of_bytes = { district_of };
+
+    ghost rows_in = { λ tables. tables.districts };
+
+    fn encode(&self, slot: &mut SlotBytes) {
+        push_number(slot, self.id.into(), 1);
+        push_number(slot, self.warehouse.into(), 1);
+        push_text(slot, &self.name);
+        push_number(slot, self.tax.into(), 2);
+        push_signed(slot, self.ytd);
+        push_number(slot, self.next_order.into(), 4);
+    }
+
+    fn decode(bytes: &[u8]) -> District {
+        District {
+            id: read_number(bytes, 0, 1) as u8,
+            warehouse: read_number(bytes, 1, 1) as u8,
+            name: read_text(bytes, 2),
+            tax: read_number(bytes, 12, 2) as u16,
+            ytd: read_signed(bytes, 14),
+            next_order: read_number(bytes, 22, 4) as u32,
+        }
+    }
+
+    fn rows_of(load: &Load) -> &[District] {
+        load.districts()
+    }
+
+    ghost fits = { Prim.search rules };
+
+    ghost is_table = { inr (inl (refl, refl)) };
+
+    ghost spelled = { λ n bytes. refl };
+}
+
+impl District {
+    ghost use Rattle.hy_schema.specs.Ranges.{IsBetween, IsRate, IsLoadedMoney, IsLoadedText, IsDistrictInRange};
+
+    /// Whether each column has a value that a load may have.
+    pub fn is_in_range(&self) -> bool
+        ensures { IsTrue result ↔ IsDistrictInRange self.now }
+    {
+        self.has_key_in_range() && self.has_columns_in_range()
+    }
+
+    /// Whether D_ID and D_W_ID are in range.
+    fn has_key_in_range(&self) -> bool
+        ensures { IsTrue result ↔ (IsBetween 1 10 self.now.id × IsBetween 1 16 self.now.warehouse) }
+    {
+        (1..=10).contains(&self.id) && (1..=16).contains(&self.warehouse)
+    }
+
+    /// Whether the columns behind the key are in range.
+    fn has_columns_in_range(&self) -> bool
+        ensures { IsTrue result
+            ↔ (IsLoadedText 10 self.now.name × IsRate self.now.tax × IsLoadedMoney self.now.ytd × IsBetween 1 1_000_000_000 self.now.next_order) }
+    {
+        self.name.is_printable()
+            && self.tax <= 10_000
+            && is_loaded_money(self.ytd)
+            && (1..=1_000_000_000).contains(&self.next_order)
+    }
+}

@@ -1,0 +1,280 @@
+use super::*;
+use std::alloc::Global;
+use std::process::Abort;
+use std::test::Fail;
+
+/// The three lists of a load.
+#[derive(Drop)]
+struct Lists {
+    warehouses: Vec<Warehouse>,
+    districts: Vec<District>,
+    customers: Vec<Customer>,
+}
+
+impl Lists {
+    /// A fresh warehouse with ten districts of three customers.
+    fn fresh(rt: &impl Abort, alloc: Global) -> Result<Lists, Fail> {
+        let mut warehouses = Vec::new(alloc);
+        warehouses.push(warehouse(rt))?;
+        let mut districts = Vec::new(alloc);
+        let mut customers = Vec::new(alloc);
+        for number in 1..=10 {
+            districts.push(district(rt, number))?;
+            for id in 1..=3 {
+                customers.push(customer(rt, number, id))?;
+            }
+        }
+        assert_eq!(rt; districts.len(), 10);
+        assert_eq!(rt; customers.len(), 30);
+        Ok(Lists {
+            warehouses,
+            districts,
+            customers,
+        })
+    }
+
+    /// Why the lists are no load.
+    fn refusal(self) -> Option<Refusal> {
+        let Lists {
+            warehouses,
+            districts,
+            customers,
+        } = self;
+        Load::of(warehouses, districts, customers).err()
+    }
+}
+
+fn text<const WIDTH: usize>(rt: &impl Abort, bytes: &[u8]) -> Text<WIDTH> {
+    Text::new(bytes).expect(rt, "the text fits")
+}
+
+fn warehouse(rt: &impl Abort) -> Warehouse {
+    Warehouse {
+        id: 1,
+        name: text(rt, b"W1"),
+        tax: 500,
+        ytd: 30_000,
+    }
+}
+
+fn district(rt: &impl Abort, id: u8) -> District {
+    District {
+        id,
+        warehouse: 1,
+        name: text(rt, b"D3"),
+        tax: 300,
+        ytd: 3_000,
+        next_order: 1,
+    }
+}
+
+fn customer(rt: &impl Abort, district: u8, id: u16) -> Customer {
+    Customer {
+        id,
+        district,
+        warehouse: 1,
+        first: text(rt, b"F0002"),
+        middle: text(rt, b"OE"),
+        last: text(rt, b"BARBAROUGHT"),
+        credit: text(rt, b"GC"),
+        discount: 200,
+        balance: -1_000,
+        ytd_payment: 1_000,
+        payment_count: 1,
+        delivery_count: 0,
+    }
+}
+
+fn row_fault(table: Table, number: u64) -> Option<Refusal> {
+    Some(Refusal::BadLoad(LoadFault::Row(table, number)))
+}
+
+fn condition_fault(number: u8) -> Option<Refusal> {
+    Some(Refusal::BadLoad(LoadFault::Condition(number)))
+}
+
+#[test]
+fn refusals_print_their_numbers_and_names(rt: HostRuntime) -> Result<(), Fail> {
+    let cases = [
+        (Refusal::NoMemory, "E1 NoMemory"),
+        (Refusal::NoFrame, "E2 NoFrame"),
+        (Refusal::HistoryFull, "E3 HistoryFull"),
+        (Refusal::NoSuchWarehouse, "E4 NoSuchWarehouse"),
+        (Refusal::NoSuchDistrict, "E5 NoSuchDistrict"),
+        (Refusal::NoSuchCustomer, "E6 NoSuchCustomer"),
+        (Refusal::NoSuchItem, "E7 NoSuchItem"),
+        (Refusal::OutOfRange, "E8 OutOfRange"),
+        (Refusal::Busy, "E9 Busy"),
+        (Refusal::NotRunning, "E10 NotRunning"),
+        (Refusal::NotMine, "E11 NotMine"),
+        (
+            Refusal::BadLoad(LoadFault::Row(Table::Warehouse, 1)),
+            "E12 BadLoad WAREHOUSE row 1",
+        ),
+        (
+            Refusal::BadLoad(LoadFault::Row(Table::District, 3)),
+            "E12 BadLoad DISTRICT row 3",
+        ),
+        (
+            Refusal::BadLoad(LoadFault::Row(Table::Customer, 30)),
+            "E12 BadLoad CUSTOMER row 30",
+        ),
+        (
+            Refusal::BadLoad(LoadFault::Condition(1)),
+            "E12 BadLoad condition 1",
+        ),
+        (Refusal::BadQuery(5), "E13 BadQuery 5"),
+        (Refusal::LogFailed, "E14 LogFailed"),
+        (Refusal::LogMalformed(43), "E15 LogMalformed 43"),
+        (Refusal::Closed, "E16 Closed"),
+        (Refusal::QueueFull, "E17 QueueFull"),
+    ];
+    for (refusal, text) in cases {
+        assert_eq!(rt; format!(in rt.alloc(); "{refusal}")?.as_str(), text);
+    }
+    Ok(())
+}
+
+#[test]
+fn load_of_fresh_lists(rt: HostRuntime) -> Result<(), Fail> {
+    let Lists {
+        warehouses,
+        districts,
+        customers,
+    } = Lists::fresh(&rt, rt.alloc())?;
+    let load = Load::of(warehouses, districts, customers)?;
+    load.sound();
+    assert_eq!(rt; load.warehouses().len(), 1);
+    assert_eq!(rt; load.districts().len(), 10);
+    assert_eq!(rt; load.customers().len(), 30);
+    assert_eq!(rt; load.list::<Warehouse>().first(), Some(&warehouse(&rt)));
+    assert_eq!(rt; load.list::<District>().first(), Some(&district(&rt, 1)));
+    assert_eq!(rt; load.list::<Customer>().last(), Some(&customer(&rt, 10, 3)));
+    Ok(())
+}
+
+#[test]
+fn load_names_missing_rows(rt: HostRuntime) -> Result<(), Fail> {
+    let mut lists = Lists::fresh(&rt, rt.alloc())?;
+    lists.warehouses.clear();
+    assert_eq!(rt; lists.refusal(), row_fault(Table::Warehouse, 1));
+    let mut lists = Lists::fresh(&rt, rt.alloc())?;
+    lists.districts.clear();
+    assert_eq!(rt; lists.refusal(), row_fault(Table::District, 1));
+    let mut lists = Lists::fresh(&rt, rt.alloc())?;
+    lists.customers.clear();
+    assert_eq!(rt; lists.refusal(), row_fault(Table::Customer, 1));
+    let mut lists = Lists::fresh(&rt, rt.alloc())?;
+    lists.districts.truncate(9);
+    assert_eq!(rt; lists.refusal(), row_fault(Table::District, 10));
+    let mut lists = Lists::fresh(&rt, rt.alloc())?;
+    lists.customers.truncate(27);
+    assert_eq!(rt; lists.refusal(), row_fault(Table::Customer, 28));
+    Ok(())
+}
+
+#[test]
+fn load_names_wrong_rows(rt: HostRuntime) -> Result<(), Fail> {
+    let mut lists = Lists::fresh(&rt, rt.alloc())?;
+    lists.warehouses.push(warehouse(&rt))?;
+    assert_eq!(rt; lists.refusal(), row_fault(Table::Warehouse, 2));
+    let mut lists = Lists::fresh(&rt, rt.alloc())?;
+    lists.districts.truncate(4);
+    lists.districts.push(district(&rt, 6))?;
+    assert_eq!(rt; lists.refusal(), row_fault(Table::District, 5));
+    let mut lists = Lists::fresh(&rt, rt.alloc())?;
+    lists.customers.truncate(4);
+    let mut row = customer(&rt, 2, 2);
+    row.credit = text(&rt, b"XX");
+    lists.customers.push(row)?;
+    assert_eq!(rt; lists.refusal(), row_fault(Table::Customer, 5));
+    let mut lists = Lists::fresh(&rt, rt.alloc())?;
+    lists.districts.push(district(&rt, 1))?;
+    lists.customers.clear();
+    assert_eq!(rt; lists.refusal(), row_fault(Table::District, 11));
+    Ok(())
+}
+
+#[test]
+fn load_names_broken_conditions(rt: HostRuntime) -> Result<(), Fail> {
+    let mut lists = Lists::fresh(&rt, rt.alloc())?;
+    lists.warehouses.clear();
+    let mut row = warehouse(&rt);
+    row.ytd = 30_001;
+    lists.warehouses.push(row)?;
+    assert_eq!(rt; lists.refusal(), condition_fault(1));
+    let mut lists = Lists::fresh(&rt, rt.alloc())?;
+    let mut row = customer(&rt, 10, 4);
+    row.balance = -999;
+    lists.customers.push(row)?;
+    assert_eq!(rt; lists.refusal(), condition_fault(12));
+    Ok(())
+}
+
+#[test]
+fn rows_are_bytes(rt: HostRuntime) {
+    let mut slot = SlotBytes::new();
+    let row = warehouse(&rt);
+    row.encode(&mut slot);
+    let bytes = b"\x01W1\0\0\0\0\0\0\0\0\xf4\x01\x30\x75\0\0\0\0\0\0";
+    assert_eq!(rt; slot.as_slice(), bytes.as_slice());
+    assert_eq!(rt; Warehouse::decode(bytes), row);
+
+    let mut slot = SlotBytes::new();
+    let row = district(&rt, 3);
+    row.encode(&mut slot);
+    let bytes = b"\x03\x01D3\0\0\0\0\0\0\0\0\x2c\x01\xb8\x0b\0\0\0\0\0\0\x01\0\0\0";
+    assert_eq!(rt; slot.as_slice(), bytes.as_slice());
+    assert_eq!(rt; District::decode(bytes), row);
+}
+
+#[test]
+fn customers_are_bytes(rt: HostRuntime) {
+    let mut slot = SlotBytes::new();
+    let row = customer(&rt, 3, 2);
+    row.encode(&mut slot);
+    let bytes = b"\x02\0\x03\x01F0002\0\0\0\0\0\0\0\0\0\0\0OEBARBAROUGHT\0\0\0\0\0GC\xc8\0\
+        \x18\xfc\xff\xff\xff\xff\xff\xff\xe8\x03\0\0\0\0\0\0\x01\0\0\0\0\0\0\0\0\0\0\0\0\0\0\0";
+    assert_eq!(rt; slot.as_slice(), bytes.as_slice());
+    assert_eq!(rt; Customer::decode(bytes), row);
+}
+
+#[test]
+fn texts(rt: HostRuntime) {
+    let name = Text::<4>::new(b"AB");
+    assert_eq!(rt;
+        name.map(|text| text.as_bytes() == b"AB".as_slice()),
+        Some(true)
+    );
+    assert_eq!(rt;
+        name.map(|text| text.field() == b"AB\0\0".as_slice()),
+        Some(true)
+    );
+    assert_eq!(rt; name, Some(Text::of_field(b"AB\0C")));
+    assert_eq!(rt; Text::<4>::new(b"ABCDE"), None);
+    assert_eq!(rt; Text::<4>::new(b"A\0B"), None);
+    assert!(rt; !text::<4>(&rt, b"A\n").is_printable());
+}
+
+#[test]
+fn commands(rt: HostRuntime) {
+    let payment = Payment {
+        warehouse: 1,
+        district: 1,
+        customer_warehouse: 2,
+        customer_district: 3,
+        who: Who::Number(4),
+        amount: 100,
+        at: 1,
+    };
+    let command = Command::Payment(payment);
+    assert_eq!(rt; command.check(), Ok(()));
+    assert_eq!(rt; command.warehouses().as_slice(), [1, 2].as_slice());
+    let command = Command::Payment(Payment {
+        customer_warehouse: 1,
+        amount: 99,
+        ..payment
+    });
+    assert_eq!(rt; command.check(), Err(Refusal::OutOfRange));
+    assert_eq!(rt; command.warehouses().as_slice(), [1].as_slice());
+}

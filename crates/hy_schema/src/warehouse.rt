@@ -1,0 +1,88 @@
+ghost use Rattle.std.specs.Prelude.{◌≡◌, ◌↔◌, IsTrue};
+ghost use Rattle.hy_schema.specs.Ranges.{IsLoadedMoney};
+
+use crate::codec::{
+    SlotBytes, push_number, push_signed, push_text, read_number, read_signed, read_text,
+};
+use crate::load::Load;
+use crate::row::Row;
+use crate::text::Text;
+
+/// A row of WAREHOUSE (TPC-C clause 1.3.1).
+#[derive(Clone, Copy, Debug, PartialEq, Eq)]
+pub struct Warehouse {
+    /// W_ID, 1 to 16.
+    pub id: u8,
+    /// W_NAME.
+    pub name: Text<10>,
+    /// W_TAX in ten-thousandths.
+    pub tax: u16,
+    /// W_YTD in cents.
+    pub ytd: i64,
+}
+
+impl Row for Warehouse {
+    ghost use Rattle.std.proofs.Common.{refl, rules, inl, inr};
+    ghost use Rattle.hy_schema.specs.Rows.{warehouse_bytes, warehouse_of};
+
+    const SEGMENT: u32 = 0;
+
+    const BYTES: usize = 21;
+
+    ghost SEGMENT = { 0 };
+
+    ghost BYTES = { 21 };
+
+    ghost bytes_of_row = { warehouse_bytes };
+
+    ghost row_of_bytes = { warehouse_of };
+
+    ghost rows_in = { λ tables. tables.warehouses };
+
+    fn encode(&self, slot: &mut SlotBytes) {
+        push_number(slot, self.id.into(), 1);
+        push_text(slot, &self.name);
+        push_number(slot, self.tax.into(), 2);
+        push_signed(slot, self.ytd);
+    }
+
+    fn decode(bytes: &[u8]) -> Warehouse {
+        Warehouse {
+            id: read_number(bytes, 0, 1) as u8,
+            name: read_text(bytes, 1),
+            tax: read_number(bytes, 11, 2) as u16,
+            ytd: read_signed(bytes, 13),
+        }
+    }
+
+    fn rows_of(load: &Load) -> &[Warehouse] {
+        load.warehouses()
+    }
+
+    ghost fits = { Prim.search rules };
+
+    ghost is_table = { inl (refl, refl) };
+
+    ghost spelled = { λ n bytes. refl };
+}
+
+impl Warehouse {
+    ghost use Rattle.hy_schema.specs.Ranges.{IsWarehouseInRange};
+
+    /// Whether each column has a value that a load may have.
+    pub fn is_in_range(&self) -> bool
+        ensures { IsTrue result ↔ IsWarehouseInRange self.now }
+    {
+        (1..=16).contains(&self.id)
+            && self.name.is_printable()
+            && self.tax <= 10_000
+            && is_loaded_money(self.ytd)
+    }
+}
+
+/// Whether an amount in cents is between -10^15 and 10^15.
+pub fn is_loaded_money(cents: i64) -> bool
+    ensures { IsTrue result ↔ IsLoadedMoney cents }
+{
+    (-1_000_000_000_000_000..=1_000_000_000_000_000).contains(&cents)
+}

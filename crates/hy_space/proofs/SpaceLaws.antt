@@ -1,0 +1,154 @@
+-- What each change of frames and tables does to the counts, and to what the owner and the children see.
+use Rattle.std.proofs.Common.{◌≡◌, ◌≢◌, ℕ, ◌+◌, ◌<◌, ◌≤◌, inl, inr, List, [], ◌∷◌, ◌++◌, length, get_or, take, drop, set, refl, sym, ap, ◌∙◌, subst, arith, sum_by, All, Option, Some, None, length-set}
+use Rattle.std.specs.Option.{option_map}
+use Rattle.std.proofs.lemmas.List.{get_or_past, get_or-set_other, get_or_append_left, get_or_push, length_push}
+use Rattle.std.proofs.lemmas.List.Sums.{sum_by-set, sum_by-le}
+use Rattle.std.proofs.lemmas.List.Elements.{All-from_get_or}
+use Rattle.std.proofs.lemmas.Bool.{cases_lt, cases_eq}
+use Rattle.hy_frames.specs.FrameTable.{Frame, FrameTable, count_of, page_of, Sets}
+use Rattle.hy_frames.specs.Slots.{occurrences}
+use Rattle.hy_space.specs.Space.{SpaceState, times, table_bytes, owner_bytes, child_table, child_bytes, HasPage, IsOwn, frame_no, with_frame, with_page, with_new_page, with_first_pages}
+use Rattle.hy_space.specs.Children.{IsPadded}
+use Rattle.hy_space.specs.Users.{AddsUsers, DropsUsers, child_times, IsCounted}
+use Rattle.hy_space.proofs.UserLaws.{same, same_yes, same_no}
+use Rattle.hy_space.proofs.TableLaws.{stands, times-with_frame, times-cut, occurrences-drop-le, table_bytes-with_frame, table_bytes-push, table_bytes-cut, same_bytes, same_child_bytes, written_table, child_in_sum}
+
+-- a frame without users gets one, and a page
+pub record TakesOne (old new : FrameTable) (fresh : ℕ) (bytes : List ℕ) : Type 0 where
+  pub counts : (f : ℕ) → count_of new f ≡ count_of old f + same fresh f
+  pub pages : (f : ℕ) → f ≢ fresh → page_of new f ≡ page_of old f
+  pub here : page_of new fresh ≡ bytes
+
+pub TakesOne-from : (old new : FrameTable) (fresh : ℕ) (bytes : List ℕ) → count_of old fresh ≡ 0 → Sets old new fresh (record { count = 1; bytes = bytes }) → TakesOne old new fresh bytes
+TakesOne-from old new fresh bytes unused sets = record {
+  counts = λ f. elim (cases_eq f fresh) [
+    | inl here ↦ omega (arith, ap (count_of new) here, ap (count_of old) here, ap (λ (x : Frame). x.count) sets.here, same_yes fresh f (sym here))
+    | inr apart ↦ omega (arith, ap (λ (x : Frame). x.count) (sets.others f apart), same_no fresh f (λ e. apart (sym e)))
+  ];
+  pages = λ f apart. ap (λ (x : Frame). x.bytes) (sets.others f apart);
+  here = ap (λ (x : Frame). x.bytes) sets.here;
+}
+
+-- the counts are right, and the children see what they saw
+pub record IsKept (page_size : ℕ) (old new : SpaceState) : Type 0 where
+  pub counted : IsCounted page_size new
+  pub children : (child : ℕ) → child_bytes new child ≡ child_bytes old child
+
+-- one more place without a child changes no child
+get_or-padded : (old new : List (Option (List (List ℕ)))) (child : ℕ) → IsPadded old new → get_or new child None ≡ get_or old child None
+get_or-padded old new child padded = elim padded [
+  | inl is ↦ ap (λ all. get_or all child None) is
+  | inr is ↦ ap (λ all. get_or all child None) is ∙ elim (cases_lt child (length old)) [
+    | inl within ↦ get_or_append_left old (None ∷ []) None child within
+    | inr past ↦ elim (cases_eq (length old) child) [
+      | inl last ↦ get_or_push old None None child last ∙ sym (get_or_past old child None past)
+      | inr apart ↦ get_or_past (old ++ None ∷ []) child None (omega (arith, length_push old None)) ∙ sym (get_or_past old child None past)
+    ]
+  ]
+]
+
+module _ (page_size : ℕ) (s : SpaceState) (counted : IsCounted page_size s) where
+  -- a frame with users in the owner's table has as many users at least
+  owner_counted : (f : ℕ) → times f s.owner ≤ count_of s.frames f
+  owner_counted f = omega (arith, counted.exact f)
+
+  -- a frame with users in a child's table has as many users at least
+  child_counted : (f child : ℕ) → child_times f (child_table s child) ≤ count_of s.frames f
+  child_counted f child = omega (arith, counted.exact f, child_in_sum f s.children child)
+
+  -- a page that is the owner's own is written
+  pub written_own : (segment page : ℕ) → HasPage s segment page → IsOwn s segment page → (new : FrameTable) (bytes : List ℕ) → Sets s.frames new (frame_no s segment page) (record { count = 1; bytes = bytes }) → (table_bytes new s.owner ≡ with_page (owner_bytes s) segment page bytes) × ((child : ℕ) → option_map (table_bytes new) (child_table s child) ≡ child_bytes s child)
+  written_own segment page place own new bytes sets =
+      let f = frame_no s segment page in
+      let stay : (g : ℕ) → g ≢ f → page_of new g ≡ page_of s.frames g = λ g apart. ap (λ (x : Frame). x.bytes) (sets.others g apart) in
+      let stood = stands s.owner segment page place.0 place.1 in
+      let only : (g child : ℕ) → 0 < child_times g (child_table s child) → g ≢ f = λ g child more e. absurd (omega (arith, counted.exact f, own, child_in_sum f s.children child, ap (λ n. child_times n (child_table s child)) e)) in (
+        written_table s.frames new s.owner segment page place.0 place.1 stay (counted.owner_once f) ∙ ap (λ (x : Frame). with_page (owner_bytes s) segment page x.bytes) sets.here,
+        λ child. same_child_bytes s.frames new (child_table s child) (λ g more. stay g (only g child more)),
+      )
+
+  -- a page that children see too is put into a fresh frame
+  pub replaced : (segment page fresh : ℕ) (bytes : List ℕ) (mid new : FrameTable) → HasPage s segment page → 1 < count_of s.frames (frame_no s segment page) → count_of s.frames fresh ≡ 0 → TakesOne s.frames mid fresh bytes → DropsUsers mid new (λ f. same (frame_no s segment page) f) → (IsKept page_size s (record { owner = with_frame s.owner segment page fresh; children = s.children; frames = new })) × (table_bytes new (with_frame s.owner segment page fresh) ≡ with_page (owner_bytes s) segment page bytes)
+  replaced segment page fresh bytes mid new place shared unused takes drops =
+      let f = frame_no s segment page in
+      let stays : (g : ℕ) → 0 < count_of s.frames g → 0 < count_of new g → page_of new g ≡ page_of s.frames g = λ g used still. drops.pages g still ∙ takes.pages g (λ e. absurd (omega (arith, ap (count_of s.frames) e))) in
+      let still : (g : ℕ) → (g ≡ f → ⊥) → 0 < count_of s.frames g → 0 < count_of new g = λ g apart used. omega (arith, drops.counts g, takes.counts g, same_no f g (λ e. apart (sym e))) in
+      let still_f : 0 < count_of new f = omega (arith, drops.counts f, takes.counts f, same_yes f f refl) in
+      let stay : (g : ℕ) → 0 < count_of s.frames g → page_of new g ≡ page_of s.frames g = λ g used. elim (cases_eq g f) [
+        | inl here ↦ stays g used (subst (λ x. 0 < count_of new x) (sym here) still_f)
+        | inr apart ↦ stays g used (still g apart used)
+      ] in
+      let fresh_apart : f ≢ fresh = λ e. absurd (omega (arith, ap (count_of s.frames) e)) in
+      let fresh_still : 0 < count_of new fresh = omega (arith, drops.counts fresh, takes.counts fresh, same_yes fresh fresh refl, same_no f fresh fresh_apart) in (
+        record {
+          counted = record {
+            exact = λ g. omega (arith, drops.counts g, takes.counts g, counted.exact g, times-with_frame g s.owner segment page fresh place.0 place.1);
+            owner_once = λ g. elim (cases_eq g fresh) [
+              | inl here ↦ omega (arith, ap (count_of s.frames) here, owner_counted g, times-with_frame g s.owner segment page fresh place.0 place.1, same_yes fresh g (sym here))
+              | inr apart ↦ omega (arith, counted.owner_once g, times-with_frame g s.owner segment page fresh place.0 place.1, same_no fresh g (λ e. apart (sym e)))
+            ];
+            child_once = counted.child_once;
+            largest = counted.largest;
+            segments = omega (arith, counted.segments, length-set s.owner segment (set (get_or s.owner segment []) page fresh));
+          };
+          children = λ child. same_child_bytes s.frames new (child_table s child) (λ g more. stay g (omega (arith, child_counted g child)));
+        },
+        table_bytes-with_frame new s.owner segment page fresh
+            ∙ ap (λ all. with_page all segment page (page_of new fresh)) (same_bytes s.frames new s.owner (λ g more. stay g (omega (arith, owner_counted g))))
+            ∙ ap (with_page (owner_bytes s) segment page) (drops.pages fresh fresh_still ∙ takes.here),
+      )
+
+  -- a fresh frame stands at a segment's end
+  pub grown : (segment fresh : ℕ) (bytes : List ℕ) (new : FrameTable) → segment < length s.owner → count_of s.frames fresh ≡ 0 → TakesOne s.frames new fresh bytes → (table_bytes new (set s.owner segment (get_or s.owner segment [] ++ fresh ∷ [])) ≡ with_new_page (owner_bytes s) segment bytes) × ((child : ℕ) → option_map (table_bytes new) (child_table s child) ≡ child_bytes s child)
+  grown segment fresh bytes new there unused takes =
+      let stay : (g : ℕ) → 0 < count_of s.frames g → page_of new g ≡ page_of s.frames g = λ g used. takes.pages g (λ e. absurd (omega (arith, ap (count_of s.frames) e))) in (
+        table_bytes-push new s.owner segment fresh
+            ∙ ap (λ all. with_new_page all segment (page_of new fresh)) (same_bytes s.frames new s.owner (λ g more. stay g (omega (arith, owner_counted g))))
+            ∙ ap (with_new_page (owner_bytes s) segment) takes.here,
+        λ child. same_child_bytes s.frames new (child_table s child) (λ g more. stay g (omega (arith, child_counted g child))),
+      )
+
+  -- the frames at a segment's end are given up
+  pub trimmed : (segment count : ℕ) (new : FrameTable) → segment < length s.owner → DropsUsers s.frames new (λ f. occurrences f (drop count (get_or s.owner segment []))) → (IsKept page_size s (record { owner = set s.owner segment (take count (get_or s.owner segment [])); children = s.children; frames = new })) × (table_bytes new (set s.owner segment (take count (get_or s.owner segment []))) ≡ with_first_pages (owner_bytes s) segment count)
+  trimmed segment count new there drops =
+      let kept = set s.owner segment (take count (get_or s.owner segment [])) in
+      let before : table_bytes new kept ≡ table_bytes s.frames kept = same_bytes s.frames new kept (λ g more. drops.pages g (omega (arith, drops.counts g, counted.exact g, times-cut g s.owner segment count there))) in (
+        record {
+          counted = record {
+            exact = λ g. omega (arith, drops.counts g, counted.exact g, times-cut g s.owner segment count there);
+            owner_once = λ g. omega (arith, counted.owner_once g, times-cut g s.owner segment count there);
+            child_once = counted.child_once;
+            largest = counted.largest;
+            segments = omega (arith, counted.segments, length-set s.owner segment (take count (get_or s.owner segment [])));
+          };
+          children = λ child. same_child_bytes s.frames new (child_table s child) (λ g more. drops.pages g (omega (arith, drops.counts g, counted.exact g, occurrences-drop-le g s.owner segment count there, child_in_sum g s.children child)));
+        },
+        before ∙ table_bytes-cut s.frames s.owner segment count,
+      )
+
+  -- the users of a child's table are given up
+  pub closed : (child : ℕ) (table : List (List ℕ)) (new : FrameTable) → child < length s.children → child_table s child ≡ Some table → DropsUsers s.frames new (λ f. times f table) → (table_bytes new s.owner ≡ owner_bytes s) × ((other : ℕ) → other ≢ child → option_map (table_bytes new) (child_table s other) ≡ child_bytes s other)
+  closed child table new there is_table drops =
+      let rest = set s.children child None in
+      let parts : (f : ℕ) → sum_by (child_times f) rest + times f table ≡ sum_by (child_times f) s.children = λ f. omega (arith, sum_by-set (child_times f) s.children child None None there, ap (child_times f) is_table) in (
+        same_bytes s.frames new s.owner (λ g more. drops.pages g (omega (arith, drops.counts g, counted.exact g, parts g))),
+        λ other apart. same_child_bytes s.frames new (child_table s other) (λ g more. drops.pages g (omega (arith, drops.counts g, counted.exact g, parts g, child_in_sum g rest other, ap (child_times g) (get_or-set_other s.children child other None None apart)))),
+      )
+
+  -- a child's frames have users
+  pub child_frames_used : (child : ℕ) (table : List (List ℕ)) → child_table s child ≡ Some table → (f : ℕ) → 0 < times f table → 0 < count_of s.frames f
+  child_frames_used child table is_table f more = omega (arith, child_counted f child, ap (child_times f) is_table)
+
+  -- few enough tables have a frame for one more user
+  pub room_for_user : (f : ℕ) → count_of s.frames f + times f s.owner ≤ length s.children + 2
+  room_for_user f =
+      let once : All (λ table. child_times f table ≤ 1) s.children = All-from_get_or (λ table. child_times f table ≤ 1) s.children None (λ child _. counted.child_once f child) in
+      omega (arith, counted.exact f, counted.owner_once f, sum_by-le (child_times f) 1 s.children once)
+
+  -- a child is forked at a place that had none
+  pub forked : (children : List (Option (List (List ℕ)))) (child : ℕ) (new : FrameTable) → IsPadded s.children children → AddsUsers s.frames new (λ f. times f s.owner) → (other : ℕ) → other ≢ child → (get_or (set children child (Some s.owner)) other None ≡ child_table s other) × (option_map (table_bytes new) (get_or (set children child (Some s.owner)) other None) ≡ child_bytes s other)
+  forked children child new padded adds other apart =
+      let read : get_or (set children child (Some s.owner)) other None ≡ child_table s other = get_or-set_other children child other (Some s.owner) None apart ∙ get_or-padded s.children children other padded in (
+        read,
+        ap (option_map (table_bytes new)) read ∙ same_child_bytes s.frames new (child_table s other) (λ f more. adds.pages f),
+      )

@@ -1,0 +1,3 @@
+pub mod Space
+pub mod Users
+pub mod Children

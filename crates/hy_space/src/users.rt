@@ -1,0 +1,86 @@
+//! Users of frames, many at once.
+
+ghost use Rattle.std.specs.Prelude.{◌≡◌, ℕ, ◌+◌, ◌<◌, ◌≤◌, ◌^◌, List, length, map, IfOk};
+ghost use Rattle.hy_frames.specs.FrameTable.{count_of, page_of};
+ghost use Rattle.hy_frames.specs.Slots.{occurrences};
+ghost use Rattle.hy_space.specs.Space.{times, table_bytes};
+ghost use Rattle.hy_space.specs.Users.{AddsUsers, DropsUsers};
+
+use super::tables::PageTable;
+use hy_frames::{FrameNo, Frames, Hold};
+use std::alloc::{AllocError, Global};
+
+/// Adds a user to each of some frames.
+fn share_each<const N: usize>(frames: &mut Frames<N>, numbers: &[FrameNo])
+    requires used { (f : ℕ) → 0 < occurrences f numbers.now → 0 < count_of frames.old f }
+    requires fits { (f : ℕ) → count_of frames.old f + occurrences f numbers.now < 2 ^ 64 }
+    ensures { AddsUsers frames.old frames.new (λ f. occurrences f numbers.now) }
+{
+    for number in numbers {
+        frames.share(*number);
+    }
+}
+
+/// Adds a user to the frame of each page of a table.
+pub(crate) fn share_table<const N: usize>(frames: &mut Frames<N>, table: &PageTable)
+    requires used { (f : ℕ) → 0 < times f table.now → 0 < count_of frames.old f }
+    requires fits { (f : ℕ) → count_of frames.old f + times f table.now < 2 ^ 64 }
+    ensures { AddsUsers frames.old frames.new (λ f. times f table.now) }
+{
+    for segment in table.segments() {
+        share_each(frames, segment.frames());
+    }
+}
+
+/// Takes a user from each of some frames.
+pub(crate) fn drop_each<const N: usize>(frames: &mut Frames<N>, numbers: &[FrameNo])
+    requires { (f : ℕ) → occurrences f numbers.now ≤ count_of frames.old f }
+    ensures { DropsUsers frames.old frames.new (λ f. occurrences f numbers.now) }
+{
+    for number in numbers {
+        frames.drop_one(*number);
+    }
+}
+
+/// Takes a user from the frame of each page of a table.
+pub(crate) fn drop_table<const N: usize>(frames: &mut Frames<N>, table: &PageTable)
+    requires { (f : ℕ) → times f table.now ≤ count_of frames.old f }
+    ensures { DropsUsers frames.old frames.new (λ f. times f table.now) }
+{
+    for segment in table.segments() {
+        drop_each(frames, segment.frames());
+    }
+}
+
+/// Holds of the pages in some frames.
+fn holds_of_each<const N: usize>(
+    alloc: Global,
+    frames: &Frames<N>,
+    numbers: &[FrameNo],
+) -> Result<Vec<Hold<N>>, AllocError>
+    requires { (f : ℕ) → 0 < occurrences f numbers.now → 0 < count_of frames.now f }
+    ensures { IfOk result (λ holds. holds.items ≡ map (page_of frames.now) numbers.now) }
+{
+    let mut holds = Vec::new(alloc);
+    for number in numbers {
+        holds.push(frames.hold(*number)?)?;
+    }
+    Ok(holds)
+}
+
+/// Holds of the pages of a table, by segment.
+pub(crate) fn holds_of_table<const N: usize>(
+    alloc: Global,
+    frames: &Frames<N>,
+    table: &PageTable,
+) -> Result<Vec<Vec<Hold<N>>>, AllocError>
+    requires { (f : ℕ) → 0 < times f table.now → 0 < count_of frames.now f }
+    ensures { IfOk result
+        (λ holds. map (λ segment. segment.items) holds.items ≡ table_bytes frames.now table.now) }
+{
+    let mut holds = Vec::new(alloc);
+    for segment in table.segments() {
+        holds.push(holds_of_each(alloc, frames, segment.frames())?)?;
+    }
+    Ok(holds)
+}
