@@ -91,6 +91,7 @@ pub record KeepsOthers (old new : PartitionState) (child : ℕ) : Type 0 where
 pub record Forks (n : ℕ) (old new : PartitionState) (snapshot : SnapshotState) : Type 0 where
   pub warehouse : snapshot.warehouse ≡ old.warehouse
   pub child : IsLeastFree old.space snapshot.child
+  pub fresh : commits_of old snapshot.child ≡ None
   pub commits : snapshot.commits ≡ length old.kept
   pub bytes : snapshot.bytes ≡ owner_bytes old.space
   pub spells : Spells n snapshot.bytes (rows_now old)

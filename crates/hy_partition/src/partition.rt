@@ -3,6 +3,7 @@
 ghost use Rattle.std.specs.Prelude.{◌≡◌, ◌≢◌, ℕ, ◌+◌, ◌<◌, ◌≤◌, vec_capacity, slice_index_or, ◌↔◌, ◌⊎◌, IsTrue, IsSome, IsSomeAnd, List, length, Option, Some, None, Ok, Err, IfOk, IfErr, IsOk, IsOkAnd, OnOk, OnErr, MatchOption, MatchResult};
 ghost use Rattle.hy_frames.specs.FrameTable.{free_of, shared_of, IsLimitFor};
 ghost use Rattle.hy_schema.specs.declared.refusal.Refusal.{Refusal};
+ghost use Rattle.hy_space.specs.Space.{SameForChildren};
 ghost use Rattle.hy_partition.specs.Headline.{Headline};
 ghost use Rattle.hy_partition.specs.Partition.{PartitionState, rows_now};
 ghost use Rattle.hy_partition.specs.Jobs.{is_last};
@@ -262,6 +263,8 @@ impl<const N: usize> Partition<N> {
         ensures range { IsOk result ↔ IsLimitFor self.old.space.frames max }
         ensures max { OnOk result (self.new.space.frames.max ≡ max) }
         ensures job { OnOk result (KeepsJob self.old self.new) }
+        ensures snapshots { self.new.snapshots ≡ self.old.snapshots }
+        ensures children { SameForChildren self.old.space self.new.space }
         ensures refused { IfErr result (λ refusal. refusal ≡ Refusal.OutOfRange) }
         ensures err { OnErr result (self.new ≡ self.old) }
     {

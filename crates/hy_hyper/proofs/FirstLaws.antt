@@ -1,0 +1,46 @@
+-- Why the payment of `first` isn't done.
+use Rattle.std.proofs.Common.{◌≡◌, ◌⊎◌, inl, inr, ℕ, List, [], length, Option, Some, None, Bool, ◌||◌, ◌==◌, cond, is_some, refl, sym, ap, ◌∙◌, subst}
+use Rattle.std.specs.Option.{option_or}
+use Rattle.hy_schema.specs.declared.command.Command.{Command}
+use Rattle.hy_schema.specs.declared.command.Commit.{Commit}
+use Rattle.hy_schema.specs.declared.command.Reply.{Reply}
+use Rattle.hy_schema.specs.declared.refusal.Refusal.{Refusal}
+use Rattle.hy_schema.specs.declared.refusal.Refusal.TheVariants as refusals
+use Rattle.hy_schema.specs.Replay.{replay}
+use Rattle.hy_schema.specs.Tables.{Tables, of_warehouse}
+use Rattle.hy_schema.specs.Transactions.{refusal_of}
+use Rattle.hy_partition.specs.Jobs.{RunningJob}
+use Rattle.hy_partition.specs.Partition.{PartitionState}
+use Rattle.hy_partition.specs.Steps.{Begins, begin_refusal}
+use Rattle.hy_hyper.specs.First.{IsFirstRefusal, IsPayRefusal, first_command, first_payment}
+use Rattle.hy_hyper.specs.Generated.{generated}
+
+-- the refusal of a command by the parts of a partition
+abbrev refusal_by : Command → Option RunningJob → Option Reply → ℕ → Tables → List Commit → ℕ → Option Refusal
+refusal_by command running finished warehouse loaded kept max_kept =
+    cond (is_some running || is_some finished) (Some refusals.Busy)
+    (option_or (refusal_of warehouse command (replay warehouse loaded kept)) (cond (length kept == max_kept) (Some refusals.HistoryFull) None))
+
+or_none : (refusal : Option Refusal) → option_or refusal None ≡ refusal
+or_none None = refl
+or_none (Some refusal) = refl
+
+-- a partition that has just begun refuses only what the warehouse does
+begin_refusal-begun : (p : PartitionState) (command : Command) → Begins (generated 3) 1 100_000 1_000_000 p → begin_refusal p command ≡ refusal_of 1 command (generated 3)
+begin_refusal-begun p command b =
+    ap (λ x. refusal_by command x p.finished p.warehouse p.loaded p.kept p.max_kept) b.running
+    ∙ ap (λ x. refusal_by command None x p.warehouse p.loaded p.kept p.max_kept) b.finished
+    ∙ ap (λ x. refusal_by command None None x p.loaded p.kept p.max_kept) b.warehouse
+    ∙ ap (λ x. refusal_by command None None 1 x p.kept p.max_kept) b.loaded
+    ∙ ap (λ x. refusal_by command None None 1 (of_warehouse 1 (generated 3)) x p.max_kept) b.kept
+    ∙ ap (λ x. refusal_by command None None 1 (of_warehouse 1 (generated 3)) [] x) b.max_kept
+    ∙ or_none (refusal_of 1 command (of_warehouse 1 (generated 3)))
+
+pub first_refusal : (amount : ℕ) (p : PartitionState) (refusal : Refusal) → Begins (generated 3) 1 100_000 1_000_000 p → IsPayRefusal p (first_payment amount) refusal → IsFirstRefusal amount refusal
+first_refusal amount p refusal begins why = elim why [
+  | inl refused ↦ inl (sym (begin_refusal-begun p (first_command amount) begins) ∙ refused)
+  | inr short ↦ elim short [
+    | inl memory ↦ inr (inl memory)
+    | inr frame ↦ inr (inr (inl frame))
+  ]
+]

@@ -1,0 +1,70 @@
+-- What `first` does: one payment on the generated warehouse of three customers a district.
+use Rattle.std.specs.Prelude.{◌≡◌, ◌⊎◌, ℕ, ℤ, None, Some, List, [], ◌∷◌, ◌++◌, map}
+use Rattle.hy_schema.specs.declared.command.Command.{Command}
+use Rattle.hy_schema.specs.declared.command.Command.TheVariants as commands
+use Rattle.hy_schema.specs.declared.command.Payment.{Payment}
+use Rattle.hy_schema.specs.declared.command.Who.TheVariants as who
+use Rattle.hy_schema.specs.Transactions.{act, refusal_of}
+use Rattle.hy_schema.specs.declared.command.Commit.TheVariants as commits
+use Rattle.hy_schema.specs.Tables.{Tables}
+use Rattle.hy_schema.specs.declared.refusal.Refusal.{Refusal}
+use Rattle.hy_schema.specs.declared.refusal.Refusal.TheVariants as refusals
+use Rattle.hy_schema.specs.declared.refusal.LoadFault.{LoadFault}
+use Rattle.hy_schema.specs.Loads.{HasFault}
+use Rattle.hy_partition.specs.Steps.{begin_refusal}
+use Rattle.hy_schema.specs.Spelling.{tables_of}
+use Rattle.hy_partition.specs.Partition.{PartitionState, rows_now}
+use Rattle.hy_partition.specs.Snapshots.{SnapshotState}
+use Rattle.hy_hyper.specs.Generated.{generated}
+
+-- customer 1 of district 1 pays an amount there, at moment 1
+abbrev pub first_payment : ℕ → Payment
+first_payment amount = record {
+  warehouse = 1;
+  district = 1;
+  customer_warehouse = 1;
+  customer_district = 1;
+  who = who.Number 1;
+  amount = amount;
+  at = 1;
+}
+
+abbrev pub first_command : ℕ → Command
+first_command amount = commands.Payment (first_payment amount)
+
+-- W_YTD of each warehouse of some rows
+abbrev pub ytds_of : Tables → List ℤ
+ytds_of tables = map (λ row. row.ytd) tables.warehouses
+
+-- W_YTD of each warehouse after the payment
+abbrev pub ytds_after : ℕ → List ℤ
+ytds_after amount = ytds_of (act 1 (first_command amount) (generated 3)).tables
+
+-- W_YTD of each warehouse of a snapshot with pages of 4,096 bytes
+abbrev pub ytds : SnapshotState → List ℤ
+ytds snapshot = ytds_of (tables_of 4_096 snapshot.bytes)
+
+-- a payment was accepted and kept, and nothing else
+pub record IsPaid (payment : Payment) (old new : PartitionState) : Type 0 where
+  pub accepted : refusal_of old.warehouse (commands.Payment payment) (rows_now old) ≡ None
+  pub warehouse : new.warehouse ≡ old.warehouse
+  pub loaded : new.loaded ≡ old.loaded
+  pub idle : new.running ≡ None
+  pub kept : new.kept ≡ old.kept ++ commits.Local (commands.Payment payment) ∷ []
+
+-- the payment is accepted, and W_YTD of the one warehouse is this after it
+abbrev pub IsYtdAfter : ℕ → ℤ → Type 0
+IsYtdAfter amount ytd = (refusal_of 1 (first_command amount) (generated 3) ≡ None) × (ytds_after amount ≡ ytd ∷ [])
+
+-- why the payment of `first` isn't done: the warehouse refuses it, or memory or the frames run out; or the generated rows
+-- are no load
+abbrev pub IsFirstRefusal : ℕ → Refusal → Type 0
+IsFirstRefusal amount refusal =
+    (refusal_of 1 (first_command amount) (generated 3) ≡ Some refusal)
+    ⊎ ((refusal ≡ refusals.NoMemory) ⊎ (refusal ≡ refusals.NoFrame)
+    ⊎ ((fault : LoadFault) × (refusal ≡ refusals.BadLoad fault) × HasFault (generated 3) fault))
+
+-- why a payment isn't done: it isn't begun, or memory or the frames run out
+abbrev pub IsPayRefusal : PartitionState → Payment → Refusal → Type 0
+IsPayRefusal p payment refusal =
+    (begin_refusal p (commands.Payment payment) ≡ Some refusal) ⊎ (refusal ≡ refusals.NoMemory) ⊎ (refusal ≡ refusals.NoFrame)

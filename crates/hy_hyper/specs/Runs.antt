@@ -1,0 +1,17 @@
+-- What a run of the program leaves where it did what its words say.
+use Rattle.std.specs.Prelude.{ℕ, ℤ, List, ◌++◌, Option, codes}
+use Rattle.std.specs.Fmt.{signed_decimal}
+use Rattle.std.specs.Io.KnownBytes.{Appends}
+use Rattle.hy_hyper.specs.declared.words.Line.{Line}
+use Rattle.hy_hyper.specs.declared.words.Line.TheVariants as line
+use Rattle.hy_hyper.specs.CommandLine.{Says}
+use Rattle.hy_hyper.specs.First.{IsYtdAfter}
+
+-- the bytes that a command line prints stand behind those that were there
+abbrev pub Prints : Line → Option (List ℕ) → Option (List ℕ) → Type 0
+Prints (line.First amount) old new =
+    (ytd : ℤ) × IsYtdAfter amount ytd × Appends old new (codes "ytd " ++ signed_decimal ytd ++ codes "\n")
+
+-- the words say a command line, and what it prints was printed
+abbrev pub Completes : List (List ℕ) → Option (List ℕ) → Option (List ℕ) → Type 0
+Completes words old new = (line : Line) × Says words line × Prints line old new

@@ -1,0 +1,93 @@
+ghost use Rattle.std.specs.Prelude.{◌≡◌, ◌∷◌, [], length, IfErr, IfOk, OnOk};
+ghost use Rattle.hy_schema.specs.declared.refusal.Refusal.{Refusal};
+ghost use Rattle.hy_hyper.specs.First.{IsFirstRefusal, IsPaid, IsPayRefusal, IsYtdAfter, first_payment, ytds};
+
+use crate::generator::generate;
+use hy_partition::{Job, Partition, Snapshot};
+use hy_schema::{Command, Payment, Refusal, Reply, Warehouse, Who};
+use std::alloc::Global;
+
+/// The size of a page in bytes.
+pub const PAGE_BYTES: usize = 4096;
+
+/// How many frames the partition may have.
+pub const MAX_FRAMES: u64 = 100_000;
+
+/// How many commits the partition may keep.
+pub const MAX_KEPT: u64 = 1_000_000;
+
+/// The number of the warehouse.
+const WAREHOUSE: u8 = 1;
+
+/// How many customers each district of the warehouse has.
+const CUSTOMERS: u16 = 3;
+
+/// W_YTD of a generated warehouse after a payment of an amount in cents, in cents, as a snapshot behind the payment has
+/// it. E8 where the amount is out of range, and E1 where memory is refused.
+pub fn first(alloc: Global, amount: u64) -> Result<i64, Refusal>
+    ensures ytd { IfOk result (IsYtdAfter amount) }
+    ensures refused { IfErr result (IsFirstRefusal amount) }
+{
+    let load = generate(alloc, CUSTOMERS)?;
+    let mut partition = Partition::<PAGE_BYTES>::new(
+        alloc, &load, WAREHOUSE, MAX_FRAMES, MAX_KEPT,
+    )?;
+    if let Err(refusal) = pay(&mut partition, payment(amount)) {
+        return Err(refusal);
+    }
+    let snapshot = partition.fork(alloc)?;
+    let ytd = ytd_of(alloc, &snapshot);
+    match partition.close(snapshot) {
+        Ok(()) => ytd,
+        Err(_) => unreachable!(),
+    }
+}
+
+/// Runs a payment to its end.
+fn pay(partition: &mut Partition<PAGE_BYTES>, payment: Payment) -> Result<(), Refusal>
+    ensures paid { OnOk result (IsPaid payment partition.old partition.new) }
+    ensures refused { IfErr result (IsPayRefusal partition.old payment) }
+{
+    let job = Job::new(Command::Payment(payment));
+    if let Err((_job, refusal)) = partition.begin(job) {
+        return Err(refusal);
+    }
+    partition.finish_running();
+    let Some(done) = partition.take_done() else {
+        unreachable!();
+    };
+    match done.open() {
+        Reply::Payment(_, _) => Ok(()),
+        Reply::Refused(refusal) => Err(refusal),
+    }
+}
+
+/// W_YTD of the one warehouse of a snapshot.
+fn ytd_of(alloc: Global, snapshot: &Snapshot<PAGE_BYTES>) -> Result<i64, Refusal>
+    requires { length (ytds snapshot.now) ≡ 1 }
+    ensures ytd { IfOk result (λ ytd. ytds snapshot.now ≡ ytd ∷ []) }
+    ensures refused { IfErr result (λ refusal. refusal ≡ Refusal.NoMemory) }
+{
+    let Ok(rows) = snapshot.list::<Warehouse>(alloc) else {
+        return Err(Refusal::NoMemory);
+    };
+    match rows.as_slice() {
+        [warehouse] => Ok(warehouse.ytd),
+        _ => unreachable!(),
+    }
+}
+
+/// The payment of an amount by customer 1 of district 1.
+fn payment(amount: u64) -> Payment
+    ensures { result ≡ first_payment amount }
+{
+    Payment {
+        warehouse: 1,
+        district: 1,
+        customer_warehouse: 1,
+        customer_district: 1,
+        who: Who::Number(1),
+        amount,
+        at: 1,
+    }
+}

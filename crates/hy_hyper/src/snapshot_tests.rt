@@ -1,0 +1,291 @@
+//! Snapshots beside payments, with small and with large pages.
+
+ghost use Rattle.std.specs.Prelude.{◌≤◌, OnOk};
+ghost use Rattle.hy_partition.specs.Steps.{Closes, Forks};
+ghost use Rattle.hy_hyper.specs.Open.{Holds, KeepsOpen};
+
+use crate::generator::generate;
+use hy_partition::{Job, Partition, Progress, Snapshot};
+use hy_schema::{Command, Payment, Refusal, Reply, Warehouse, Who};
+use std::process::Abort;
+use std::test::Fail;
+
+/// How many frames the partitions may have.
+const FRAMES: u64 = 1000;
+
+/// The partition of a generated warehouse of three customers a district.
+fn begun<const N: usize>(rt: &(impl Abort + AllocGlobal)) -> Partition<N>
+    requires smallest { 256 ≤ N }
+    requires largest { N ≤ 65536 }
+{
+    let load = generate(rt.alloc(), 3).expect(rt, "a load");
+    Partition::new(rt.alloc(), &load, 1, FRAMES, 1000).expect(rt, "a partition")
+}
+
+/// A payment by customer 1 of district 1.
+fn payment(amount: u64) -> Job {
+    Job::new(Command::Payment(Payment {
+        warehouse: 1,
+        district: 1,
+        customer_warehouse: 1,
+        customer_district: 1,
+        who: Who::Number(1),
+        amount,
+        at: 1,
+    }))
+}
+
+/// The reply to a payment.
+fn pay<const N: usize>(partition: &mut Partition<N>, amount: u64) -> Result<Reply, Refusal>
+    ensures { KeepsOpen partition.old partition.new }
+{
+    if let Err((_job, refusal)) = partition.begin(payment(amount)) {
+        return Err(refusal);
+    }
+    partition.finish_running();
+    match partition.take_done() {
+        Some(done) => Ok(done.open()),
+        None => Err(Refusal::NotRunning),
+    }
+}
+
+/// A snapshot of all that is kept.
+fn take<const N: usize>(
+    rt: &(impl Abort + AllocGlobal),
+    partition: &mut Partition<N>,
+) -> Snapshot<N>
+    ensures { Forks N partition.old partition.new result }
+{
+    partition.fork(rt.alloc()).expect(rt, "a snapshot")
+}
+
+/// Gives an open snapshot back.
+fn close<const N: usize>(partition: &mut Partition<N>, snapshot: Snapshot<N>)
+    requires { Holds partition.old snapshot }
+    ensures { Closes partition.old partition.new snapshot.entry.child }
+{
+    match partition.close(snapshot) {
+        Ok(()) => {}
+        Err(_) => unreachable!(),
+    }
+}
+
+/// W_YTD as a snapshot has it.
+fn ytd<const N: usize>(rt: &(impl Abort + AllocGlobal), snapshot: &Snapshot<N>) -> i64 {
+    let rows = snapshot
+        .list::<Warehouse>(rt.alloc())
+        .expect(rt, "the rows");
+    match rows.as_slice() {
+        [warehouse] => warehouse.ytd,
+        _ => 0,
+    }
+}
+
+/// A snapshot before a payment and one behind it.
+fn stays<const N: usize>(rt: &(impl Abort + AllocGlobal)) -> Result<(), Fail>
+    requires smallest { 256 ≤ N }
+    requires largest { N ≤ 65536 }
+{
+    let mut partition: Partition<N> = begun(rt);
+    let first = take(rt, &mut partition);
+    assert_eq!(rt; pay(&mut partition, 100), Ok(Reply::Payment(1, -1100)));
+    let second = take(rt, &mut partition);
+    assert!(rt; ytd(rt, &first) == 30_000 && first.commits() == 0);
+    assert!(rt; ytd(rt, &second) == 30_100 && second.commits() == 1);
+    close(&mut partition, first);
+    close(&mut partition, second);
+    assert_eq!(rt; partition.shared(), 0);
+    Ok(())
+}
+
+/// Three snapshots with payments between them, closed in another order than they were opened.
+fn closed_in_another_order<const N: usize>(rt: &(impl Abort + AllocGlobal)) -> Result<(), Fail>
+    requires smallest { 256 ≤ N }
+    requires largest { N ≤ 65536 }
+{
+    let mut partition: Partition<N> = begun(rt);
+    let free = partition.free();
+    let first = take(rt, &mut partition);
+    assert!(rt; pay(&mut partition, 100).is_ok());
+    let second = take(rt, &mut partition);
+    assert!(rt; pay(&mut partition, 500).is_ok());
+    let third = take(rt, &mut partition);
+    close(&mut partition, second);
+    assert!(rt; ytd(rt, &first) == 30_000 && ytd(rt, &third) == 30_600);
+    close(&mut partition, third);
+    assert_eq!(rt; ytd(rt, &first), 30_000);
+    close(&mut partition, first);
+    assert!(rt; partition.shared() == 0 && partition.free() == free);
+    Ok(())
+}
+
+/// A payment that finds no free frame, beside a snapshot, and once the snapshot is closed.
+fn without_a_frame<const N: usize>(rt: &(impl Abort + AllocGlobal)) -> Result<(), Fail>
+    requires smallest { 256 ≤ N }
+    requires largest { N ≤ 65536 }
+{
+    let mut partition: Partition<N> = begun(rt);
+    let used = FRAMES.saturating_sub(partition.free());
+    assert!(rt; partition.set_max(used).is_ok() && partition.free() == 0);
+    let first = take(rt, &mut partition);
+    assert_eq!(rt;
+        pay(&mut partition, 100),
+        Ok(Reply::Refused(Refusal::NoFrame))
+    );
+    let second = take(rt, &mut partition);
+    assert!(rt; ytd(rt, &first) == 30_000 && ytd(rt, &second) == 30_000);
+    assert!(rt; partition.kept().is_empty());
+    close(&mut partition, first);
+    close(&mut partition, second);
+    assert_eq!(rt; pay(&mut partition, 100), Ok(Reply::Payment(1, -1100)));
+    let third = take(rt, &mut partition);
+    assert_eq!(rt; ytd(rt, &third), 30_100);
+    close(&mut partition, third);
+    assert!(rt; partition.shared() == 0 && partition.free() == 0);
+    Ok(())
+}
+
+/// Many snapshots, each with a payment beside it.
+fn many<const N: usize>(rt: &(impl Abort + AllocGlobal)) -> Result<(), Fail>
+    requires smallest { 256 ≤ N }
+    requires largest { N ≤ 65536 }
+{
+    let mut partition: Partition<N> = begun(rt);
+    let free = partition.free();
+    for _ in 0..50 {
+        let snapshot = take(rt, &mut partition);
+        assert!(rt; pay(&mut partition, 100).is_ok());
+        assert!(rt; partition.free() < free && partition.shared() > 0);
+        close(&mut partition, snapshot);
+    }
+    assert!(rt; partition.free() == free && partition.shared() == 0);
+    assert_eq!(rt; partition.kept().len(), 50);
+    Ok(())
+}
+
+#[test]
+fn first_snapshot_stays(rt: HostRuntime) -> Result<(), Fail> {
+    stays::<256>(&rt)?;
+    stays::<4096>(&rt)
+}
+
+#[test]
+fn forks_closed_in_another_order(rt: HostRuntime) -> Result<(), Fail> {
+    closed_in_another_order::<256>(&rt)?;
+    closed_in_another_order::<4096>(&rt)
+}
+
+#[test]
+fn a_write_without_a_frame(rt: HostRuntime) -> Result<(), Fail> {
+    without_a_frame::<256>(&rt)?;
+    without_a_frame::<4096>(&rt)
+}
+
+#[test]
+fn frames_come_back(rt: HostRuntime) -> Result<(), Fail> {
+    many::<256>(&rt)?;
+    many::<4096>(&rt)
+}
+
+#[test]
+fn slices_one_by_one(rt: HostRuntime) -> Result<(), Fail> {
+    let mut partition: Partition<4096> = begun(&rt);
+    assert!(rt; partition.warehouse() == 1 && partition.step() == Err(Refusal::NotRunning));
+    assert!(rt; partition.begin(payment(100)).is_ok());
+    assert!(rt; !partition.at_last() && partition.touched() == 0);
+    assert_eq!(rt; partition.step(), Ok(Progress::More));
+    assert!(rt; partition.at_last() && partition.touched() == 2 && partition.kept().is_empty());
+    match partition.begin(payment(200)) {
+        Ok(()) => panic!(rt; "a second job began"),
+        Err((job, refusal)) => {
+            assert_eq!(rt; refusal, Refusal::Busy);
+            assert_eq!(rt; job.refuse(refusal).open(), Reply::Refused(Refusal::Busy));
+        }
+    }
+    assert_eq!(rt; partition.step(), Ok(Progress::Finished));
+    assert!(rt; partition.touched() == 0 && partition.kept().len() == 1);
+    let done = partition.take_done().expect(&rt, "an answer");
+    assert_eq!(rt; done.open(), Reply::Payment(1, -1100));
+    assert!(rt; partition.take_done().is_none());
+    partition.headline();
+    Ok(())
+}
+
+#[test]
+fn refuses_in_order(rt: HostRuntime) -> Result<(), Fail> {
+    let mut partition: Partition<4096> = begun(&rt);
+    let right = Payment {
+        warehouse: 1,
+        district: 1,
+        customer_warehouse: 1,
+        customer_district: 1,
+        who: Who::Number(1),
+        amount: 100,
+        at: 1,
+    };
+    let cases: [(Payment, Refusal); 6] = [
+        (
+            Payment {
+                amount: 99,
+                warehouse: 2,
+                ..right
+            },
+            Refusal::OutOfRange,
+        ),
+        (Payment { at: 0, ..right }, Refusal::OutOfRange),
+        (
+            Payment {
+                warehouse: 2,
+                district: 11,
+                ..right
+            },
+            Refusal::NoSuchWarehouse,
+        ),
+        (
+            Payment {
+                customer_warehouse: 2,
+                ..right
+            },
+            Refusal::NoSuchWarehouse,
+        ),
+        (
+            Payment {
+                customer_district: 11,
+                who: Who::Number(4),
+                ..right
+            },
+            Refusal::NoSuchDistrict,
+        ),
+        (
+            Payment {
+                who: Who::Number(4),
+                ..right
+            },
+            Refusal::NoSuchCustomer,
+        ),
+    ];
+    for (payment, refusal) in cases {
+        match partition.begin(Job::new(Command::Payment(payment))) {
+            Ok(()) => panic!(rt; "a wrong payment began"),
+            Err((_job, found)) => assert_eq!(rt; found, refusal),
+        }
+    }
+    Ok(())
+}
+
+#[test]
+fn limits_of_a_partition(rt: HostRuntime) -> Result<(), Fail> {
+    let load = generate(rt.alloc(), 3).expect(&rt, "a load");
+    match Partition::<4096>::new(rt.alloc(), &load, 1, 5, 1) {
+        Ok(_) => panic!(rt; "six pages in five frames"),
+        Err(refusal) => assert_eq!(rt; refusal, Refusal::NoFrame),
+    }
+    let mut partition = Partition::<4096>::new(rt.alloc(), &load, 1, 6, 1).expect(
+        &rt,
+        "a partition",
+    );
+    assert!(rt; partition.free() == 0 && partition.set_max(5) == Err(Refusal::OutOfRange));
+    assert!(rt; pay(&mut partition, 100).is_ok());
+    assert_eq!(rt; pay(&mut partition, 100), Err(Refusal::HistoryFull));
+    Ok(())
+}

@@ -1,0 +1,177 @@
+use crate::generator::generate;
+use crate::place::Place;
+use crate::run::run_words;
+use crate::words::{Line, read_words};
+use std::alloc::Global;
+use std::io;
+use std::test::Fail;
+
+/// A place without files.
+#[derive(Drop)]
+struct Nowhere;
+
+impl Place for Nowhere {
+    fn read(&mut self, _alloc: Global, _path: &str) -> io::Result<Vec<u8>> {
+        Err(io::Error::from(io::ErrorKind::NotFound))
+    }
+
+    fn write(&mut self, _path: &str, _bytes: &[u8]) -> io::Result<()> {
+        Err(io::Error::from(io::ErrorKind::PermissionDenied))
+    }
+}
+
+/// A writer that refuses each byte.
+#[derive(Drop)]
+struct Broken;
+
+impl io::Write for Broken {
+    fn write(&mut self, _bytes: &[u8]) -> io::Result<usize> {
+        Err(io::Error::from(io::ErrorKind::BrokenPipe))
+    }
+
+    fn flush(&mut self) -> io::Result<()> {
+        Ok(())
+    }
+}
+
+#[test]
+fn reads_the_amount(rt: HostRuntime) -> Result<(), Fail> {
+    let alloc = rt.alloc();
+    let cases: [(&[&str], u64); 4] = [
+        (&["first"], 100),
+        (&["first", "--amount", "7"], 7),
+        (&["first", "--amount=7"], 7),
+        (&["first", "--amount", "18446744073709551615"], u64::MAX),
+    ];
+    for (words, amount) in cases {
+        let line = read_words(alloc, words).expect(&rt, "a command line");
+        assert!(rt; line == Line::First { amount });
+    }
+    Ok(())
+}
+
+#[test]
+fn refuses_other_words(rt: HostRuntime) -> Result<(), Fail> {
+    let alloc = rt.alloc();
+    let cases: [(&[&str], &str); 8] = [
+        (
+            &[],
+            "error: 'hyper' requires a subcommand but one was not provided\n",
+        ),
+        (&["second"], "error: unrecognized subcommand 'second'\n"),
+        (&["help"], "error: unrecognized subcommand 'help'\n"),
+        (&["--help"], "An in-memory order-entry database\n"),
+        (
+            &["first", "--amount"],
+            "error: a value is required for '--amount <CENTS>' but none was supplied\n",
+        ),
+        (
+            &["first", "--amount", "x"],
+            "error: invalid value 'x' for '--amount <CENTS>': invalid digit found in string\n",
+        ),
+        (
+            &["first", "--amount", "18446744073709551616"],
+            "error: invalid value '18446744073709551616' for '--amount <CENTS>': number too large to fit in target type\n",
+        ),
+        (
+            &["first", "again"],
+            "error: unexpected argument 'again' found\n",
+        ),
+    ];
+    for (words, text) in cases {
+        let mut out = Vec::new(alloc);
+        let mut err = Vec::new(alloc);
+        let status = run_words(alloc, words, &mut Nowhere, &mut out, &mut err);
+        assert_eq!(rt; status, 2);
+        assert!(rt; out.is_empty());
+        assert!(rt; err.as_slice().starts_with(text.as_bytes()), "not {text}");
+    }
+    Ok(())
+}
+
+#[test]
+fn prints_the_total(rt: HostRuntime) -> Result<(), Fail> {
+    let alloc = rt.alloc();
+    let mut out = Vec::new(alloc);
+    let mut err = Vec::new(alloc);
+    let status = run_words(alloc, &["first"], &mut Nowhere, &mut out, &mut err);
+    assert_eq!(rt; status, 0);
+    assert!(rt; out.as_slice() == b"ytd 30100\n".as_slice() && err.is_empty());
+    Ok(())
+}
+
+#[test]
+fn prints_a_refusal(rt: HostRuntime) -> Result<(), Fail> {
+    let alloc = rt.alloc();
+    for amount in ["99", "500001", "18446744073709551615"] {
+        let mut out = Vec::new(alloc);
+        let mut err = Vec::new(alloc);
+        let words = ["first", "--amount", amount];
+        let status = run_words(alloc, &words, &mut Nowhere, &mut out, &mut err);
+        assert_eq!(rt; status, 1);
+        assert!(rt; out.is_empty() && err.as_slice() == b"refused E8 OutOfRange\n".as_slice());
+    }
+    Ok(())
+}
+
+#[test]
+fn answers_1_where_a_writer_fails(rt: HostRuntime) -> Result<(), Fail> {
+    let alloc = rt.alloc();
+    let mut text = Vec::new(alloc);
+    assert_eq!(rt;
+        run_words(alloc, &["first"], &mut Nowhere, &mut Broken, &mut text),
+        1
+    );
+    assert!(rt; !text.is_empty());
+    let mut text = Vec::new(alloc);
+    assert_eq!(rt;
+        run_words(alloc, &["--help"], &mut Nowhere, &mut text, &mut Broken),
+        1
+    );
+    assert!(rt; text.is_empty());
+    Ok(())
+}
+
+#[test]
+fn generates_a_warehouse(rt: HostRuntime) -> Result<(), Fail> {
+    let load = generate(rt.alloc(), 3).expect(&rt, "a load");
+    assert_eq!(rt; load.warehouses().len(), 1);
+    for row in load.warehouses() {
+        assert!(rt; row.name.as_bytes() == b"W1".as_slice() && row.tax == 500 && row.ytd == 30_000);
+    }
+    for (place, row) in load.districts().iter().enumerate() {
+        assert!(rt; usize::from(row.id) == place + 1 && usize::from(row.tax) == 100 * (place + 1));
+        assert!(rt; row.ytd == 3000 && row.next_order == 1);
+    }
+    assert_eq!(rt; load.customers().len(), 30);
+    Ok(())
+}
+
+#[test]
+fn generates_names(rt: HostRuntime) -> Result<(), Fail> {
+    let load = generate(rt.alloc(), 1001).expect(&rt, "a load");
+    let rows = load.customers();
+    assert_eq!(rt; rows.len(), 10_010);
+    let cases: [(usize, &[u8], &[u8], &[u8], u16); 6] = [
+        (0, b"F0001", b"BARBARBAR", b"GC", 100),
+        (1, b"F0002", b"BARBAROUGHT", b"GC", 200),
+        (9, b"F0010", b"BARBAREING", b"BC", 1000),
+        (371, b"F0372", b"PRICALLYOUGHT", b"GC", 2193),
+        (999, b"F1000", b"EINGEINGEING", b"BC", 4981),
+        (1000, b"F1001", b"BARBARBAR", b"GC", 80),
+    ];
+    for (place, first, last, credit, discount) in cases {
+        let row = rows.get(place).expect(&rt, "a row");
+        assert!(rt; row.first.as_bytes() == first && row.middle.as_bytes() == b"OE".as_slice());
+        assert!(rt; row.last.as_bytes() == last && row.credit.as_bytes() == credit);
+        assert_eq!(rt; row.discount, discount);
+    }
+    Ok(())
+}
+
+#[test]
+fn refuses_a_number_of_customers(rt: HostRuntime) -> Result<(), Fail> {
+    assert!(rt; generate(rt.alloc(), 0).is_err());
+    assert!(rt; generate(rt.alloc(), 3001).is_err());
+    Ok(())
+}
