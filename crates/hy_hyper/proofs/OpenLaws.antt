@@ -1,8 +1,8 @@
 -- Which snapshots stay open.
-use Rattle.std.proofs.Common.{◌≡◌, ◌≢◌, ℕ, Option, Some, None, refl, sym, ap, ◌∙◌}
+use Rattle.std.proofs.Common.{◌≡◌, ◌≢◌, ℕ, Some, None, sym, ap, ◌∙◌}
 use Rattle.hy_partition.specs.Partition.{PartitionState, commits_of}
 use Rattle.hy_partition.specs.Snapshots.{SnapshotState}
-use Rattle.hy_partition.specs.Steps.{Forks, Closes, IsOpen}
+use Rattle.hy_partition.specs.Steps.{Forks, Closes}
 use Rattle.hy_hyper.specs.Open.{Holds, KeepsOpen}
 use Rattle.std.specs.Prelude.{slice_index_or}
 

@@ -7,9 +7,10 @@ mod place;
 mod run;
 mod words;
 
+use hy_schema::Refusal;
 use place::Files;
-use run::run_words;
-use std::io;
+use run::{REFUSED, run_words};
+use std::io::{self, Write};
 use std::process::ExitCode;
 
 #[cfg(test)]
@@ -17,11 +18,30 @@ mod snapshot_tests;
 #[cfg(test)]
 mod tests;
 
-fn main(rt: HostRuntime) -> io::Result<ExitCode> {
+fn main(rt: HostRuntime) -> ExitCode {
+    let status = match run_arguments(&rt) {
+        Ok(status) => status,
+        Err(error) => {
+            let _ = match error.kind() {
+                io::ErrorKind::OutOfMemory => writeln!(
+                    rt.stderr(),
+                    "refused {}",
+                    Refusal::NoMemory
+                ),
+                _ => writeln!(rt.stderr(), "{error}"),
+            };
+            REFUSED
+        }
+    };
+    ExitCode::from(status)
+}
+
+/// Runs the program on its words, with the files and streams of the system.
+fn run_arguments(rt: &HostRuntime) -> io::Result<u8> {
     let alloc = rt.alloc();
-    let words: Vec<String> = std::env::args(&rt)?.skip(1).collect(alloc)?;
+    let words: Vec<String> = std::env::args(rt)?.skip(1).collect(alloc)?;
     let texts: Vec<&str> = words.iter().map(|word| word.as_str()).collect(alloc)?;
-    let mut files = Files::new(&rt);
+    let mut files = Files::new(rt);
     let status = run_words(
         alloc,
         texts.as_slice(),
@@ -29,5 +49,5 @@ fn main(rt: HostRuntime) -> io::Result<ExitCode> {
         &mut rt.stdout(),
         &mut rt.stderr(),
     );
-    Ok(ExitCode::from(status))
+    Ok(status)
 }

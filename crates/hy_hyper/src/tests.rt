@@ -92,11 +92,18 @@ fn refuses_other_words(rt: HostRuntime) -> Result<(), Fail> {
 #[test]
 fn prints_the_total(rt: HostRuntime) -> Result<(), Fail> {
     let alloc = rt.alloc();
-    let mut out = Vec::new(alloc);
-    let mut err = Vec::new(alloc);
-    let status = run_words(alloc, &["first"], &mut Nowhere, &mut out, &mut err);
-    assert_eq!(rt; status, 0);
-    assert!(rt; out.as_slice() == b"ytd 30100\n".as_slice() && err.is_empty());
+    let cases: [(&[&str], &[u8]); 3] = [
+        (&["first"], b"ytd 30100\n"),
+        (&["first", "--amount", "100"], b"ytd 30100\n"),
+        (&["first", "--amount", "500000"], b"ytd 530000\n"),
+    ];
+    for (words, text) in cases {
+        let mut out = Vec::new(alloc);
+        let mut err = Vec::new(alloc);
+        let status = run_words(alloc, words, &mut Nowhere, &mut out, &mut err);
+        assert_eq!(rt; status, 0);
+        assert!(rt; out.as_slice() == text && err.is_empty());
+    }
     Ok(())
 }
 
