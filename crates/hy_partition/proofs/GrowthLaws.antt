@@ -26,6 +26,11 @@ found_of_all P test (x ∷ rows) row all found =
       | false ↦ λ later. found_of_all P test rows row all.1 later
     ] found
 
+-- what follows for each row
+all_more : {Row : Type 0} (P Q : Row → Type 0) (rows : List Row) → ((row : Row) → P row → Q row) → AllByRecursion P rows → AllByRecursion Q rows
+all_more P Q [] keep all = tt
+all_more P Q (x ∷ rows) keep all = (keep x all.0, all_more P Q rows keep all.1)
+
 -- what holds of all rows after a change of one
 pub all-with_changed : {Row : Type 0} (P Q : Row → Type 0) (test : Row → Bool) (change : Row → Row) (rows : List Row) → ((row : Row) → P row → Q row) → ((row : Row) → P row → Q (change row)) → AllByRecursion P rows → AllByRecursion Q (with_changed test change rows)
 all-with_changed P Q test change [] keep step all = tt
@@ -34,10 +39,6 @@ all-with_changed P Q test change (x ∷ rows) keep step all =
       | true ↦ (step x all.0, all_more P Q rows keep all.1)
       | false ↦ (keep x all.0, all-with_changed P Q test change rows keep step all.1)
     ]
-  where
-    all_more : {Row : Type 0} (P Q : Row → Type 0) (rows : List Row) → ((row : Row) → P row → Q row) → AllByRecursion P rows → AllByRecursion Q rows
-    all_more P Q [] keep all = tt
-    all_more P Q (x ∷ rows) keep all = (keep x all.0, all_more P Q rows keep all.1)
 
 -- a greater growth allows more
 money-more : (growth more : ℕ) (cents : ℤ) → IsGrownMoney growth cents → IsGrownMoney (growth + more) cents
@@ -62,10 +63,6 @@ customer_step growth more amount row within some grown = record {
   ytd_payment = money-plus growth more amount row.ytd_payment within grown.ytd_payment;
   payment_count = omega (arith, grown.payment_count);
 }
-
-all_more : {Row : Type 0} (P Q : Row → Type 0) (rows : List Row) → ((row : Row) → P row → Q row) → AllByRecursion P rows → AllByRecursion Q rows
-all_more P Q [] keep all = tt
-all_more P Q (x ∷ rows) keep all = (keep x all.0, all_more P Q rows keep all.1)
 
 -- rows that stay have grown by more, too
 pub IsGrown-more : (growth more : ℕ) (tables : Tables) → IsGrown growth tables → IsGrown (growth + more) tables

@@ -104,7 +104,7 @@ undone-covered pages segment page there bytes cover (e ∷ earlier) =
     ]
 
 -- where a page is kept
-at_page : (segment page : ℕ) (e : Earlier) → is_at_page segment page e ≡ true → (segment ≡ e.segment) × (page ≡ e.page)
+pub at_page : (segment page : ℕ) (e : Earlier) → is_at_page segment page e ≡ true → (segment ≡ e.segment) × (page ≡ e.page)
 at_page segment page e same = (grind (arith, nat_tests), grind (arith, nat_tests))
 
 behind_other : (here others : Bool) → here ≡ false → (here || others) ≡ true → others ≡ true

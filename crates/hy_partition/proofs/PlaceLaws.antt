@@ -132,11 +132,6 @@ module _ (n segment : ℕ) (bytes : List (List (List ℕ))) (page : List ℕ) (s
       ap (rows_of n width row_of) segment-page_added
       ∙ rows_of-grown n width row_of (list_at bytes segment) page (table_fits n segment width smallest table) (tables.slots segment width table)
 
-  pub used-page_added : (width : ℕ) → IsTable segment width → used_slots (list_at page_added segment) ≡ used_slots (list_at bytes segment)
-  used-page_added width table =
-      ap used_slots segment-page_added
-      ∙ ap (λ first. number_at first 0 8) (get_or_append_left (list_at bytes segment) (page ∷ []) [] 0 (tables.slots segment width table).first)
-
 -- a row's slot filled behind the used ones, and counted
 module _ (n segment width : ℕ) (bytes : List (List (List ℕ))) (k : ℕ) (row_bytes : List ℕ) (smallest : 256 ≤ n) (table : IsTable segment width) (tables : HasTables n bytes)
     (sizes : HasPagesOf n bytes) (used : used_slots (list_at bytes segment) ≡ k) (page_there : slot_page n width k < length (list_at bytes segment)) (sized : length row_bytes ≡ width) (fits : k + 1 < 2 ^ 64) where
@@ -204,9 +199,6 @@ module _ (n segment width : ℕ) (space : SpaceState) (smallest : 256 ≤ n) (ta
   length-segment =
       ap length (get_or-map (map (page_of space.frames)) space.owner segment [] [] segment_owned)
       ∙ length-map (get_or space.owner segment []) (page_of space.frames)
-
-  pub has_segment : segment < length space.owner
-  has_segment = segment_owned
 
   -- it has its page 0
   pub has_first_page : HasPage space segment 0

@@ -2,7 +2,6 @@
 use Rattle.std.proofs.Common.{◌≡◌, ◌≢◌, ℕ, zero, suc, ◌<◌, ◌≤◌, inl, inr, List, [], ◌∷◌, ◌++◌, length, take, Option, Some, None, refl, sym, ap, ◌∙◌, subst, arith, length-append}
 use Rattle.std.specs.Prelude.{IsNone, IsSome, IsSomeAnd, MatchOption, slice_index_or, slice_set}
 use Rattle.std.specs.Option.{option_map}
-use Rattle.std.specs.List.{AllByRecursion}
 use Rattle.std.proofs.lemmas.List.{append-nil, get_or_past}
 use Rattle.std.proofs.Math.Seq.{take-length}
 use Rattle.std.proofs.lemmas.Bool.{cases_eq, cases_lt}
@@ -20,10 +19,14 @@ use Rattle.hy_partition.specs.Growth.{IsGrown}
 use Rattle.hy_partition.specs.Headline.{SpellsBeginning}
 use Rattle.hy_partition.specs.Jobs.{RunningJob}
 use Rattle.hy_partition.specs.Partition.{PartitionState, rows_after, rows_now, commits_of}
-use Rattle.hy_partition.specs.Soundness.{IsKept, IsSound, Runs, after_slices}
+use Rattle.hy_partition.specs.Soundness.{IsSound, IsUndoLog, Runs, after_slices}
 use Rattle.hy_partition.specs.Undone.{Earlier, undone}
-use Rattle.hy_partition.proofs.KeptLaws.{SameShape-same, all_kept}
-use Rattle.hy_partition.proofs.StepLaws.{act-accepted, replay-append, spells-kept_more}
+use Rattle.hy_partition.proofs.KeptLaws.{SameShape-same, undo_log-still}
+use Rattle.hy_partition.proofs.StepLaws.{act-accepted, after_slices-none, replay-append, spells-kept_more}
+
+-- without an earlier page
+pub no_log : {n : ℕ} (space : SpaceState) (earlier : List Earlier) → earlier ≡ [] → IsUndoLog n space earlier
+no_log {n} space earlier none = subst (λ (earlier : List Earlier). IsUndoLog n space earlier) (sym none) (record { each = tt; once = λ segment page. omega arith })
 
 module _ (n places : ℕ) (p : PartitionState) (sound : IsSound n places p) where
   -- no page was written where no job runs
@@ -32,6 +35,14 @@ module _ (n places : ℕ) (p : PartitionState) (sound : IsSound n places p) wher
 
   pub runs : (job : RunningJob) → p.running ≡ Some job → Runs n places p job
   runs job running = subst (λ (running : Option RunningJob). MatchOption running (p.earlier ≡ []) (Runs n places p)) running sound.job
+
+  -- whether a job runs or not
+  pub undo_log : IsUndoLog n p.space p.earlier
+  undo_log = of_job p.running sound.job
+    where
+      of_job : (running : Option RunningJob) → MatchOption running (p.earlier ≡ []) (Runs n places p) → IsUndoLog n p.space p.earlier
+      of_job None none = no_log p.space p.earlier none
+      of_job (Some job) was = was.undo_log
 
   -- the live pages are the rows where no job runs
   pub idle_live : p.running ≡ None → Spells n (owner_bytes p.space) (rows_now p)
@@ -44,14 +55,14 @@ module _ (n places : ℕ) (p : PartitionState) (sound : IsSound n places p) wher
   sound-begun places' kept job same idle no_reply fresh accepted room not_full =
       let live = idle_live idle in
       let pages : after_slices job.command job.slices (rows_now p) ≡ rows_now p =
-      ap (λ slices. after_slices job.command slices (rows_now p)) fresh ∙ after_none job.command (rows_now p) in
+      ap (λ slices. after_slices job.command slices (rows_now p)) fresh ∙ after_slices-none job.command (rows_now p) in
       let begun : Runs n places' (record p { running = Some job }) job = record {
         no_reply = no_reply;
         accepted = ap (refusal_of p.warehouse job.command) (sym live.rows) ∙ accepted;
         slices = omega (arith, fresh);
         begun = λ first. idle_earlier idle;
         pages = subst (λ (tables : Tables). Spells n (owner_bytes p.space) tables) (sym pages) live;
-        own = subst (λ (earlier : List Earlier). AllByRecursion (IsKept n p.space) earlier) (sym (idle_earlier idle)) tt;
+        undo_log = no_log p.space p.earlier (idle_earlier idle);
         has_room = room;
         below_max = omega (arith, sound.within, not_full);
       } in
@@ -63,14 +74,11 @@ module _ (n places : ℕ) (p : PartitionState) (sound : IsSound n places p) wher
         limit = sound.limit;
         job = begun;
       })
-    where
-      after_none : (command : Command) (tables : Tables) → after_slices command 0 tables ≡ tables
-      after_none (commands.Payment payment) tables = refl
 
   -- snapshots come and go, and the owner's pages stay
-  pub sound-snapshots : (space : SpaceState) (snapshots : List (Option ℕ)) → owner_bytes space ≡ owner_bytes p.space → (AllByRecursion (IsKept n p.space) p.earlier → AllByRecursion (IsKept n space) p.earlier)
+  pub sound-snapshots : (space : SpaceState) (snapshots : List (Option ℕ)) → owner_bytes space ≡ owner_bytes p.space → (IsUndoLog n p.space p.earlier → IsUndoLog n space p.earlier)
       → ((child : ℕ) → SpellsBeginning n (record p { space = space; snapshots = snapshots }) child) → IsSound n places (record p { space = space; snapshots = snapshots })
-  sound-snapshots space snapshots bytes own spells = record {
+  sound-snapshots space snapshots bytes still spells = record {
     snapshots = spells;
     live = subst (λ (pages : List (List (List ℕ))). Spells n (undone pages p.earlier) (rows_now p)) (sym bytes) sound.live;
     grown = sound.grown;
@@ -87,7 +95,7 @@ module _ (n places : ℕ) (p : PartitionState) (sound : IsSound n places p) wher
         slices = was.slices;
         begun = was.begun;
         pages = subst (λ (pages : List (List (List ℕ))). Spells n pages (after_slices job.command job.slices (rows_now p))) (sym bytes) was.pages;
-        own = own was.own;
+        undo_log = still was.undo_log;
         has_room = was.has_room;
         below_max = was.below_max;
       }
@@ -98,7 +106,7 @@ module _ (n places : ℕ) (p : PartitionState) (sound : IsSound n places p) wher
       → ((other : ℕ) → other ≢ child → slice_index_or snapshots other None ≡ commits_of p other)
       → IsSound n places (record p { space = space; snapshots = snapshots })
   sound-forked space snapshots child idle owner others bytes commits others_commits =
-      sound-snapshots space snapshots owner.bytes (λ own. subst (λ (earlier : List Earlier). AllByRecursion (IsKept n space) earlier) (sym (idle_earlier idle)) tt) each
+      sound-snapshots space snapshots owner.bytes (λ log. no_log space p.earlier (idle_earlier idle)) each
     where
       after : PartitionState
       after = record p { space = space; snapshots = snapshots }
@@ -124,7 +132,7 @@ module _ (n places : ℕ) (p : PartitionState) (sound : IsSound n places p) wher
       → ((other : ℕ) → other ≢ child → slice_index_or snapshots other None ≡ commits_of p other)
       → IsSound n places (record p { space = space; snapshots = snapshots })
   sound-closed space snapshots child owner others own bytes commits others_commits =
-      sound-snapshots space snapshots owner.bytes (all_kept n p.space space p.earlier (SameShape-same (owner_bytes p.space) (owner_bytes space) owner.bytes) own) each
+      sound-snapshots space snapshots owner.bytes (undo_log-still n p.space space p.earlier (SameShape-same (owner_bytes p.space) (owner_bytes space) owner.bytes) own) each
     where
       after : PartitionState
       after = record p { space = space; snapshots = snapshots }

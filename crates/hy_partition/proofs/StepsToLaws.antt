@@ -28,6 +28,7 @@ use Rattle.hy_partition.specs.declared.job.Progress.{Progress}
 use Rattle.hy_partition.specs.declared.job.Progress.TheVariants as progress
 use Rattle.hy_partition.proofs.GrowthLaws.{IsGrown-more, IsGrown-replay, in_range_of_accepted}
 use Rattle.hy_partition.proofs.SoundLaws.{runs}
+use Rattle.hy_partition.proofs.StepLaws.{after_slices-none}
 
 -- a step of the job that runs
 pub step-running : (now p q : PartitionState) (job : RunningJob) (reached : Progress) (outcome : Result Progress Refusal) → outcome ≡ Ok reached → p ≡ now → p.running ≡ Some job → StepsTo job p q reached
@@ -42,9 +43,6 @@ pub refused_why : (shortage : Shortage) (reply : Reply) (free : ℕ) → reply �
     → (reply ≡ replies.Refused refusals.NoMemory) ⊎ ((reply ≡ replies.Refused refusals.NoFrame) × (free ≡ 0))
 refused_why shortages.NoMemory reply free is none = inl is
 refused_why shortages.NoFrame reply free is none = inr (is, none refl)
-
-after_slices-none : (command : Command) (tables : Tables) → after_slices command 0 tables ≡ tables
-after_slices-none (commands.Payment payment) tables = refl
 
 customers-after_slices : (command : Command) (slices : ℕ) (tables : Tables) → (after_slices command slices tables).customers ≡ tables.customers
 customers-after_slices (commands.Payment payment) zero tables = refl

@@ -1,6 +1,5 @@
 -- What a slice does to the pages.
 use Rattle.std.specs.Prelude.{◌≡◌, ℕ, zero, suc, List, Option, None, Some}
-use Rattle.std.specs.List.{AllByRecursion}
 use Rattle.hy_schema.specs.declared.command.Payment.{Payment}
 use Rattle.hy_schema.specs.declared.command.Command.{Command}
 use Rattle.hy_schema.specs.declared.command.Command.TheVariants as commands
@@ -10,13 +9,13 @@ use Rattle.hy_schema.specs.Tables.{Tables}
 use Rattle.hy_schema.specs.Transactions.{customer_paid, is_payer, payer, payment_reply}
 use Rattle.hy_space.specs.Space.{SpaceState, SameForChildren, owner_bytes}
 use Rattle.hy_partition.specs.Undone.{Earlier, undone}
-use Rattle.hy_partition.specs.Soundness.{IsKept, half_paid}
+use Rattle.hy_partition.specs.Soundness.{IsUndoLog, half_paid}
 
--- no child sees a change, undoing gives what it gave, and each earlier page can be put back
+-- no child sees a change, undoing gives what it gave, and the earlier pages are an undo log still
 pub record CanUndo (n : ℕ) (old new : SpaceState) (before after : List Earlier) : Type 0 where
   pub children : SameForChildren old new
   pub undone : undone (owner_bytes new) after ≡ undone (owner_bytes old) before
-  pub kept : AllByRecursion (IsKept n new) after
+  pub undo_log : IsUndoLog n new after
 
 -- the rows after the second slice of a payment, which is for the customer
 abbrev pub customer_changed : Payment → Tables → Tables

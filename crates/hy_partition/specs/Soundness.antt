@@ -1,5 +1,5 @@
 -- What holds of every partition, beside the counts of its frames, which its pages keep by themselves.
-use Rattle.std.specs.Prelude.{◌≡◌, ℕ, zero, suc, ◌<◌, ◌≤◌, [], length, None, MatchOption}
+use Rattle.std.specs.Prelude.{◌≡◌, ℕ, zero, suc, ◌<◌, ◌≤◌, List, [], length, None, MatchOption}
 use Rattle.std.specs.List.{AllByRecursion}
 use Rattle.hy_schema.specs.declared.command.Command.{Command}
 use Rattle.hy_schema.specs.declared.command.Command.TheVariants as commands
@@ -9,7 +9,7 @@ use Rattle.hy_schema.specs.Finding.{is_warehouse, is_district, with_changed}
 use Rattle.hy_schema.specs.Transactions.{refusal_of, warehouse_paid, district_paid}
 use Rattle.hy_schema.specs.Spelling.{Spells}
 use Rattle.hy_space.specs.Space.{SpaceState, HasPage, IsOwn, owner_bytes}
-use Rattle.hy_partition.specs.Undone.{Earlier, undone}
+use Rattle.hy_partition.specs.Undone.{Earlier, NoPageTwice, undone}
 use Rattle.hy_partition.specs.Partition.{PartitionState, rows_now}
 use Rattle.hy_partition.specs.Jobs.{RunningJob}
 use Rattle.hy_partition.specs.Headline.{SpellsBeginning}
@@ -33,6 +33,11 @@ pub record IsKept (n : ℕ) (space : SpaceState) (earlier : Earlier) : Type 0 wh
   pub own : IsOwn space earlier.segment earlier.page
   pub size : length earlier.bytes ≡ n
 
+-- earlier pages from which a running transaction is undone: each can be put back, and none is there twice
+pub record IsUndoLog (n : ℕ) (space : SpaceState) (earlier : List Earlier) : Type 0 where
+  pub each : AllByRecursion (IsKept n space) earlier
+  pub once : NoPageTwice earlier
+
 -- a job runs: the live pages spell the rows after its slices, and its commit has room
 pub record Runs (n places : ℕ) (p : PartitionState) (job : RunningJob) : Type 0 where
   pub no_reply : p.finished ≡ None
@@ -40,7 +45,7 @@ pub record Runs (n places : ℕ) (p : PartitionState) (job : RunningJob) : Type 
   pub slices : job.slices ≤ 1
   pub begun : job.slices ≡ 0 → p.earlier ≡ []
   pub pages : Spells n (owner_bytes p.space) (after_slices job.command job.slices (rows_now p))
-  pub own : AllByRecursion (IsKept n p.space) p.earlier
+  pub undo_log : IsUndoLog n p.space p.earlier
   pub has_room : length p.kept < places
   pub below_max : length p.kept < p.max_kept
 

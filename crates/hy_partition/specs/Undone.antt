@@ -1,7 +1,7 @@
 -- The bytes of a page table with a running transaction undone: each page that it wrote, put back as it was (the undo
 -- log of the HyPer paper, section 2.2, with whole pages as its records).
-use Rattle.std.specs.Prelude.{ℕ, Bool, ◌==◌, ◌&&◌, List, [], ◌∷◌}
-use Rattle.std.specs.List.{list_any}
+use Rattle.std.specs.Prelude.{ℕ, Bool, ◌≤◌, ◌==◌, ◌&&◌, List, [], ◌∷◌}
+use Rattle.std.specs.List.{count_by, list_any}
 use Rattle.hy_space.specs.Space.{with_page}
 
 -- a page as it was before the running transaction first wrote it
@@ -21,3 +21,7 @@ is_at_page segment page earlier = (earlier.segment == segment) && (earlier.page 
 
 abbrev pub has_earlier : ℕ → ℕ → List Earlier → Bool
 has_earlier segment page earlier = list_any (is_at_page segment page) earlier
+
+-- no page is among the earlier ones twice
+abbrev pub NoPageTwice : List Earlier → Type 0
+NoPageTwice earlier = (segment page : ℕ) → count_by (is_at_page segment page) earlier ≤ 1

@@ -5,7 +5,7 @@ ghost use Rattle.std.specs.List.{AllByRecursion};
 ghost use Rattle.hy_frames.specs.FrameTable.{free_of};
 ghost use Rattle.hy_space.specs.Space.{HasPage, IsOwn, SameForChildren, owner_bytes};
 ghost use Rattle.hy_partition.specs.Undone.{Earlier, undone, has_earlier, is_at_page};
-ghost use Rattle.hy_partition.specs.Soundness.{IsKept};
+ghost use Rattle.hy_partition.specs.Soundness.{IsKept, IsUndoLog};
 
 use hy_frames::{Hold, Shortage};
 use hy_space::Space;
@@ -79,9 +79,9 @@ impl<const N: usize> EarlierPages<N> {
         page: u32,
     ) -> Result<(), Shortage>
         requires there { HasPage space.old segment page }
-        requires kept { AllByRecursion (IsKept N space.old) self.old }
+        requires undo_log { IsUndoLog N space.old self.old }
         ensures has { OnOk result (IsTrue (has_earlier segment page self.new)) }
-        ensures kept { AllByRecursion (IsKept N space.new) self.new }
+        ensures undo_log { IsUndoLog N space.new self.new }
         ensures undone { undone (owner_bytes space.new) self.new ≡ undone (owner_bytes space.old) self.old }
         ensures bytes { owner_bytes space.new ≡ owner_bytes space.old }
         ensures children { SameForChildren space.old space.new }

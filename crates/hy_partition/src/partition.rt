@@ -7,6 +7,7 @@ ghost use Rattle.hy_space.specs.Space.{SameForChildren};
 ghost use Rattle.hy_partition.specs.Headline.{Headline};
 ghost use Rattle.hy_partition.specs.Partition.{PartitionState, rows_now};
 ghost use Rattle.hy_partition.specs.Jobs.{is_last};
+ghost use Rattle.hy_partition.specs.Soundness.{IsUndoLog};
 ghost use Rattle.hy_partition.specs.Steps.{begin_refusal, Accepts, Begins, Closes, Forks, IsOpen, KeepsJob, Refuses, StepsTo};
 
 use crate::earlier::EarlierPages;
@@ -237,9 +238,10 @@ impl<const N: usize> Partition<N> {
         self.kept.as_slice()
     }
 
-    /// How many pages the job that runs has written.
+    /// How many pages the job that runs has written. They are pages that no snapshot shares, and none counts twice.
     pub fn touched(&self) -> u64
-        ensures { result ≡ length self.now.earlier }
+        ensures touched { result ≡ length self.now.earlier }
+        ensures undo_log { IsUndoLog N self.now.space self.now.earlier }
     {
         self.earlier.len()
     }

@@ -11,7 +11,7 @@ ghost use Rattle.hy_space.specs.Space.{owner_bytes};
 ghost use Rattle.hy_partition.specs.Changes.{CanUndo, customer_changed};
 ghost use Rattle.hy_partition.specs.Growth.{IsGrown, IsGrownCustomer, IsGrownMoney};
 ghost use Rattle.hy_partition.specs.Rows.{ChangesRow, KeepsOtherSegments};
-ghost use Rattle.hy_partition.specs.Soundness.{IsKept, half_paid};
+ghost use Rattle.hy_partition.specs.Soundness.{IsUndoLog, half_paid};
 
 use crate::earlier::EarlierPages;
 use crate::keyed::{CustomerKey, DistrictKey};
@@ -27,7 +27,7 @@ pub(crate) fn pay_warehouse_and_district<const N: usize>(
     payment: &Payment,
 ) -> Result<(), Shortage>
     requires tables { HasTables N (owner_bytes space.old) }
-    requires kept { AllByRecursion (IsKept N space.old) earlier.old }
+    requires undo_log { IsUndoLog N space.old earlier.old }
     requires grown { IsGrown 50000000000000 (tables_of N (owner_bytes space.old)) }
     requires amount { payment.now.amount ≤ 500000 }
     ensures tables { OnOk result (HasTables N (owner_bytes space.new)) }
@@ -46,7 +46,7 @@ fn pay_warehouse<const N: usize>(
     payment: &Payment,
 ) -> Result<(), Shortage>
     requires tables { HasTables N (owner_bytes space.old) }
-    requires kept { AllByRecursion (IsKept N space.old) earlier.old }
+    requires undo_log { IsUndoLog N space.old earlier.old }
     requires grown { IsGrown 50000000000000 (tables_of N (owner_bytes space.old)) }
     requires amount { payment.now.amount ≤ 500000 }
     ensures tables { OnOk result (HasTables N (owner_bytes space.new)) }
@@ -70,7 +70,7 @@ fn pay_district<const N: usize>(
     payment: &Payment,
 ) -> Result<(), Shortage>
     requires tables { HasTables N (owner_bytes space.old) }
-    requires kept { AllByRecursion (IsKept N space.old) earlier.old }
+    requires undo_log { IsUndoLog N space.old earlier.old }
     requires grown { AllByRecursion (λ row. IsGrownMoney 50000000000000 row.ytd) (tables_of N (owner_bytes space.old)).districts }
     requires amount { payment.now.amount ≤ 500000 }
     ensures tables { OnOk result (HasTables N (owner_bytes space.new)) }
@@ -99,7 +99,7 @@ pub(crate) fn pay_customer<const N: usize>(
     payment: &Payment,
 ) -> Result<Reply, Shortage>
     requires tables { HasTables N (owner_bytes space.old) }
-    requires kept { AllByRecursion (IsKept N space.old) earlier.old }
+    requires undo_log { IsUndoLog N space.old earlier.old }
     requires grown { AllByRecursion (IsGrownCustomer 50000000000000) (tables_of N (owner_bytes space.old)).customers }
     requires amount { payment.now.amount ≤ 500000 }
     ensures tables { OnOk result (HasTables N (owner_bytes space.new)) }
@@ -202,7 +202,7 @@ fn change<R: Row, const N: usize>(
     row: &R,
 ) -> Result<(), Shortage>
     requires tables { HasTables N (owner_bytes space.old) }
-    requires kept { AllByRecursion (IsKept N space.old) earlier.old }
+    requires undo_log { IsUndoLog N space.old earlier.old }
     requires used { slot < used_slots (list_at (owner_bytes space.old) R.SEGMENT) }
     ensures tables { OnOk result (HasTables N (owner_bytes space.new)) }
     ensures rows { OnOk result (ChangesRow N R.BYTES R.row_of_bytes (list_at (owner_bytes space.old) R.SEGMENT) (list_at (owner_bytes space.new) R.SEGMENT) slot row.now) }

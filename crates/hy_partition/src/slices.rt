@@ -9,7 +9,7 @@ ghost use Rattle.hy_schema.specs.Transactions.{is_district_number, payer, refusa
 ghost use Rattle.hy_space.specs.Space.{owner_bytes};
 ghost use Rattle.hy_partition.specs.Changes.{CanUndo, DoesSlice};
 ghost use Rattle.hy_partition.specs.Growth.{IsGrown, IsGrownCustomer};
-ghost use Rattle.hy_partition.specs.Soundness.{IsKept};
+ghost use Rattle.hy_partition.specs.Soundness.{IsUndoLog};
 
 use crate::earlier::EarlierPages;
 use crate::job::Running;
@@ -26,7 +26,7 @@ pub(crate) fn run_slice<const N: usize>(
     running: &Running,
 ) -> Result<Option<Reply>, Shortage>
     requires tables { HasTables N (owner_bytes space.old) }
-    requires kept { AllByRecursion (IsKept N space.old) earlier.old }
+    requires undo_log { IsUndoLog N space.old earlier.old }
     requires grown { running.now.slices ≡ 0 → IsGrown 50000000000000 (tables_of N (owner_bytes space.old)) }
     requires customers { AllByRecursion (IsGrownCustomer 50000000000000) (tables_of N (owner_bytes space.old)).customers }
     requires in_range { is_in_range running.now.command ≡ true }

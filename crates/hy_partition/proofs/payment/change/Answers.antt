@@ -23,7 +23,7 @@ returns-clause-can_undo g c =
     let touched : CanUndo n old mid c.args.earlier.now after = record {
       children = c.in_ok-first_touch.ensures.children;
       undone = c.in_ok-first_touch.ensures.undone;
-      kept = c.in_ok-first_touch.ensures.kept;
+      undo_log = c.in_ok-first_touch.ensures.undo_log;
     } in
     let there : HasPage mid g.R.Row.SEGMENT (slot_page n g.R.Row.BYTES c.args.slot) = has_page-same_shape old mid g.R.Row.SEGMENT (slot_page n g.R.Row.BYTES c.args.slot)
     (SameShape-same (owner_bytes old) (owner_bytes mid) c.in_ok-first_touch.ensures.bytes)
@@ -38,5 +38,5 @@ returns-clause-can_undo g c =
     let Others : Type 0 = Children × Own in
     can_undo-then n old mid new c.args.earlier.now after after touched
     (by_outcome c.put_row.result (both_on_ok Written Others c.put_row.result c.put_row.ensures.page (both_on_ok Children Own c.put_row.result c.put_row.ensures.children c.put_row.ensures.own)) c.put_row.ensures.err
-    (λ (done : Written × Others). can_undo-written n mid new after g.R.Row.SEGMENT (slot_page n g.R.Row.BYTES c.args.slot) there has done.0 done.1.0 done.1.1.others c.in_ok-first_touch.ensures.kept)
-    (λ (same : new ≡ mid). can_undo-none n mid new after same c.in_ok-first_touch.ensures.kept))
+    (λ (done : Written × Others). can_undo-written n mid new after g.R.Row.SEGMENT (slot_page n g.R.Row.BYTES c.args.slot) there has done.0 done.1.0 done.1.1.others c.in_ok-first_touch.ensures.undo_log)
+    (λ (same : new ≡ mid). can_undo-none n mid new after same c.in_ok-first_touch.ensures.undo_log))

@@ -1,10 +1,9 @@
-use Rattle.std.proofs.Common.{◌≡◌, ℕ, List, [], ◌∷◌, ◌++◌, sym, ap, ap₂, ◌∙◌, subst}
-use Rattle.std.specs.List.{AllByRecursion}
+use Rattle.std.proofs.Common.{rules, ◌≡◌, ℕ, List, [], ◌∷◌, ◌++◌, sym, ap, ap₂, ◌∙◌, subst}
 use Rattle.hy_space.specs.Space.{owner_bytes}
 use Rattle.hy_partition.specs.Undone.{Earlier, undone}
-use Rattle.hy_partition.specs.Soundness.{IsKept}
+use Rattle.hy_partition.specs.Soundness.{IsKept, IsUndoLog}
 use Rattle.hy_partition.proofs.PageChanges.{undone-kept}
-use Rattle.hy_partition.proofs.KeptLaws.{SameShape-same, all_kept, all_kept-append, has_page-same_shape}
+use Rattle.hy_partition.proofs.KeptLaws.{SameShape-same, undo_log-append, undo_log-still, has_page-same_shape}
 use Rattle.hy_partition.proofs.earlier.EarlierPages.first_touch.Goals as goal
 use Rattle.hy_partition.proofs.earlier.EarlierPages.first_touch.Given as given
 
@@ -12,8 +11,8 @@ use Rattle.hy_partition.proofs.earlier.EarlierPages.first_touch.Given as given
 items : (g : given.Over) (c : goal.After-push_reserved g) → c.push_reserved.new.self.items ≡ c.args.self.now ++ record { segment = c.args.segment; page = c.args.page; bytes = c.in_ok-bytes.bytes } ∷ []
 items g c = c.push_reserved.ensures.items ∙ ap (λ (front : List Earlier). front ++ record { segment = c.args.segment; page = c.args.page; bytes = c.in_ok-bytes.bytes } ∷ []) (c.reserve.ensures.items ∙ c.self.view_is)
 
-pub returns-clause-kept : goal.returns-clause-kept
-returns-clause-kept g c =
+pub returns-clause-undo_log : goal.returns-clause-undo_log
+returns-clause-undo_log g c =
     let shape = SameShape-same (owner_bytes c.args.space.now) (owner_bytes c.own.new.self) c.in_ok-bytes.ensures.bytes in
     let last : Earlier = record { segment = c.args.segment; page = c.args.page; bytes = c.in_ok-bytes.bytes } in
     let last_kept : IsKept g.row.N c.own.new.self last = record {
@@ -21,8 +20,8 @@ returns-clause-kept g c =
       own = c.in_ok-bytes.ensures.own.own;
       size = c.know_size.ensures;
     } in
-    subst (λ (all : List Earlier). AllByRecursion (IsKept g.row.N c.own.new.self) all) (sym (items g c))
-    (all_kept-append g.row.N c.own.new.self c.args.self.now last (all_kept g.row.N c.args.space.now c.own.new.self c.args.self.now shape c.in_ok-bytes.ensures.own.others c.requires.kept) last_kept)
+    subst (λ (all : List Earlier). IsUndoLog g.row.N c.own.new.self all) (sym (items g c))
+    (undo_log-append g.row.N c.own.new.self c.args.self.now last (undo_log-still g.row.N c.args.space.now c.own.new.self c.args.self.now shape c.in_ok-bytes.ensures.own.others c.requires.undo_log) last_kept (search rules))
 
 pub returns-clause-undone : goal.returns-clause-undone
 returns-clause-undone g c =

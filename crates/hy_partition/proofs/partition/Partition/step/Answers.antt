@@ -20,7 +20,7 @@ run_slice-requires g c =
     let p : PartitionState = partition_of c.self.inside in
     let job : RunningJob = record { command = c.in-Some.running.command; slices = c.in-Some.running.slices } in
     let running : p.running ≡ Some job = c.in-Some.is in
-    (omega arith, (omega arith, (tables-running g.row.N _ p c.self.invariant job running, ((runs g.row.N _ p c.self.invariant job running).own, (grown-first g.row.N _ p c.self.invariant job running, (customers-running g.row.N _ p c.self.invariant job running, in_range-running g.row.N _ p c.self.invariant job running))))))
+    (omega arith, (omega arith, (tables-running g.row.N _ p c.self.invariant job running, ((runs g.row.N _ p c.self.invariant job running).undo_log, (grown-first g.row.N _ p c.self.invariant job running, (customers-running g.row.N _ p c.self.invariant job running, in_range-running g.row.N _ p c.self.invariant job running))))))
 
 pub invariant_of-self-in-Ok-Some : goal.invariant_of-self-in-Ok-Some
 invariant_of-self-in-Ok-Some g c =
