@@ -12,3 +12,4 @@ pub mod SoundLaws
 pub mod LoadLaws
 pub mod StepsToLaws
 pub mod FinishLaws
+pub mod FillLaws

@@ -1,8 +1,17 @@
 -- Rows of one table in the bytes of a page table.
-use Rattle.std.specs.Prelude.{◌≡◌, ◌≢◌, ℕ, Bool, true, false, List, drop, Option, None, Some}
+use Rattle.std.specs.Prelude.{◌≡◌, ◌≢◌, ℕ, ◌+◌, Bool, true, false, List, length, drop, Option, None, Some}
 use Rattle.hy_schema.specs.Finding.{with_changed}
+use Rattle.hy_schema.specs.Tables.{Tables}
 use Rattle.hy_schema.specs.Spelling.{IsFirstMatch, is_live, list_at, rows_of, slot_at}
-use Rattle.hy_space.specs.Space.{SpaceState, with_page}
+use Rattle.hy_space.specs.Space.{SpaceState, owner_bytes, with_page}
+
+-- the bytes of the owner's pages in one segment
+abbrev pub owner_pages : SpaceState → ℕ → List (List ℕ)
+owner_pages space segment = list_at (owner_bytes space) segment
+
+-- how many rows there are
+abbrev pub row_count : Tables → ℕ
+row_count tables = length tables.warehouses + length tables.districts + length tables.customers
 
 -- the row of a slot, or none where the slot isn't live
 abbrev pub LiveRow : {Row : Type 0} → (List ℕ → Row) → List ℕ → Option Row → Type 0

@@ -1,5 +1,5 @@
 -- What the calls on a partition do to it.
-use Rattle.std.specs.Prelude.{◌≡◌, ◌≢◌, ℕ, ◌+◌, ◌||◌, ◌==◌, ◌⊎◌, if◌then◌else◌, Bool, true, false, is_some, [], ◌∷◌, ◌++◌, length, Option, None, Some}
+use Rattle.std.specs.Prelude.{◌≡◌, ◌≢◌, ℕ, ◌+◌, ◌≤◌, ◌||◌, ◌==◌, ◌⊎◌, if◌then◌else◌, Bool, true, false, is_some, [], ◌∷◌, ◌++◌, length, Option, None, Some}
 use Rattle.std.specs.Option.{option_or}
 use Rattle.hy_schema.specs.declared.command.Command.{Command}
 use Rattle.hy_schema.specs.declared.command.Commit.TheVariants as commits
@@ -17,6 +17,7 @@ use Rattle.hy_partition.specs.declared.job.Progress.TheVariants as progress
 use Rattle.hy_partition.specs.Undone.{undone}
 use Rattle.hy_partition.specs.Partition.{PartitionState, rows_now, commits_of}
 use Rattle.hy_partition.specs.Jobs.{RunningJob, is_last}
+use Rattle.hy_partition.specs.Rows.{row_count}
 use Rattle.hy_partition.specs.Snapshots.{SnapshotState}
 
 -- a job runs, or its reply wasn't taken
@@ -112,7 +113,8 @@ pub record Closes (old new : PartitionState) (child : ℕ) : Type 0 where
   pub job : KeepsJob old new
   pub others : KeepsOthers old new child
 
--- a partition with the rows of one warehouse of a load, with nothing kept and no snapshot
+-- a partition with the rows of one warehouse of a load, with nothing kept and no snapshot. Each table took one frame, and
+-- each row at most one more
 pub record Begins (load : Tables) (number frames commits : ℕ) (p : PartitionState) : Type 0 where
   pub warehouse : p.warehouse ≡ number
   pub loaded : p.loaded ≡ of_warehouse number load
@@ -122,4 +124,5 @@ pub record Begins (load : Tables) (number frames commits : ℕ) (p : PartitionSt
   pub earlier : p.earlier ≡ []
   pub finished : p.finished ≡ None
   pub max_frames : p.space.frames.max ≡ frames
+  pub free_frames : frames ≤ free_of p.space.frames + 3 + row_count p.loaded
   pub snapshots : (child : ℕ) → commits_of p child ≡ None

@@ -1,10 +1,11 @@
 //! The pages that a partition begins with.
 
-ghost use Rattle.std.specs.Prelude.{◌≡◌, ℕ, ◌+◌, ◌<◌, ◌≤◌, ◌++◌, ◌∷◌, [], List, length, filter, take, IfOk, OnOk, None};
-ghost use Rattle.hy_schema.specs.Spelling.{HasTables, Spells, list_at, rows_of, slot_page, tables_of, used_slots};
+ghost use Rattle.std.specs.Prelude.{◌≡◌, ℕ, ◌+◌, ◌<◌, ◌≤◌, ◌++◌, ◌∷◌, [], List, length, filter, take, Err, IfOk, OnOk, None};
+ghost use Rattle.hy_frames.specs.FrameTable.{free_of};
+ghost use Rattle.hy_schema.specs.Spelling.{HasTables, Spells, rows_of, slot_page, tables_of, used_slots};
 ghost use Rattle.hy_schema.specs.Tables.{of_warehouse};
 ghost use Rattle.hy_space.specs.Space.{owner_bytes};
-ghost use Rattle.hy_partition.specs.Rows.{KeepsOtherSegments, StaysOpen};
+ghost use Rattle.hy_partition.specs.Rows.{KeepsOtherSegments, StaysOpen, row_count, owner_pages};
 
 use crate::keyed::Keyed;
 use crate::places::{place_of, used_of};
@@ -68,6 +69,8 @@ pub(crate) fn pages_with<const N: usize>(
     requires limit { max_frames ≤ 10000000 }
     ensures spells { IfOk result (λ space. Spells N (owner_bytes space) rows.now) }
     ensures stays { IfOk result (λ space. (space.children ≡ []) × (space.frames.max ≡ max_frames)) }
+    ensures frames { IfOk result (λ space. max_frames ≤ free_of space.frames + 3 + row_count rows.now) }
+    ensures no_frame { result ≡ Err Shortage.NoFrame → max_frames ≤ 3 + row_count rows.now }
 {
     let mut space = empty_tables(alloc, max_frames)?;
     push_all(&mut space, rows.warehouses.as_slice())?;
@@ -85,6 +88,8 @@ fn empty_tables<const N: usize>(alloc: Global, max_frames: u64) -> Result<Space<
     ensures tables { IfOk result (λ space. HasTables N (owner_bytes space)) }
     ensures empty { IfOk result (λ space. tables_of N (owner_bytes space) ≡ record { warehouses = []; districts = []; customers = [] }) }
     ensures stays { IfOk result (λ space. (space.children ≡ []) × (space.frames.max ≡ max_frames)) }
+    ensures frames { IfOk result (λ space. free_of space.frames + 3 ≡ max_frames) }
+    ensures no_frame { result ≡ Err Shortage.NoFrame → max_frames ≤ 3 }
 {
     let Ok(mut space) = Space::new(alloc, 3, max_frames) else {
         return Err(Shortage::NoMemory);
@@ -99,9 +104,11 @@ fn empty_tables<const N: usize>(alloc: Global, max_frames: u64) -> Result<Space<
 fn push_all<R: Row, const N: usize>(space: &mut Space<N>, rows: &[R]) -> Result<(), Shortage>
     requires { HasTables N (owner_bytes space.old) }
     ensures tables { OnOk result (HasTables N (owner_bytes space.new)) }
-    ensures rows { OnOk result (rows_of N R.BYTES R.row_of_bytes (list_at (owner_bytes space.new) R.SEGMENT) ≡ rows_of N R.BYTES R.row_of_bytes (list_at (owner_bytes space.old) R.SEGMENT) ++ rows.now) }
+    ensures rows { OnOk result (rows_of N R.BYTES R.row_of_bytes (owner_pages space.new R.SEGMENT) ≡ rows_of N R.BYTES R.row_of_bytes (owner_pages space.old R.SEGMENT) ++ rows.now) }
     ensures others { OnOk result (KeepsOtherSegments (owner_bytes space.old) (owner_bytes space.new) R.SEGMENT) }
     ensures stays { OnOk result (StaysOpen space.old space.new) }
+    ensures frames { space.old.children ≡ [] → free_of space.old.frames ≤ free_of space.new.frames + length rows.now }
+    ensures no_frame { result ≡ Err Shortage.NoFrame → free_of space.new.frames ≡ 0 }
 {
     for row in rows {
         push_row(space, row)?;
@@ -113,9 +120,11 @@ fn push_all<R: Row, const N: usize>(space: &mut Space<N>, rows: &[R]) -> Result<
 fn push_row<R: Row, const N: usize>(space: &mut Space<N>, row: &R) -> Result<(), Shortage>
     requires { HasTables N (owner_bytes space.old) }
     ensures tables { OnOk result (HasTables N (owner_bytes space.new)) }
-    ensures rows { OnOk result (rows_of N R.BYTES R.row_of_bytes (list_at (owner_bytes space.new) R.SEGMENT) ≡ rows_of N R.BYTES R.row_of_bytes (list_at (owner_bytes space.old) R.SEGMENT) ++ row.now ∷ []) }
+    ensures rows { OnOk result (rows_of N R.BYTES R.row_of_bytes (owner_pages space.new R.SEGMENT) ≡ rows_of N R.BYTES R.row_of_bytes (owner_pages space.old R.SEGMENT) ++ row.now ∷ []) }
     ensures others { OnOk result (KeepsOtherSegments (owner_bytes space.old) (owner_bytes space.new) R.SEGMENT) }
     ensures stays { OnOk result (StaysOpen space.old space.new) }
+    ensures frames { space.old.children ≡ [] → free_of space.old.frames ≤ free_of space.new.frames + 1 }
+    ensures no_frame { result ≡ Err Shortage.NoFrame → free_of space.new.frames ≡ 0 }
 {
     make_place::<R, N>(space)?;
     fill_place(space, row)
@@ -125,10 +134,12 @@ fn push_row<R: Row, const N: usize>(space: &mut Space<N>, row: &R) -> Result<(),
 fn make_place<R: Row, const N: usize>(space: &mut Space<N>) -> Result<(), Shortage>
     requires { HasTables N (owner_bytes space.old) }
     ensures tables { OnOk result (HasTables N (owner_bytes space.new)) }
-    ensures place { OnOk result (slot_page N R.BYTES (used_slots (list_at (owner_bytes space.new) R.SEGMENT)) < length (list_at (owner_bytes space.new) R.SEGMENT)) }
-    ensures rows { OnOk result (rows_of N R.BYTES R.row_of_bytes (list_at (owner_bytes space.new) R.SEGMENT) ≡ rows_of N R.BYTES R.row_of_bytes (list_at (owner_bytes space.old) R.SEGMENT)) }
+    ensures place { OnOk result (slot_page N R.BYTES (used_slots (owner_pages space.new R.SEGMENT)) < length (owner_pages space.new R.SEGMENT)) }
+    ensures rows { OnOk result (rows_of N R.BYTES R.row_of_bytes (owner_pages space.new R.SEGMENT) ≡ rows_of N R.BYTES R.row_of_bytes (owner_pages space.old R.SEGMENT)) }
     ensures others { OnOk result (KeepsOtherSegments (owner_bytes space.old) (owner_bytes space.new) R.SEGMENT) }
     ensures stays { OnOk result (StaysOpen space.old space.new) }
+    ensures frames { free_of space.old.frames ≤ free_of space.new.frames + 1 }
+    ensures no_frame { result ≡ Err Shortage.NoFrame → free_of space.new.frames ≡ 0 }
 {
     space.sound();
     let used = used_of::<R, N>(space);
@@ -142,11 +153,13 @@ fn make_place<R: Row, const N: usize>(space: &mut Space<N>) -> Result<(), Shorta
 /// Fills the slot behind the used ones, whose page is there, and counts it.
 fn fill_place<R: Row, const N: usize>(space: &mut Space<N>, row: &R) -> Result<(), Shortage>
     requires tables { HasTables N (owner_bytes space.old) }
-    requires place { slot_page N R.BYTES (used_slots (list_at (owner_bytes space.old) R.SEGMENT)) < length (list_at (owner_bytes space.old) R.SEGMENT) }
+    requires place { slot_page N R.BYTES (used_slots (owner_pages space.old R.SEGMENT)) < length (owner_pages space.old R.SEGMENT) }
     ensures tables { OnOk result (HasTables N (owner_bytes space.new)) }
-    ensures rows { OnOk result (rows_of N R.BYTES R.row_of_bytes (list_at (owner_bytes space.new) R.SEGMENT) ≡ rows_of N R.BYTES R.row_of_bytes (list_at (owner_bytes space.old) R.SEGMENT) ++ row.now ∷ []) }
+    ensures rows { OnOk result (rows_of N R.BYTES R.row_of_bytes (owner_pages space.new R.SEGMENT) ≡ rows_of N R.BYTES R.row_of_bytes (owner_pages space.old R.SEGMENT) ++ row.now ∷ []) }
     ensures others { OnOk result (KeepsOtherSegments (owner_bytes space.old) (owner_bytes space.new) R.SEGMENT) }
     ensures stays { OnOk result (StaysOpen space.old space.new) }
+    ensures frames { space.old.children ≡ [] → free_of space.new.frames ≡ free_of space.old.frames }
+    ensures no_frame { result ≡ Err Shortage.NoFrame → free_of space.new.frames ≡ 0 }
 {
     space.sound();
     let used = used_of::<R, N>(space);

@@ -3,10 +3,12 @@
 ghost use Rattle.std.specs.Prelude.{◌≡◌, ◌≢◌, ℕ, ◌+◌, ◌<◌, ◌≤◌, vec_capacity, slice_index_or, ◌↔◌, ◌⊎◌, IsTrue, IsSome, IsSomeAnd, List, length, Option, Some, None, Ok, Err, IfOk, IfErr, IsOk, IsOkAnd, OnOk, OnErr, MatchOption, MatchResult};
 ghost use Rattle.hy_frames.specs.FrameTable.{free_of, shared_of, IsLimitFor};
 ghost use Rattle.hy_schema.specs.declared.refusal.Refusal.{Refusal};
+ghost use Rattle.hy_schema.specs.Tables.{of_warehouse};
 ghost use Rattle.hy_space.specs.Space.{SameForChildren};
 ghost use Rattle.hy_partition.specs.Headline.{Headline};
 ghost use Rattle.hy_partition.specs.Partition.{PartitionState, rows_now};
 ghost use Rattle.hy_partition.specs.Jobs.{is_last};
+ghost use Rattle.hy_partition.specs.Rows.{row_count};
 ghost use Rattle.hy_partition.specs.Soundness.{IsUndoLog};
 ghost use Rattle.hy_partition.specs.Steps.{begin_refusal, Accepts, Begins, Closes, Forks, IsOpen, KeepsJob, Refuses, StepsTo};
 
@@ -51,8 +53,8 @@ impl<const N: usize> Model for Partition<N> {
 }
 
 impl<const N: usize> Partition<N> {
-    /// The warehouse's rows of the load, with nothing kept and no snapshot. E2 where `max_frames` is too small for the
-    /// rows; at most `max_kept` commits will be kept.
+    /// The warehouse's rows of the load, with nothing kept and no snapshot; at most `max_kept` commits will be kept. E2
+    /// where `max_frames` is too small for the rows: never where it is more than their number and three. E1.
     pub fn new(
         alloc: Global,
         load: &Load,
@@ -69,7 +71,7 @@ impl<const N: usize> Partition<N> {
         requires first { 1 ≤ warehouse }
         requires last { warehouse ≤ length load.now.warehouses }
         ensures begins { IfOk result (Begins load.now warehouse max_frames max_kept) }
-        ensures refused { IfErr result (λ refusal. (refusal ≡ Refusal.NoMemory) ⊎ (refusal ≡ Refusal.NoFrame)) }
+        ensures refused { IfErr result (λ refusal. (refusal ≡ Refusal.NoMemory) ⊎ ((refusal ≡ Refusal.NoFrame) × (max_frames ≤ 3 + row_count (of_warehouse warehouse load.now)))) }
     {
         load.sound();
         let Ok(loaded) = rows_of_warehouse(alloc, load, warehouse) else {

@@ -4,13 +4,13 @@ ghost use Rattle.std.specs.Prelude.{◌≡◌, ℕ, ◌+◌, ◌<◌, ◌≤◌,
 ghost use Rattle.std.specs.List.{AllByRecursion};
 ghost use Rattle.hy_frames.specs.FrameTable.{free_of};
 ghost use Rattle.hy_schema.specs.Finding.{is_district, is_warehouse, with_changed};
-ghost use Rattle.hy_schema.specs.Spelling.{HasTables, IsFirstMatch, list_at, rows_of, slot_at, tables_of, used_slots};
+ghost use Rattle.hy_schema.specs.Spelling.{HasTables, IsFirstMatch, rows_of, slot_at, tables_of, used_slots};
 ghost use Rattle.hy_schema.specs.Commands.{number_of_who};
 ghost use Rattle.hy_schema.specs.Transactions.{customer_paid, district_paid, payer, payment_reply, warehouse_paid};
 ghost use Rattle.hy_space.specs.Space.{owner_bytes};
 ghost use Rattle.hy_partition.specs.Changes.{CanUndo, customer_changed};
 ghost use Rattle.hy_partition.specs.Growth.{IsGrown, IsGrownCustomer, IsGrownMoney};
-ghost use Rattle.hy_partition.specs.Rows.{ChangesRow, KeepsOtherSegments};
+ghost use Rattle.hy_partition.specs.Rows.{ChangesRow, KeepsOtherSegments, owner_pages};
 ghost use Rattle.hy_partition.specs.Soundness.{IsUndoLog, half_paid};
 
 use crate::earlier::EarlierPages;
@@ -203,9 +203,9 @@ fn change<R: Row, const N: usize>(
 ) -> Result<(), Shortage>
     requires tables { HasTables N (owner_bytes space.old) }
     requires undo_log { IsUndoLog N space.old earlier.old }
-    requires used { slot < used_slots (list_at (owner_bytes space.old) R.SEGMENT) }
+    requires used { slot < used_slots (owner_pages space.old R.SEGMENT) }
     ensures tables { OnOk result (HasTables N (owner_bytes space.new)) }
-    ensures rows { OnOk result (ChangesRow N R.BYTES R.row_of_bytes (list_at (owner_bytes space.old) R.SEGMENT) (list_at (owner_bytes space.new) R.SEGMENT) slot row.now) }
+    ensures rows { OnOk result (ChangesRow N R.BYTES R.row_of_bytes (owner_pages space.old R.SEGMENT) (owner_pages space.new R.SEGMENT) slot row.now) }
     ensures others { OnOk result (KeepsOtherSegments (owner_bytes space.old) (owner_bytes space.new) R.SEGMENT) }
     ensures can_undo { CanUndo N space.old space.new earlier.old earlier.new }
     ensures no_frame { result ≡ Err Shortage.NoFrame → free_of space.new.frames ≡ 0 }

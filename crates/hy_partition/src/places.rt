@@ -3,9 +3,9 @@
 ghost use Rattle.std.specs.Prelude.{◌≡◌, ℕ, ◌+◌, ◌-◌, ◌*◌, ◌^◌, ◌<◌, ◌≤◌, List, ◌++◌, ◌∷◌, [], length, Some, None, Err, find, IfSome, IfNone, OnOk, OnErr};
 ghost use Rattle.hy_page.specs.Bytes.{bytes_at, overwritten};
 ghost use Rattle.hy_schema.specs.Slots.{slot_written};
-ghost use Rattle.hy_schema.specs.Spelling.{HasTables, IsFirstMatch, list_at, rows_of, slot_at, slot_offset, slot_page, slot_width, used_slots};
+ghost use Rattle.hy_schema.specs.Spelling.{HasTables, IsFirstMatch, rows_of, slot_at, slot_offset, slot_page, slot_width, used_slots};
 ghost use Rattle.hy_space.specs.Space.{owner_bytes, HasPage, page_at, with_page, SameForChildren, MakesOwn, LacksFrame};
-ghost use Rattle.hy_partition.specs.Rows.{ChangesRow, LiveRow, KeepsOtherSegments, WritesPage};
+ghost use Rattle.hy_partition.specs.Rows.{ChangesRow, LiveRow, KeepsOtherSegments, WritesPage, owner_pages};
 
 use crate::keyed::Keyed;
 use hy_frames::Shortage;
@@ -59,7 +59,7 @@ pub(crate) fn row_at<R: Row, const N: usize>(page: &Page<N>, offset: usize) -> O
 /// How many slots the table of a row type has used, in the owner's pages.
 pub(crate) fn used_of<R: Row, const N: usize>(space: &Space<N>) -> u64
     requires { HasTables N (owner_bytes space.now) }
-    ensures value { result ≡ used_slots (list_at (owner_bytes space.now) R.SEGMENT) }
+    ensures value { result ≡ used_slots (owner_pages space.now R.SEGMENT) }
     ensures small { result < 2 ^ 56 }
 {
     space.sound();
@@ -70,7 +70,7 @@ pub(crate) fn used_of<R: Row, const N: usize>(space: &Space<N>) -> u64
 /// Where a used slot lies in the owner's pages.
 pub(crate) fn place_in<R: Row, const N: usize>(space: &Space<N>, slot: u64) -> Place
     requires tables { HasTables N (owner_bytes space.now) }
-    requires used { slot < used_slots (list_at (owner_bytes space.now) R.SEGMENT) }
+    requires used { slot < used_slots (owner_pages space.now R.SEGMENT) }
     ensures page { result.page ≡ slot_page N R.BYTES slot }
     ensures offset { result.offset ≡ slot_offset N R.BYTES slot }
     ensures fits { result.offset + slot_width R.BYTES ≤ N }
@@ -85,8 +85,8 @@ pub(crate) fn place_in<R: Row, const N: usize>(space: &Space<N>, slot: u64) -> P
 /// The row of a used slot in the owner's pages, if the slot is live.
 pub(crate) fn row_in<R: Row, const N: usize>(space: &Space<N>, slot: u64) -> Option<R>
     requires tables { HasTables N (owner_bytes space.now) }
-    requires used { slot < used_slots (list_at (owner_bytes space.now) R.SEGMENT) }
-    ensures { LiveRow R.row_of_bytes (slot_at N R.BYTES (list_at (owner_bytes space.now) R.SEGMENT) slot) result }
+    requires used { slot < used_slots (owner_pages space.now R.SEGMENT) }
+    ensures { LiveRow R.row_of_bytes (slot_at N R.BYTES (owner_pages space.now R.SEGMENT) slot) result }
 {
     space.sound();
     let place = place_in::<R, N>(space, slot);
@@ -96,9 +96,9 @@ pub(crate) fn row_in<R: Row, const N: usize>(space: &Space<N>, slot: u64) -> Opt
 /// The first row with a key, in the owner's pages.
 pub(crate) fn find_row<R: Keyed, const N: usize>(space: &Space<N>, key: &R::Key) -> Option<Found<R>>
     requires { HasTables N (owner_bytes space.now) }
-    ensures none { IfNone result (find (R.is_at key.now) (rows_of N R.BYTES R.row_of_bytes (list_at (owner_bytes space.now) R.SEGMENT)) ≡ None) }
-    ensures found { IfSome result (λ found. IsFirstMatch R.row_of_bytes (R.is_at key.now) (slot_at N R.BYTES (list_at (owner_bytes space.now) R.SEGMENT)) found.slot found.row) }
-    ensures used { IfSome result (λ found. found.slot < used_slots (list_at (owner_bytes space.now) R.SEGMENT)) }
+    ensures none { IfNone result (find (R.is_at key.now) (rows_of N R.BYTES R.row_of_bytes (owner_pages space.now R.SEGMENT)) ≡ None) }
+    ensures found { IfSome result (λ found. IsFirstMatch R.row_of_bytes (R.is_at key.now) (slot_at N R.BYTES (owner_pages space.now R.SEGMENT)) found.slot found.row) }
+    ensures used { IfSome result (λ found. found.slot < used_slots (owner_pages space.now R.SEGMENT)) }
 {
     for slot in 0..used_of::<R, N>(space) {
         let Some(row) = row_in::<R, N>(space, slot) else {
@@ -118,9 +118,9 @@ pub(crate) fn put_row<R: Row, const N: usize>(
     row: &R,
 ) -> Result<(), Shortage>
     requires tables { HasTables N (owner_bytes space.old) }
-    requires used { slot < used_slots (list_at (owner_bytes space.old) R.SEGMENT) }
+    requires used { slot < used_slots (owner_pages space.old R.SEGMENT) }
     ensures tables { OnOk result (HasTables N (owner_bytes space.new)) }
-    ensures rows { OnOk result (ChangesRow N R.BYTES R.row_of_bytes (list_at (owner_bytes space.old) R.SEGMENT) (list_at (owner_bytes space.new) R.SEGMENT) slot row.now) }
+    ensures rows { OnOk result (ChangesRow N R.BYTES R.row_of_bytes (owner_pages space.old R.SEGMENT) (owner_pages space.new R.SEGMENT) slot row.now) }
     ensures others { OnOk result (KeepsOtherSegments (owner_bytes space.old) (owner_bytes space.new) R.SEGMENT) }
     ensures page { OnOk result (WritesPage (owner_bytes space.old) (owner_bytes space.new) R.SEGMENT (slot_page N R.BYTES slot)) }
     ensures children { OnOk result (SameForChildren space.old space.new) }

@@ -1,4 +1,5 @@
-use Rattle.std.proofs.Common.{◌≡◌, take, ◌++◌}
+use Rattle.std.proofs.Common.{◌≡◌, ◌≤◌, ◌+◌, [], take, ◌++◌}
+use Rattle.hy_frames.specs.FrameTable.{free_of}
 use Rattle.hy_schema.specs.Spelling.{HasTables, list_at, rows_of}
 use Rattle.hy_space.specs.Space.{owner_bytes}
 use Rattle.hy_partition.specs.Rows.{KeepsOtherSegments, StaysOpen}
@@ -12,4 +13,5 @@ invariant-loop-row g l = record {
       ≡ rows_of g.row.N g.R.Row.BYTES g.R.Row.row_of_bytes (list_at (owner_bytes l.fn.space) g.R.Row.SEGMENT) ++ take l.row-index l.rows;
   others : KeepsOtherSegments (owner_bytes l.fn.space) (owner_bytes l.space) g.R.Row.SEGMENT;
   stays : StaysOpen l.fn.space l.space;
+  frames : l.fn.space.children ≡ [] → free_of l.fn.space.frames ≤ free_of l.space.frames + l.row-index;
 }

@@ -34,9 +34,9 @@ invariant_of-self g c =
     let p : PartitionState = partition_of c.self.inside in
     let owner = c.set_max.ensures.owner in
     let own : (segment page : ℕ) → HasPage p.space segment page → IsOwn p.space segment page → IsOwn c.set_max.new.self segment page = λ segment page there is_own.
-        ap (λ (table : List (List ℕ)). count_of c.set_max.new.self.frames (slice_index (slice_index_or table segment []) page)) owner.table
-        ∙ ap (λ (frames : List Frame). count_of (record p.space.frames { frames = frames }) (frame_no p.space segment page)) c.set_max.ensures.frames
-        ∙ is_own in
+    ap (λ (table : List (List ℕ)). count_of c.set_max.new.self.frames (slice_index (slice_index_or table segment []) page)) owner.table
+    ∙ ap (λ (frames : List Frame). count_of (record p.space.frames { frames = frames }) (frame_no p.space segment page)) c.set_max.ensures.frames
+    ∙ is_own in
     let after : PartitionState = record p { space = c.set_max.new.self } in
     sound-snapshots g.row.N _ p c.self.invariant c.set_max.new.self p.snapshots owner.bytes
     (undo_log-still g.row.N p.space c.set_max.new.self p.earlier (SameShape-same (owner_bytes p.space) (owner_bytes c.set_max.new.self) owner.bytes) own)
