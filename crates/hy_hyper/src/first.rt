@@ -57,7 +57,7 @@ fn pay(partition: &mut Partition<PAGE_BYTES>, payment: Payment) -> Result<(), Re
         unreachable!();
     };
     match done.open() {
-        Reply::Payment(_, _) => Ok(()),
+        Reply::Payment { .. } => Ok(()),
         Reply::Refused(refusal) => Err(refusal),
     }
 }

@@ -35,6 +35,14 @@ fn payment(amount: u64) -> Job {
     }))
 }
 
+/// The reply to an accepted payment of customer 1, with the balance after it in cents.
+fn paid(balance: i64) -> Reply {
+    Reply::Payment {
+        customer: 1,
+        balance,
+    }
+}
+
 /// The reply to a payment.
 fn pay<const N: usize>(partition: &mut Partition<N>, amount: u64) -> Result<Reply, Refusal>
     ensures { KeepsOpen partition.old partition.new }
@@ -88,7 +96,7 @@ fn stays<const N: usize>(rt: &(impl Abort + AllocGlobal)) -> Result<(), Fail>
 {
     let mut partition: Partition<N> = begun(rt);
     let first = take(rt, &mut partition);
-    assert_eq!(rt; pay(&mut partition, 100), Ok(Reply::Payment(1, -1100)));
+    assert_eq!(rt; pay(&mut partition, 100), Ok(paid(-1100)));
     let second = take(rt, &mut partition);
     assert!(rt; ytd(rt, &first) == 30_000 && first.commits() == 0);
     assert!(rt; ytd(rt, &second) == 30_100 && second.commits() == 1);
@@ -137,7 +145,7 @@ fn without_a_frame<const N: usize>(rt: &(impl Abort + AllocGlobal)) -> Result<()
     assert!(rt; partition.kept().is_empty());
     close(&mut partition, first);
     close(&mut partition, second);
-    assert_eq!(rt; pay(&mut partition, 100), Ok(Reply::Payment(1, -1100)));
+    assert_eq!(rt; pay(&mut partition, 100), Ok(paid(-1100)));
     let third = take(rt, &mut partition);
     assert_eq!(rt; ytd(rt, &third), 30_100);
     close(&mut partition, third);
@@ -205,7 +213,7 @@ fn slices_one_by_one(rt: HostRuntime) -> Result<(), Fail> {
     assert_eq!(rt; partition.step(), Ok(Progress::Finished));
     assert!(rt; partition.touched() == 0 && partition.kept().len() == 1);
     let done = partition.take_done().expect(&rt, "an answer");
-    assert_eq!(rt; done.open(), Reply::Payment(1, -1100));
+    assert_eq!(rt; done.open(), paid(-1100));
     assert!(rt; partition.take_done().is_none());
     partition.headline();
     Ok(())

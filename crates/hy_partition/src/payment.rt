@@ -135,7 +135,10 @@ pub(crate) fn payer_key(payment: &Payment) -> CustomerKey
 fn reply_for(row: &Customer) -> Reply
     ensures { result ≡ Reply.Payment row.now.id row.now.balance }
 {
-    Reply::Payment(row.id, row.balance)
+    Reply::Payment {
+        customer: row.id,
+        balance: row.balance,
+    }
 }
 
 /// A warehouse after a payment of some cents.

@@ -1,13 +1,9 @@
 -- The fresh load of the worked examples is a load.
-use Rattle.std.proofs.Common.{◌≡◌, ℕ, zero, suc, ◌+◌, ◌<◌, ◌≤◌, ◌&&◌, Bool, true, false, IsTrue, nat_le, List, [], ◌∷◌, slice_get, IfSome, codes, refl, subst, inl, inr, lit≤, lit<, arith}
-use Rattle.std.specs.List.{list_all}
-use Rattle.std.proofs.lemmas.Bool.{false≢true}
-use Rattle.std.proofs.lemmas.Bool.Decides.{nat_tests}
+use Rattle.std.proofs.Common.{◌≡◌, ℕ, zero, suc, ◌+◌, ◌<◌, List, [], ◌∷◌, slice_get, IfSome, codes, refl, subst, inl, inr, lit≤, lit<, arith}
 use Rattle.std.proofs.lemmas.Int.{ints}
-use Rattle.std.proofs.lemmas.List.Elements.{All-nil, All-cons}
-use Rattle.hy_schema.specs.Texts.{IsPrintable}
 use Rattle.hy_schema.specs.Ranges.{IsBetween, IsLoadedText, IsCustomerInRange}
 use Rattle.hy_schema.specs.Loads.{IsWarehouseAt, IsDistrictAt, IsCustomerAt, IsLoad}
+use Rattle.hy_schema.proofs.PrintableLaws.{printable}
 use Rattle.hy_schema.specs.WorkedRows.{fresh, fresh_district, fresh_customer, fresh-condition_1, fresh-condition_12}
 
 -- the rows of a list are right, the first of them at a place
@@ -28,26 +24,6 @@ right_everywhere : {Row : Type 0} (right : ℕ → Row → Type 0) (rows : List 
 right_everywhere right rows all place =
     let same : 0 + place ≡ place = omega arith in
     subst (λ p. IfSome (slice_get rows place) (right p)) same (right_at right rows 0 all place)
-
--- a test of a byte
-abbrev is_printable_byte : ℕ → Bool
-is_printable_byte byte = nat_le 32 byte && nat_le byte 126
-
--- a byte that passes the test is printable
-printable_byte : (byte : ℕ) → IsTrue (is_printable_byte byte) → (32 ≤ byte) × (byte ≤ 126)
-printable_byte byte passes = grind (arith, nat_tests)
-
--- both parts of a test that passes pass
-both_parts : (x y : Bool) → (x && y) ≡ true → (x ≡ true) × (y ≡ true)
-both_parts true y both = (refl, both)
-both_parts false y both = absurd (false≢true both)
-
--- so is a text whose bytes all pass
-printable : (text : List ℕ) → IsTrue (list_all is_printable_byte text) → IsPrintable text
-printable [] passes = All-nil (λ byte. (32 ≤ byte) × (byte ≤ 126))
-printable (byte ∷ bytes) passes =
-    let parts = both_parts (is_printable_byte byte) (list_all is_printable_byte bytes) passes in
-    All-cons (λ b. (32 ≤ b) × (b ≤ 126)) byte bytes (printable_byte byte parts.0) (printable bytes parts.1)
 
 -- a district of the fresh load is right at its place
 district_right : (place : ℕ) (name : List ℕ) → place < 10 → IsLoadedText 10 name → IsDistrictAt 1 place (fresh_district (place + 1) name)

@@ -5,3 +5,5 @@ pub mod RowLaws
 pub mod ChangedRows
 pub mod SlotPlaces
 pub mod FreshLoad
+pub mod PrintableLaws
+pub mod WorkedRanges

@@ -18,6 +18,7 @@ is_moment moment = is_between 1 1_000_000_000_000_000 moment
 abbrev pub is_payment_in_range : Payment → Bool
 is_payment_in_range payment = is_between 100 500_000 payment.amount && is_moment payment.at
 
+-- whether a command's values are in range
 abbrev pub is_in_range : Command → Bool
 is_in_range (commands.Payment payment) = is_payment_in_range payment
 
@@ -25,10 +26,11 @@ is_in_range (commands.Payment payment) = is_payment_in_range payment
 abbrev pub number_of_who : Who → ℕ
 number_of_who (who.Number number) = number
 
--- the warehouses that a command names, its home first, each once
+-- the warehouses that a payment names, its home first, each once
 abbrev pub payment_warehouses : Payment → List ℕ
 payment_warehouses payment =
     payment.warehouse ∷ (if payment.customer_warehouse == payment.warehouse then [] else payment.customer_warehouse ∷ [])
 
+-- those that a command names
 abbrev pub warehouses_of : Command → List ℕ
 warehouses_of (commands.Payment payment) = payment_warehouses payment

@@ -15,7 +15,7 @@ ytd_of_districts warehouse districts = column_sum (λ row. row.ytd) (filter (λ 
 abbrev pub Condition1 : Tables → Type 0
 Condition1 tables = All (λ row. row.ytd ≡ ytd_of_districts row.id tables.districts) tables.warehouses
 
--- condition 12 (clause 3.3.2.12): C_BALANCE + C_YTD_PAYMENT is the sum of the customer's delivered order lines. There
--- are no orders yet, so that this sum is 0.
+-- condition 12 (clause 3.3.2.12): C_BALANCE + C_YTD_PAYMENT is the sum of OL_AMOUNT over the customer's delivered order
+-- lines. There are no orders yet, so that this sum is 0.
 abbrev pub Condition12 : Tables → Type 0
 Condition12 tables = All (λ row. row.balance +ℤ row.ytd_payment ≡ pos 0) tables.customers

@@ -1,5 +1,5 @@
--- Finding a row by its key, and changing it. In a load no two rows of a table have the same key, so that the first
--- row with a key is the row with that key.
+-- Finding a row by its key, and changing it. A load's rows stand in rising order of their keys (`Loads`), so that the
+-- first row with a key is the only one; no law here says so.
 use Rattle.std.specs.Prelude.{ℕ, Bool, ◌==◌, ◌&&◌, if◌then◌else◌, List, [], ◌∷◌}
 use Rattle.hy_schema.specs.declared.warehouse.Warehouse.{Warehouse}
 use Rattle.hy_schema.specs.declared.district.District.{District}

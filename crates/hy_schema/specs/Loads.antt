@@ -35,6 +35,7 @@ IsCustomerAfter (Some before) row =
 abbrev pub row_before : {Row : Type 0} → List Row → ℕ → Option Row
 row_before rows place = if place == 0 then None else slice_get rows (place - 1)
 
+-- CUSTOMER: a row is in range, of a warehouse that is there, and the next one behind the row before it
 abbrev pub IsCustomerAt : ℕ → List Customer → ℕ → Customer → Type 0
 IsCustomerAt warehouses rows place row =
     IsCustomerInRange row × (row.warehouse ≤ warehouses) × IsCustomerAfter (row_before rows place) row
@@ -74,6 +75,7 @@ AreCustomers tables =
     let warehouses = length tables.warehouses in
     IsRight (IsCustomerAt warehouses tables.customers) (HasAllCustomers warehouses tables.customers) tables.customers
 
+-- three lists are a load: each is right, and the conditions 1 and 12 hold
 pub record IsLoad (tables : Tables) : Type 0 where
   pub warehouses : AreWarehouses tables
   pub districts : AreDistricts tables

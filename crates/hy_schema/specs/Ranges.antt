@@ -25,6 +25,7 @@ IsLoadedText width text = (length text ≤ width) × IsPrintable text
 abbrev pub IsCredit : List ℕ → Type 0
 IsCredit text = (text ≡ 71 ∷ 67 ∷ []) ⊎ (text ≡ 66 ∷ 67 ∷ [])
 
+-- the columns of a row of WAREHOUSE, of DISTRICT, of CUSTOMER
 pub record IsWarehouseInRange (row : Warehouse) : Type 0 where
   pub id : IsBetween 1 16 row.id
   pub name : IsLoadedText 10 row.name

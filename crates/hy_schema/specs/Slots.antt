@@ -5,9 +5,9 @@ use Rattle.hy_schema.specs.Spelling.{list_at, slot_offset, slot_page}
 
 -- the pages of a segment after a write into a slot, behind so many of its bytes
 abbrev pub slot_written : ℕ → ℕ → List (List ℕ) → ℕ → ℕ → List ℕ → List (List ℕ)
-slot_written n width pages k skip bytes =
-    let page = slot_page n width k in
-    slice_set pages page (overwritten (list_at pages page) (slot_offset n width k + skip) bytes)
+slot_written n row_bytes pages k skip bytes =
+    let page = slot_page n row_bytes k in
+    slice_set pages page (overwritten (list_at pages page) (slot_offset n row_bytes k + skip) bytes)
 
 -- the pages of a segment that counts so many used slots
 abbrev pub slots_counted : List (List ℕ) → ℕ → List (List ℕ)

@@ -11,7 +11,7 @@ use Rattle.hy_schema.specs.Tables.{Tables}
 abbrev pub segments : ℕ
 segments = 3
 
--- the item at a place of a list of lists, or none
+-- the list at a place of a list of lists, or the empty one
 abbrev pub list_at : {Item : Type 0} → List (List Item) → ℕ → List Item
 list_at lists place = slice_index_or lists place []
 

@@ -5,6 +5,7 @@ use Rattle.hy_schema.specs.declared.warehouse.Warehouse.{Warehouse}
 use Rattle.hy_schema.specs.declared.district.District.{District}
 use Rattle.hy_schema.specs.declared.customer.Customer.{Customer}
 
+-- the rows of the three tables
 pub record Tables : Type 0 where
   pub warehouses : List Warehouse
   pub districts : List District

@@ -1,6 +1,8 @@
-ghost use Rattle.std.specs.Prelude.{◌≡◌, ℕ, ℤ, ◌+◌, ◌^◌, ◌<◌, ◌≤◌, ◌++◌, length};
+//! The bytes of columns in a slot.
+
+ghost use Rattle.std.specs.Prelude.{◌≡◌, ◌+◌, ◌^◌, ◌<◌, ◌≤◌, ◌++◌, length};
 ghost use Rattle.arrayvec.specs.ArrayVec.{array_vec_len};
-ghost use Rattle.hy_page.specs.Bytes.{number_of, bytes_of};
+ghost use Rattle.hy_page.specs.Bytes.{bytes_of};
 ghost use Rattle.hy_schema.specs.Rows.{number_at, signed_at, text_at, signed_bytes};
 ghost use Rattle.hy_schema.specs.Texts.{IsText, padded};
 

@@ -1,4 +1,6 @@
-ghost use Rattle.std.specs.Prelude.{◌≡◌, ℕ, ◌↔◌, IsTrue, IsOk, IsErrOf, List, length};
+//! Commands, commits and replies.
+
+ghost use Rattle.std.specs.Prelude.{◌≡◌, ◌↔◌, IsTrue, IsOk, IsErrOf};
 ghost use Rattle.hy_schema.specs.Commands.{is_payment_in_range, is_in_range, warehouses_of};
 
 use crate::refusal::Refusal;
@@ -59,8 +61,13 @@ pub enum Commit {
 /// The answer to a command.
 #[derive(Clone, Copy, Debug, PartialEq, Eq)]
 pub enum Reply {
-    /// The number of the customer who paid, and the balance after it, in cents.
-    Payment(u16, i64),
+    /// A payment was accepted (TPC-C clause 2.5.3.4).
+    Payment {
+        /// The number of the customer who paid.
+        customer: u16,
+        /// The customer's balance after it, in cents.
+        balance: i64,
+    },
     /// The command changed nothing.
     Refused(Refusal),
 }

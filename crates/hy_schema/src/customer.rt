@@ -1,4 +1,6 @@
-ghost use Rattle.std.specs.Prelude.{◌≡◌, ◌≤◌, ◌↔◌, IsTrue};
+//! Rows of CUSTOMER.
+
+ghost use Rattle.std.specs.Prelude.{◌≤◌, ◌↔◌, IsTrue};
 ghost use Rattle.hy_schema.specs.Ranges.{IsCredit};
 
 use crate::codec::{
@@ -39,7 +41,7 @@ pub struct Customer {
 }
 
 impl Row for Customer {
-    ghost use Rattle.std.proofs.Common.{refl, rules, inl, inr};
+    ghost use Rattle.std.proofs.Common.{refl, rules, inr};
     ghost use Rattle.hy_schema.specs.Rows.{customer_bytes, customer_of};
 
     const SEGMENT: u32 = 2;

@@ -1,4 +1,6 @@
-ghost use Rattle.std.specs.Prelude.{◌≡◌, ◌↔◌, IsTrue};
+//! Rows of DISTRICT.
+
+ghost use Rattle.std.specs.Prelude.{◌↔◌, IsTrue};
 
 use crate::codec::{
     SlotBytes, push_number, push_signed, push_text, read_number, read_signed, read_text,

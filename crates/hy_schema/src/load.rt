@@ -1,4 +1,6 @@
-ghost use Rattle.std.specs.Prelude.{◌≡◌, ℕ, ◌↔◌, ◌<◌, ◌≤◌, ◌+ℤ◌, ◌^◌, pos, List, length, All, IsTrue, IfSome, IfNone, IsSomeAnd, MatchResult};
+//! Loads: the rows that a database begins with.
+
+ghost use Rattle.std.specs.Prelude.{◌≡◌, ◌↔◌, ◌<◌, ◌≤◌, ◌+ℤ◌, ◌^◌, pos, All, IsTrue, IfSome, IfNone, IsSomeAnd, MatchResult};
 ghost use Rattle.std.specs.Option.{option_copied};
 ghost use Rattle.hy_schema.specs.Ranges.{IsCustomerInRange};
 ghost use Rattle.hy_schema.specs.Conditions.{ytd_of_districts};

@@ -1,3 +1,5 @@
+//! Why a call is refused: E1 to E17.
+
 use std::fmt;
 use thiserror::Error;
 
@@ -59,7 +61,7 @@ pub enum Refusal {
     /// A district isn't 1 to 10.
     #[error("E5 NoSuchDistrict")]
     NoSuchDistrict,
-    /// No customer has the number or the last name.
+    /// No customer of the district has the number.
     #[error("E6 NoSuchCustomer")]
     NoSuchCustomer,
     /// An item number isn't in ITEM.
@@ -74,7 +76,7 @@ pub enum Refusal {
     /// Nothing runs.
     #[error("E10 NotRunning")]
     NotRunning,
-    /// The snapshot is another warehouse's, or of another name.
+    /// The snapshot is another warehouse's.
     #[error("E11 NotMine")]
     NotMine,
     /// Lists of rows are no load.

@@ -1,3 +1,5 @@
+//! What the rows of all tables have in common.
+
 ghost use Rattle.std.specs.Prelude.{◌≡◌, ℕ, ◌+◌, ◌<◌, ◌≤◌, ◌++◌, List, length};
 ghost use Rattle.arrayvec.specs.ArrayVec.{array_vec_len};
 ghost use Rattle.hy_schema.specs.Tables.{Tables};
@@ -15,6 +17,7 @@ pub trait Row: Copy {
     /// How many bytes a row has.
     const BYTES: usize;
 
+    /// The segment and the number of bytes, as clauses name them.
     ghost SEGMENT: { ℕ };
 
     ghost BYTES: { ℕ };

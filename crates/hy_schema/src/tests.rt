@@ -1,3 +1,5 @@
+//! Refusals, loads, rows and commands on examples.
+
 use super::*;
 use std::alloc::Global;
 use std::process::Abort;

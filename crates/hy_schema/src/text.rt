@@ -1,4 +1,6 @@
-ghost use Rattle.std.specs.Prelude.{◌≡◌, ℕ, ◌<◌, ◌≤◌, ◌↔◌, List, length, All, IsTrue, IsSome, IfSome, ◌++◌, take, drop};
+//! Texts of a fixed width.
+
+ghost use Rattle.std.specs.Prelude.{◌≡◌, ℕ, ◌<◌, ◌≤◌, ◌↔◌, List, length, IsTrue, IsSome, IfSome, ◌++◌, take, drop};
 ghost use Rattle.hy_schema.specs.Texts.{IsText, IsPrintable, padded, text_of};
 
 use std::marker::Model;

@@ -1,4 +1,6 @@
-ghost use Rattle.std.specs.Prelude.{◌≡◌, ◌↔◌, IsTrue};
+//! Rows of WAREHOUSE.
+
+ghost use Rattle.std.specs.Prelude.{◌↔◌, IsTrue};
 ghost use Rattle.hy_schema.specs.Ranges.{IsLoadedMoney};
 
 use crate::codec::{
@@ -22,7 +24,7 @@ pub struct Warehouse {
 }
 
 impl Row for Warehouse {
-    ghost use Rattle.std.proofs.Common.{refl, rules, inl, inr};
+    ghost use Rattle.std.proofs.Common.{refl, rules, inl};
     ghost use Rattle.hy_schema.specs.Rows.{warehouse_bytes, warehouse_of};
 
     const SEGMENT: u32 = 0;
