@@ -1,5 +1,5 @@
 pub mod CommandLineLaws
 pub mod GeneratedLaws
 pub mod TextLaws
-pub mod OpenLaws
 pub mod FirstLaws
+pub mod AmountLaws

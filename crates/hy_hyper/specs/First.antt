@@ -11,6 +11,7 @@ use Rattle.hy_schema.specs.declared.refusal.Refusal.{Refusal}
 use Rattle.hy_schema.specs.declared.refusal.Refusal.TheVariants as refusals
 use Rattle.hy_schema.specs.declared.refusal.LoadFault.{LoadFault}
 use Rattle.hy_schema.specs.Loads.{HasFault}
+use Rattle.hy_partition.specs.Jobs.{RunningJob, slice_count}
 use Rattle.hy_partition.specs.Steps.{begin_refusal}
 use Rattle.hy_schema.specs.Spelling.{tables_of}
 use Rattle.hy_partition.specs.Partition.{PartitionState, rows_now}
@@ -43,6 +44,10 @@ ytds_after amount = ytds_of (act 1 (first_command amount) (generated 3)).tables
 -- W_YTD of each warehouse of a snapshot with pages of 4,096 bytes
 abbrev pub ytds : SnapshotState → List ℤ
 ytds snapshot = ytds_of (tables_of 4_096 snapshot.bytes)
+
+-- the command has two slices, and none of them is done
+abbrev pub HasTwoSlices : RunningJob → Type 0
+HasTwoSlices job = (slice_count job.command ≡ 2) × (job.slices ≡ 0)
 
 -- a payment was accepted and kept, and nothing else
 pub record IsPaid (payment : Payment) (old new : PartitionState) : Type 0 where

@@ -1,20 +1,21 @@
-ghost use Rattle.std.specs.Prelude.{◌≡◌, ◌∷◌, [], length, IfErr, IfOk, OnOk};
+ghost use Rattle.std.specs.Prelude.{◌≡◌, ◌⊎◌, ◌∷◌, [], length, IfErr, IfOk, IsSomeAnd, OnOk};
 ghost use Rattle.hy_schema.specs.declared.refusal.Refusal.{Refusal};
-ghost use Rattle.hy_hyper.specs.First.{IsFirstRefusal, IsPaid, IsPayRefusal, IsYtdAfter, first_payment, ytds};
+ghost use Rattle.hy_partition.specs.Steps.{Accepts, Refuses};
+ghost use Rattle.hy_hyper.specs.First.{HasTwoSlices, IsFirstRefusal, IsPaid, IsPayRefusal, IsYtdAfter, first_payment, ytds};
 
 use crate::generator::generate;
-use hy_partition::{Job, Partition, Snapshot};
+use hy_partition::{Job, Partition, Progress, Snapshot};
 use hy_schema::{Command, Payment, Refusal, Reply, Warehouse, Who};
 use std::alloc::Global;
 
 /// The size of a page in bytes.
-pub const PAGE_BYTES: usize = 4096;
+const PAGE_BYTES: usize = 4096;
 
 /// How many frames the partition may have.
-pub const MAX_FRAMES: u64 = 100_000;
+const MAX_FRAMES: u64 = 100_000;
 
 /// How many commits the partition may keep.
-pub const MAX_KEPT: u64 = 1_000_000;
+const MAX_KEPT: u64 = 1_000_000;
 
 /// The number of the warehouse.
 const WAREHOUSE: u8 = 1;
@@ -43,7 +44,7 @@ pub fn first(alloc: Global, amount: u64) -> Result<i64, Refusal>
     }
 }
 
-/// Runs a payment to its end.
+/// Runs a payment by begin, step, step.
 fn pay(partition: &mut Partition<PAGE_BYTES>, payment: Payment) -> Result<(), Refusal>
     ensures paid { OnOk result (IsPaid payment partition.old partition.new) }
     ensures refused { IfErr result (IsPayRefusal partition.old payment) }
@@ -52,13 +53,28 @@ fn pay(partition: &mut Partition<PAGE_BYTES>, payment: Payment) -> Result<(), Re
     if let Err((_job, refusal)) = partition.begin(job) {
         return Err(refusal);
     }
-    partition.finish_running();
+    run_slices(partition);
     let Some(done) = partition.take_done() else {
         unreachable!();
     };
     match done.open() {
         Reply::Payment { .. } => Ok(()),
         Reply::Refused(refusal) => Err(refusal),
+    }
+}
+
+/// Runs a job of two slices: the first, and the second where the first isn't refused.
+fn run_slices(partition: &mut Partition<PAGE_BYTES>)
+    requires { IsSomeAnd partition.old.running HasTwoSlices }
+    ensures { IsSomeAnd partition.old.running (λ job. Accepts job.command partition.old partition.new
+        ⊎ Refuses partition.old partition.new) }
+{
+    match partition.step() {
+        Ok(Progress::More) => {
+            let _progress = partition.step();
+        }
+        Ok(Progress::Finished) => {}
+        Err(_) => unreachable!(),
     }
 }
 

@@ -17,6 +17,7 @@ pub struct Files<'a, R> {
 }
 
 impl<'a, R: rt::Files + AllocGlobal> Files<'a, R> {
+    /// The files that a runtime reaches.
     pub fn new(runtime: &'a R) -> Files<'a, R> {
         Files { runtime }
     }

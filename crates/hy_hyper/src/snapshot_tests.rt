@@ -1,6 +1,6 @@
 //! Snapshots beside payments, with small and with large pages.
 
-ghost use Rattle.std.specs.Prelude.{◌≤◌, OnOk};
+ghost use Rattle.std.specs.Prelude.{◌≤◌};
 ghost use Rattle.hy_partition.specs.Steps.{Closes, Forks};
 ghost use Rattle.hy_hyper.specs.Open.{Holds, KeepsOpen};
 

@@ -1,13 +1,12 @@
-ghost use Rattle.std.specs.Prelude.{◌≡◌, Ok, Err, IfOk, IfErr, MatchResult, true, false};
+ghost use Rattle.std.specs.Prelude.{◌≡◌, IfOk, IfErr, IfSome, MatchResult, true, false};
 ghost use Rattle.clap.specs.Faults.{fault_of};
 ghost use Rattle.clap.specs.Words.{HasKind, app_of, found_of, has_subcommand, rows_of, subcommand_of, subcommand_rows_of};
 ghost use Rattle.clap.specs.declared.builder.command.Command.TheViews.{out-Command as fields_of};
-ghost use Rattle.hy_hyper.specs.CommandLine.{AreTaken, HasFault, Says, SaysAmount, SaysNoAmount, first_app, program_app, texts_of};
+ghost use Rattle.hy_hyper.specs.CommandLine.{AreTaken, HasFault, HasNumber, IsBehind, Says, SaysAmount, first_app, program_app, texts_of};
 
+use clap::error::ErrorKind;
 use clap::{Arg, ArgMatches, Command, value_parser};
 use std::alloc::{AllocError, Global};
-use std::num::ParseIntError;
-use thiserror::Error;
 
 /// The amount of `first` where the words give none, in cents.
 const DEFAULT_AMOUNT: u64 = 100;
@@ -22,29 +21,27 @@ pub enum Line {
     },
 }
 
-/// Why words are no command line. Its text is for the user.
-#[derive(Debug, Drop, Error)]
+/// Why no command line was read.
+#[derive(Debug, Drop)]
 pub enum LineFault {
-    /// The parser of command lines refuses the words, or answers them with a text, as `--help`.
-    #[error("{0}")]
+    /// The parser of command lines refuses the words, or answers them with a text, as `--help`. Its text is for the
+    /// user.
     Parser(clap::Error),
-    /// The text of `--amount` is no number of 64 bits.
-    #[error("error: {0}\n")]
-    Amount(ParseIntError),
+    /// Memory was refused while the words were read.
+    NoMemory,
 }
 
-/// Reads the words after the program's name. The fault keeps the parser's text, which says what is wrong with the
-/// words, or that memory ran out.
+/// Reads the words after the program's name.
 pub fn read_words<'a>(alloc: Global, words: &'a [&'a str]) -> Result<Line, LineFault>
     ensures { MatchResult result (Says (texts_of words.entry.now)) (HasFault (texts_of words.entry.now)) }
 {
-    let matches = parse(alloc, words).map_err(LineFault::Parser)?;
+    let matches = parse(alloc, words).map_err(fault_behind)?;
     let Some((name, given)) = matches.subcommand() else {
         unreachable!()
     };
     match name {
         "first" => {
-            let amount = read_amount(given).map_err(LineFault::Amount)?;
+            let amount = read_amount(given);
             Ok(Line::First { amount })
         }
         _ => unreachable!(),
@@ -55,17 +52,31 @@ pub fn read_words<'a>(alloc: Global, words: &'a [&'a str]) -> Result<Line, LineF
 fn parse<'a>(alloc: Global, words: &'a [&'a str]) -> Result<ArgMatches<'a>, clap::Error>
     ensures ok { IfOk result (λ matches. AreTaken (texts_of words.entry.now)
         × (subcommand_rows_of matches ≡ subcommand_of program_app (texts_of words.entry.now)) × (has_subcommand matches ≡ true)) }
+    ensures number { IfOk result (λ matches. IfSome (subcommand_rows_of matches) (λ command. HasNumber command.1)) }
     ensures err { IfErr result (HasKind (fault_of program_app (texts_of words.entry.now))) }
 {
     program(alloc)?.try_get_matches_from(words)
 }
 
-/// The amount that is given to `first`.
-fn read_amount(given: &ArgMatches<'_>) -> Result<u64, ParseIntError>
-    ensures { MatchResult result (SaysAmount (rows_of (found_of given.now))) (SaysNoAmount (rows_of (found_of given.now))) }
+/// The fault behind an error of the parser.
+fn fault_behind(error: clap::Error) -> LineFault
+    ensures { IsBehind error result }
 {
-    let amount = given.try_get_one::<u64>("amount")?;
-    Ok(amount.unwrap_or(DEFAULT_AMOUNT))
+    match error.kind() {
+        ErrorKind::OutOfMemory => LineFault::NoMemory,
+        _ => LineFault::Parser(error),
+    }
+}
+
+/// The amount that is given to `first`.
+fn read_amount(given: &ArgMatches<'_>) -> u64
+    requires { HasNumber (rows_of (found_of given.now)) }
+    ensures { SaysAmount (rows_of (found_of given.now)) result }
+{
+    match given.try_get_one::<u64>("amount") {
+        Ok(amount) => amount.unwrap_or(DEFAULT_AMOUNT),
+        Err(_) => unreachable!(),
+    }
 }
 
 /// What the parser knows of the program.
