@@ -1,11 +1,13 @@
 -- Why the payment of `first` isn't done.
-use Rattle.std.proofs.Common.{◌≡◌, inl, inr, ℕ, List, [], length, Option, Some, None, ◌||◌, ◌==◌, cond, is_some, refl, sym, ap, ◌∙◌}
+use Rattle.std.proofs.Common.{◌≡◌, ◌⊎◌, inl, inr, ℕ, List, [], length, Option, Some, None, ◌||◌, ◌==◌, cond, is_some, refl, sym, ap, ◌∙◌, subst}
 use Rattle.std.specs.Option.{option_or}
 use Rattle.hy_schema.specs.declared.command.Command.{Command}
 use Rattle.hy_schema.specs.declared.command.Commit.{Commit}
 use Rattle.hy_schema.specs.declared.command.Reply.{Reply}
 use Rattle.hy_schema.specs.declared.refusal.Refusal.{Refusal}
 use Rattle.hy_schema.specs.declared.refusal.Refusal.TheVariants as refusals
+use Rattle.hy_schema.specs.declared.refusal.LoadFault.{LoadFault}
+use Rattle.hy_schema.specs.Loads.{HasFault, IsLoad}
 use Rattle.hy_schema.specs.Replay.{replay}
 use Rattle.hy_schema.specs.Tables.{Tables, of_warehouse}
 use Rattle.hy_schema.specs.Transactions.{refusal_of}
@@ -13,7 +15,10 @@ use Rattle.hy_partition.specs.Jobs.{RunningJob}
 use Rattle.hy_partition.specs.Partition.{PartitionState}
 use Rattle.hy_partition.specs.Steps.{Begins, begin_refusal}
 use Rattle.hy_hyper.specs.First.{IsFirstRefusal, IsPayRefusal, first_command, first_payment}
+use Rattle.hy_schema.proofs.FaultLaws.{load-no_fault}
+use Rattle.hy_schema.proofs.FreshLoad.{fresh-is_load}
 use Rattle.hy_hyper.specs.Generated.{generated}
+use Rattle.hy_hyper.specs.WorkedRows.{generated-fresh}
 
 -- the refusal of a command by the parts of a partition
 abbrev refusal_by : Command → Option RunningJob → Option Reply → ℕ → Tables → List Commit → ℕ → Option Refusal
@@ -41,6 +46,16 @@ first_refusal amount p refusal begins why = elim why [
   | inl refused ↦ inl (sym (begin_refusal-begun p (first_command amount) begins) ∙ refused)
   | inr short ↦ elim short [
     | inl memory ↦ inr (inl memory)
-    | inr frame ↦ inr (inr (inl frame))
+    | inr frame ↦ inr (inr frame)
   ]
+]
+
+-- the generated rows are a load, so that a refusal to generate them is for want of memory
+generated-is_load : IsLoad (generated 3)
+generated-is_load = subst (λ (tables : Tables). IsLoad tables) (sym generated-fresh) fresh-is_load
+
+pub generated_refusal : (amount : ℕ) (refusal : Refusal) → (refusal ≡ refusals.NoMemory) ⊎ ((fault : LoadFault) × (refusal ≡ refusals.BadLoad fault) × HasFault (generated 3) fault) → IsFirstRefusal amount refusal
+generated_refusal amount refusal why = elim why [
+  | inl memory ↦ inr (inl memory)
+  | inr bad ↦ absurd (load-no_fault (generated 3) bad.0 generated-is_load bad.2)
 ]

@@ -7,3 +7,4 @@ pub mod SlotPlaces
 pub mod FreshLoad
 pub mod PrintableLaws
 pub mod WorkedRanges
+pub mod FaultLaws
