@@ -13,7 +13,7 @@ use Rattle.hy_schema.specs.Tables.{Tables, of_warehouse}
 use Rattle.hy_schema.specs.Transactions.{refusal_of}
 use Rattle.hy_partition.specs.Jobs.{RunningJob}
 use Rattle.hy_partition.specs.Partition.{PartitionState}
-use Rattle.hy_partition.specs.Steps.{Begins, begin_refusal}
+use Rattle.hy_partition.specs.Steps.{Begins, HasSnapshot, begin_refusal}
 use Rattle.hy_hyper.specs.First.{IsFirstRefusal, IsPayRefusal, first_command, first_payment}
 use Rattle.hy_schema.proofs.FaultLaws.{load-no_fault}
 use Rattle.hy_schema.proofs.FreshLoad.{fresh-is_load}
@@ -45,10 +45,13 @@ pub first_refusal : (amount : ℕ) (p : PartitionState) (refusal : Refusal) → 
 first_refusal amount p refusal begins why = elim why [
   | inl refused ↦ inl (sym (begin_refusal-begun p (first_command amount) begins) ∙ refused)
   | inr short ↦ elim short [
-    | inl memory ↦ inr (inl memory)
-    | inr frame ↦ inr (inr frame)
+    | inl memory ↦ inr memory
+    | inr frame ↦ absurd (no_snapshot p begins frame.1)
   ]
 ]
+  where
+    no_snapshot : (p : PartitionState) → Begins (generated 3) 1 100_000 1_000_000 p → HasSnapshot p → ⊥
+    no_snapshot p begins some = let none = begins.snapshots some.0 in let is = some.1 in absurd (cc)
 
 -- the generated rows are a load, so that a refusal to generate them is for want of memory
 generated-is_load : IsLoad (generated 3)
@@ -56,6 +59,6 @@ generated-is_load = subst (λ (tables : Tables). IsLoad tables) (sym generated-f
 
 pub generated_refusal : (amount : ℕ) (refusal : Refusal) → (refusal ≡ refusals.NoMemory) ⊎ ((fault : LoadFault) × (refusal ≡ refusals.BadLoad fault) × HasFault (generated 3) fault) → IsFirstRefusal amount refusal
 generated_refusal amount refusal why = elim why [
-  | inl memory ↦ inr (inl memory)
+  | inl memory ↦ inr memory
   | inr bad ↦ absurd (load-no_fault (generated 3) bad.0 generated-is_load bad.2)
 ]

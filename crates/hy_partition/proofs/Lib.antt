@@ -12,4 +12,4 @@ pub mod SoundLaws
 pub mod LoadLaws
 pub mod StepsToLaws
 pub mod FinishLaws
-pub mod FillLaws
+pub mod FrameLaws

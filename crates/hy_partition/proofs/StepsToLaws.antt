@@ -1,11 +1,12 @@
 -- What the slices of a job need, and what each leaves.
-use Rattle.std.proofs.Common.{◌≡◌, ℕ, zero, suc, ◌+◌, ◌*◌, ◌-◌, ◌⊎◌, inl, inr, true, false, List, [], length, Option, Some, None, Result, Ok, Err, refl, sym, ap, ◌∙◌, subst, arith}
-use Rattle.std.specs.Prelude.{MatchOption, IsOkAnd}
+use Rattle.std.proofs.Common.{◌≡◌, ℕ, zero, suc, ◌+◌, ◌*◌, ◌-◌, ◌≤◌, ◌⊎◌, inl, inr, true, false, List, [], length, Option, Some, None, Result, Ok, Err, refl, sym, ap, ◌∙◌, subst, arith}
+use Rattle.std.specs.Prelude.{IsNone, IsSome, IsSomeAnd, MatchOption, IsOkAnd, slice_index_or, take}
+use Rattle.std.specs.Option.{option_map}
 use Rattle.std.specs.List.{AllByRecursion}
-use Rattle.hy_frames.specs.FrameTable.{free_of}
+use Rattle.hy_frames.specs.FrameTable.{FrameTable, free_of}
 use Rattle.hy_frames.specs.declared.errors.Shortage.{Shortage}
 use Rattle.hy_frames.specs.declared.errors.Shortage.TheVariants as shortages
-use Rattle.hy_partition.specs.Shortages.{refusal_for}
+use Rattle.hy_partition.specs.Shortages.{IsOutOfFrames, refusal_for}
 use Rattle.hy_schema.specs.declared.command.Command.{Command}
 use Rattle.hy_schema.specs.declared.command.Command.TheVariants as commands
 use Rattle.hy_schema.specs.declared.command.Reply.{Reply}
@@ -14,15 +15,15 @@ use Rattle.hy_schema.specs.declared.refusal.Refusal.{Refusal}
 use Rattle.hy_schema.specs.declared.refusal.Refusal.TheVariants as refusals
 use Rattle.hy_schema.specs.Commands.{is_in_range}
 use Rattle.hy_schema.specs.Tables.{Tables}
-use Rattle.hy_schema.specs.Spelling.{HasTables, tables_of}
+use Rattle.hy_schema.specs.Spelling.{HasTables, Spells, tables_of}
 use Rattle.hy_schema.specs.Transactions.{refusal_of}
-use Rattle.hy_space.specs.Space.{SpaceState, SameForChildren, owner_bytes}
+use Rattle.hy_space.specs.Space.{SpaceState, SameForChildren, child_bytes, child_table, owner_bytes, table_bytes}
 use Rattle.hy_partition.specs.Changes.{CanUndo, DoesSlice}
 use Rattle.hy_partition.specs.Growth.{IsGrown, IsGrownCustomer}
 use Rattle.hy_partition.specs.Jobs.{RunningJob, is_last}
-use Rattle.hy_partition.specs.Partition.{PartitionState, rows_now}
+use Rattle.hy_partition.specs.Partition.{PartitionState, commits_of, rows_after, rows_now}
 use Rattle.hy_partition.specs.Soundness.{IsSound, Runs, after_slices}
-use Rattle.hy_partition.specs.Steps.{KeepsRest, StepsTo}
+use Rattle.hy_partition.specs.Steps.{KeepsRest, LacksFrames, StepsTo}
 use Rattle.hy_partition.specs.Undone.{Earlier, undone}
 use Rattle.hy_partition.specs.declared.job.Progress.{Progress}
 use Rattle.hy_partition.specs.declared.job.Progress.TheVariants as progress
@@ -39,10 +40,32 @@ step-running now p q job reached outcome is same running steps =
     (subst (λ (o : Result Progress Refusal). IsOkAnd o (StepsTo job p q)) (sym is) steps))
 
 -- why a job was refused
-pub refused_why : (shortage : Shortage) (reply : Reply) (free : ℕ) → reply ≡ replies.Refused (refusal_for shortage) → (shortage ≡ shortages.NoFrame → free ≡ 0)
-    → (reply ≡ replies.Refused refusals.NoMemory) ⊎ ((reply ≡ replies.Refused refusals.NoFrame) × (free ≡ 0))
-refused_why shortages.NoMemory reply free is none = inl is
-refused_why shortages.NoFrame reply free is none = inr (is, none refl)
+pub refused_why : (shortage : Shortage) (reply : Reply) (Lacks : Type 0) → reply ≡ replies.Refused (refusal_for shortage) → (shortage ≡ shortages.NoFrame → Lacks)
+    → (reply ≡ replies.Refused refusals.NoMemory) ⊎ ((reply ≡ replies.Refused refusals.NoFrame) × Lacks)
+refused_why shortages.NoMemory reply Lacks is lacks = inl is
+refused_why shortages.NoFrame reply Lacks is lacks = inr (is, lacks refl)
+
+some_bytes : (frames : FrameTable) (table : Option (List (List ℕ))) → IsSome table → IsNone (option_map (table_bytes frames) table) → ⊥
+some_bytes frames None some none = absurd (cc)
+some_bytes frames (Some table) some none = absurd (cc)
+
+-- an open child is a snapshot's
+snapshot_of_child : (n places : ℕ) (p : PartitionState) → IsSound n places p → (child : ℕ) → IsSome (child_table p.space child) → IsSome (commits_of p child)
+snapshot_of_child n places p sound child some = at (commits_of p child) (sound.snapshots child)
+  where
+    at : (commits : Option ℕ) → MatchOption commits (IsNone (child_bytes p.space child)) (λ commits. (commits ≤ length p.kept) × IsSomeAnd (child_bytes p.space child) (λ bytes. Spells n bytes (rows_after p (take commits p.kept)))) → IsSome commits
+    at None none = absurd (some_bytes p.space.frames (child_table p.space child) some none)
+    at (Some commits) spells = refl
+
+-- where a slice found no frame, none is free behind it, and a snapshot is open
+pub lacks_frames : (n places : ℕ) (p new : PartitionState) (mid : SpaceState) → IsSound n places p → SameForChildren p.space mid → IsOutOfFrames mid → free_of new.space.frames ≡ free_of mid.frames → new.snapshots ≡ p.snapshots → LacksFrames new
+lacks_frames n places p new mid sound children out free snapshots =
+    let child : ℕ = out.open_child.0 in
+    let some : IsSome (child_table p.space child) = subst (λ (all : List (Option (List (List ℕ)))). IsSome (slice_index_or all child None)) children.tables out.open_child.1 in
+    record {
+      full = free ∙ out.full;
+      open_snapshot = (child, subst (λ (all : List (Option ℕ)). IsSome (slice_index_or all child None)) (sym snapshots) (snapshot_of_child n places p sound child some));
+    }
 
 customers-after_slices : (command : Command) (slices : ℕ) (tables : Tables) → (after_slices command slices tables).customers ≡ tables.customers
 customers-after_slices (commands.Payment payment) zero tables = refl
@@ -99,7 +122,7 @@ steps-more n p job space earlier next next_is slice can_undo = (
 -- a slice that is refused ends the job, and the pages are put back
 pub steps-refused : (n : ℕ) (p : PartitionState) (job : RunningJob) (mid space : SpaceState) (before earlier : List Earlier) (reply : Reply)
     → CanUndo n p.space mid p.earlier before → earlier ≡ [] → owner_bytes space ≡ undone (owner_bytes mid) before → SameForChildren mid space
-    → (reply ≡ replies.Refused refusals.NoMemory) ⊎ ((reply ≡ replies.Refused refusals.NoFrame) × (free_of space.frames ≡ 0))
+    → (reply ≡ replies.Refused refusals.NoMemory) ⊎ ((reply ≡ replies.Refused refusals.NoFrame) × LacksFrames (record p { running = None; earlier = earlier; finished = Some reply; space = space }))
     → StepsTo job p (record p { running = None; earlier = earlier; finished = Some reply; space = space }) progress.Finished
 steps-refused n p job mid space before earlier reply can_undo none bytes children why =
     let rest : KeepsRest p (record p { running = None; earlier = earlier; finished = Some reply; space = space }) = record {

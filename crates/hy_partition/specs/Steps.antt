@@ -1,5 +1,5 @@
 -- What the calls on a partition do to it.
-use Rattle.std.specs.Prelude.{◌≡◌, ◌≢◌, ℕ, ◌+◌, ◌≤◌, ◌||◌, ◌==◌, ◌⊎◌, if◌then◌else◌, Bool, true, false, is_some, [], ◌∷◌, ◌++◌, length, Option, None, Some}
+use Rattle.std.specs.Prelude.{◌≡◌, ◌≢◌, ℕ, ◌+◌, ◌≤◌, ◌||◌, ◌==◌, ◌⊎◌, if◌then◌else◌, Bool, true, false, is_some, IsSome, [], ◌∷◌, ◌++◌, length, Option, None, Some}
 use Rattle.std.specs.Option.{option_or}
 use Rattle.hy_schema.specs.declared.command.Command.{Command}
 use Rattle.hy_schema.specs.declared.command.Commit.TheVariants as commits
@@ -59,13 +59,22 @@ pub record Accepts (command : Command) (old new : PartitionState) : Type 0 where
   pub kept : new.kept ≡ old.kept ++ commits.Local command ∷ []
   pub ends : Ends old new (act old.warehouse command (rows_now old)).reply
 
--- the command was refused for want of memory, or of a frame where none was free: what is kept stays, and the pages are as
--- they were when the job began
+-- some snapshot is open
+abbrev pub HasSnapshot : PartitionState → Type 0
+HasSnapshot p = (child : ℕ) × IsSome (commits_of p child)
+
+-- no frame is free, and some snapshot is open
+pub record LacksFrames (p : PartitionState) : Type 0 where
+  pub full : free_of p.space.frames ≡ 0
+  pub open_snapshot : HasSnapshot p
+
+-- the command was refused for want of memory, or of a frame where none was free and a snapshot was open: what is kept stays, and
+-- the pages are as they were when the job began
 pub record Refuses (old new : PartitionState) : Type 0 where
   pub kept : new.kept ≡ old.kept
   pub bytes : owner_bytes new.space ≡ undone (owner_bytes old.space) old.earlier
   pub reason : Ends old new (replies.Refused refusals.NoMemory)
-      ⊎ (Ends old new (replies.Refused refusals.NoFrame) × (free_of new.space.frames ≡ 0))
+      ⊎ (Ends old new (replies.Refused refusals.NoFrame) × LacksFrames new)
 
 -- what one step of a job does: the last slice finishes it, and so does a refusal
 abbrev pub StepsTo : RunningJob → PartitionState → PartitionState → Progress → Type 0

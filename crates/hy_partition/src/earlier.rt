@@ -1,10 +1,11 @@
 //! The pages that the running job wrote, as they were when it began.
 
-ghost use Rattle.std.specs.Prelude.{◌≡◌, ℕ, ◌+◌, ◌<◌, ◌↔◌, List, [], ◌∷◌, ◌++◌, length, map, IsTrue, OnOk, OnErr, IsErrOf};
+ghost use Rattle.std.specs.Prelude.{◌≡◌, ℕ, ◌+◌, ◌<◌, ◌↔◌, List, [], ◌∷◌, ◌++◌, length, map, IsTrue, OnOk, OnErr, Err};
 ghost use Rattle.std.specs.List.{AllByRecursion};
 ghost use Rattle.hy_frames.specs.FrameTable.{free_of};
 ghost use Rattle.hy_space.specs.Space.{HasPage, IsOwn, SameForChildren, owner_bytes};
 ghost use Rattle.hy_partition.specs.Undone.{Earlier, undone, has_earlier, is_at_page};
+ghost use Rattle.hy_partition.specs.Shortages.{IsOutOfFrames};
 ghost use Rattle.hy_partition.specs.Soundness.{IsKept, IsUndoLog};
 
 use hy_frames::{Hold, Shortage};
@@ -86,8 +87,9 @@ impl<const N: usize> EarlierPages<N> {
         ensures bytes { owner_bytes space.new ≡ owner_bytes space.old }
         ensures children { SameForChildren space.old space.new }
         ensures err { OnErr result ((self.new ≡ self.old) × (space.new ≡ space.old)) }
-        ensures no_frame { IsErrOf result Shortage.NoFrame → free_of space.old.frames ≡ 0 }
+        ensures no_frame { result ≡ Err Shortage.NoFrame → IsOutOfFrames space.old }
     {
+        space.sound();
         if self.has(segment, page) {
             return Ok(());
         }

@@ -2,7 +2,6 @@
 
 ghost use Rattle.std.specs.Prelude.{◌≡◌, ℕ, ◌+◌, ◌<◌, ◌≤◌, pos, ◌+ℤ◌, ◌-ℤ◌, List, Some, None, Ok, Err, IfOk, OnOk, OnErr, IsTrue, true};
 ghost use Rattle.std.specs.List.{AllByRecursion};
-ghost use Rattle.hy_frames.specs.FrameTable.{free_of};
 ghost use Rattle.hy_schema.specs.Finding.{is_district, is_warehouse, with_changed};
 ghost use Rattle.hy_schema.specs.Spelling.{HasTables, IsFirstMatch, rows_of, slot_at, tables_of, used_slots};
 ghost use Rattle.hy_schema.specs.Commands.{number_of_who};
@@ -11,6 +10,7 @@ ghost use Rattle.hy_space.specs.Space.{owner_bytes};
 ghost use Rattle.hy_partition.specs.Changes.{CanUndo, customer_changed};
 ghost use Rattle.hy_partition.specs.Growth.{IsGrown, IsGrownCustomer, IsGrownMoney};
 ghost use Rattle.hy_partition.specs.Rows.{ChangesRow, KeepsOtherSegments, owner_pages};
+ghost use Rattle.hy_partition.specs.Shortages.{IsOutOfFrames};
 ghost use Rattle.hy_partition.specs.Soundness.{IsUndoLog, half_paid};
 
 use crate::earlier::EarlierPages;
@@ -33,7 +33,7 @@ pub(crate) fn pay_warehouse_and_district<const N: usize>(
     ensures tables { OnOk result (HasTables N (owner_bytes space.new)) }
     ensures rows { OnOk result (tables_of N (owner_bytes space.new) ≡ half_paid payment.now (tables_of N (owner_bytes space.old))) }
     ensures can_undo { CanUndo N space.old space.new earlier.old earlier.new }
-    ensures no_frame { result ≡ Err Shortage.NoFrame → free_of space.new.frames ≡ 0 }
+    ensures no_frame { result ≡ Err Shortage.NoFrame → IsOutOfFrames space.new }
 {
     pay_warehouse(space, earlier, payment)?;
     pay_district(space, earlier, payment)
@@ -54,7 +54,7 @@ fn pay_warehouse<const N: usize>(
       warehouses = with_changed (is_warehouse payment.now.warehouse) (warehouse_paid payment.now.amount) (tables_of N (owner_bytes space.old)).warehouses;
     }) }
     ensures can_undo { CanUndo N space.old space.new earlier.old earlier.new }
-    ensures no_frame { result ≡ Err Shortage.NoFrame → free_of space.new.frames ≡ 0 }
+    ensures no_frame { result ≡ Err Shortage.NoFrame → IsOutOfFrames space.new }
 {
     let Some(found) = find_row::<Warehouse, N>(space, &payment.warehouse) else {
         return Ok(());
@@ -78,7 +78,7 @@ fn pay_district<const N: usize>(
       districts = with_changed (is_district payment.now.warehouse payment.now.district) (district_paid payment.now.amount) (tables_of N (owner_bytes space.old)).districts;
     }) }
     ensures can_undo { CanUndo N space.old space.new earlier.old earlier.new }
-    ensures no_frame { result ≡ Err Shortage.NoFrame → free_of space.new.frames ≡ 0 }
+    ensures no_frame { result ≡ Err Shortage.NoFrame → IsOutOfFrames space.new }
 {
     let key = DistrictKey {
         warehouse: payment.warehouse,
@@ -106,7 +106,7 @@ pub(crate) fn pay_customer<const N: usize>(
     ensures rows { OnOk result (tables_of N (owner_bytes space.new) ≡ customer_changed payment.now (tables_of N (owner_bytes space.old))) }
     ensures reply { IfOk result (λ reply. reply ≡ payment_reply payment.now (payer payment.now (tables_of N (owner_bytes space.old)))) }
     ensures can_undo { CanUndo N space.old space.new earlier.old earlier.new }
-    ensures no_frame { result ≡ Err Shortage.NoFrame → free_of space.new.frames ≡ 0 }
+    ensures no_frame { result ≡ Err Shortage.NoFrame → IsOutOfFrames space.new }
 {
     let key = payer_key(payment);
     let Some(found) = find_row::<Customer, N>(space, &key) else {
@@ -211,7 +211,7 @@ fn change<R: Row, const N: usize>(
     ensures rows { OnOk result (ChangesRow N R.BYTES R.row_of_bytes (owner_pages space.old R.SEGMENT) (owner_pages space.new R.SEGMENT) slot row.now) }
     ensures others { OnOk result (KeepsOtherSegments (owner_bytes space.old) (owner_bytes space.new) R.SEGMENT) }
     ensures can_undo { CanUndo N space.old space.new earlier.old earlier.new }
-    ensures no_frame { result ≡ Err Shortage.NoFrame → free_of space.new.frames ≡ 0 }
+    ensures no_frame { result ≡ Err Shortage.NoFrame → IsOutOfFrames space.new }
 {
     let place = place_in::<R, N>(space, slot);
     earlier.first_touch(space, R::SEGMENT, place.page as u32)?;

@@ -4,7 +4,8 @@ ghost use Rattle.std.specs.Prelude.{◌≡◌, ℕ, ◌+◌, ◌-◌, ◌*◌, �
 ghost use Rattle.hy_page.specs.Bytes.{bytes_at, overwritten};
 ghost use Rattle.hy_schema.specs.Slots.{slot_written};
 ghost use Rattle.hy_schema.specs.Spelling.{HasTables, IsFirstMatch, rows_of, slot_at, slot_offset, slot_page, slot_width, used_slots};
-ghost use Rattle.hy_space.specs.Space.{owner_bytes, HasPage, page_at, with_page, SameForChildren, MakesOwn, LacksFrame};
+ghost use Rattle.hy_space.specs.Space.{owner_bytes, HasPage, page_at, with_page, SameForChildren, MakesOwn};
+ghost use Rattle.hy_partition.specs.Shortages.{IsOutOfFrames};
 ghost use Rattle.hy_partition.specs.Rows.{ChangesRow, LiveRow, KeepsOtherSegments, WritesPage, owner_pages};
 
 use crate::keyed::Keyed;
@@ -125,7 +126,7 @@ pub(crate) fn put_row<R: Row, const N: usize>(
     ensures page { OnOk result (WritesPage (owner_bytes space.old) (owner_bytes space.new) R.SEGMENT (slot_page N R.BYTES slot)) }
     ensures children { OnOk result (SameForChildren space.old space.new) }
     ensures own { OnOk result (MakesOwn space.old space.new R.SEGMENT (slot_page N R.BYTES slot)) }
-    ensures full { result ≡ Err Shortage.NoFrame → LacksFrame space.old R.SEGMENT (slot_page N R.BYTES slot) }
+    ensures no_frame { result ≡ Err Shortage.NoFrame → IsOutOfFrames space.old }
     ensures err { OnErr result (space.new ≡ space.old) }
 {
     space.sound();

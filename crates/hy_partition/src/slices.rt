@@ -2,13 +2,13 @@
 
 ghost use Rattle.std.specs.Prelude.{◌≡◌, ℕ, ◌≤◌, Err, IfOk, OnOk, is_some, true};
 ghost use Rattle.std.specs.List.{AllByRecursion};
-ghost use Rattle.hy_frames.specs.FrameTable.{free_of};
 ghost use Rattle.hy_schema.specs.Commands.{is_in_range};
 ghost use Rattle.hy_schema.specs.Spelling.{HasTables, tables_of};
 ghost use Rattle.hy_schema.specs.Transactions.{is_district_number, payer, refusal_of};
 ghost use Rattle.hy_space.specs.Space.{owner_bytes};
 ghost use Rattle.hy_partition.specs.Changes.{CanUndo, DoesSlice};
 ghost use Rattle.hy_partition.specs.Growth.{IsGrown, IsGrownCustomer};
+ghost use Rattle.hy_partition.specs.Shortages.{IsOutOfFrames};
 ghost use Rattle.hy_partition.specs.Soundness.{IsUndoLog};
 
 use crate::earlier::EarlierPages;
@@ -33,7 +33,7 @@ pub(crate) fn run_slice<const N: usize>(
     ensures tables { OnOk result (HasTables N (owner_bytes space.new)) }
     ensures slice { IfOk result (DoesSlice running.now.command running.now.slices (tables_of N (owner_bytes space.old)) (tables_of N (owner_bytes space.new))) }
     ensures can_undo { CanUndo N space.old space.new earlier.old earlier.new }
-    ensures no_frame { result ≡ Err Shortage.NoFrame → free_of space.new.frames ≡ 0 }
+    ensures no_frame { result ≡ Err Shortage.NoFrame → IsOutOfFrames space.new }
 {
     let Command::Payment(payment) = running.command();
     if running.slices() == 0 {

@@ -5,7 +5,7 @@ use Rattle.hy_page.proofs.ByteLaws.{to_le_bytes-bytes_of}
 use Rattle.hy_schema.specs.Spelling.{HasTables, list_at, rows_of, slot_page, slot_offset}
 use Rattle.hy_space.specs.Space.{owner_bytes, page_at, with_page, HasPage, HasPagesOf}
 use Rattle.hy_partition.proofs.PlaceLaws.{has_page, rows-row_pushed, tables-row_pushed, others-row_pushed}
-use Rattle.hy_partition.proofs.FillLaws.{free-written}
+use Rattle.hy_partition.proofs.FrameLaws.{free-written}
 use Rattle.hy_partition.proofs.SnapshotLaws.{segment_there}
 use Rattle.hy_partition.proofs.fill.fill_place.Goals as goal
 use Rattle.hy_partition.proofs.fill.fill_place.Given as given

@@ -2,8 +2,9 @@ use Rattle.std.proofs.Common.{◌≡◌, ℕ, ◌+◌, List, [], ◌++◌, arith
 use Rattle.std.proofs.lemmas.Result.{on_ok_weaker}
 use Rattle.hy_page.specs.Bytes.{overwritten}
 use Rattle.hy_schema.specs.Spelling.{HasTables, list_at, slot_page, slot_offset, rows_of}
-use Rattle.hy_space.specs.Space.{owner_bytes, page_at, with_page, HasPagesOf}
+use Rattle.hy_space.specs.Space.{owner_bytes, page_at, with_page, HasPage, HasPagesOf}
 use Rattle.hy_partition.proofs.PlaceLaws.{rows-row_written, tables-row_written}
+use Rattle.hy_partition.proofs.FrameLaws.{out_of_frames}
 use Rattle.hy_partition.proofs.places.put_row.Goals as goal
 use Rattle.hy_partition.proofs.places.put_row.Given as given
 
@@ -35,3 +36,8 @@ returns-clause-rows g c = on_ok_weaker c.write.result (λ raw test step before f
 
 pub returns-clause-page : goal.returns-clause-page
 returns-clause-page g c = on_ok_weaker c.write.result (λ raw. (_, after g c raw)) c.write.ensures.bytes
+
+pub returns-clause-no_frame : goal.returns-clause-no_frame
+returns-clause-no_frame g c failed =
+    let there : HasPage c.args.space.now c.SEGMENT.result c.place_in-place.result.page = subst (λ (s : ℕ). HasPage c.args.space.now s c.place_in-place.result.page) (sym c.SEGMENT.ensures) c.place_in-place.ensures.there in
+    out_of_frames g.row.N c.args.space.now c.SEGMENT.result c.place_in-place.result.page c.sound.ensures there (c.write.ensures.full_only_then failed)

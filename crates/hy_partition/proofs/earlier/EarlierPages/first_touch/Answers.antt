@@ -1,9 +1,10 @@
 use Rattle.std.proofs.Common.{rules, ◌≡◌, ℕ, List, [], ◌∷◌, ◌++◌, sym, ap, ap₂, ◌∙◌, subst}
-use Rattle.hy_space.specs.Space.{owner_bytes}
+use Rattle.hy_space.specs.Space.{LacksFrame, owner_bytes}
 use Rattle.hy_partition.specs.Undone.{Earlier, undone}
 use Rattle.hy_partition.specs.Soundness.{IsKept, IsUndoLog}
 use Rattle.hy_partition.proofs.PageChanges.{undone-kept}
 use Rattle.hy_partition.proofs.KeptLaws.{SameShape-same, undo_log-append, undo_log-still, has_page-same_shape}
+use Rattle.hy_partition.proofs.FrameLaws.{out_of_frames}
 use Rattle.hy_partition.proofs.earlier.EarlierPages.first_touch.Goals as goal
 use Rattle.hy_partition.proofs.earlier.EarlierPages.first_touch.Given as given
 
@@ -28,3 +29,8 @@ returns-clause-undone g c =
     ap₂ undone c.in_ok-bytes.ensures.bytes (items g c)
     ∙ ap (λ (bytes : List ℕ). undone (owner_bytes c.args.space.now) (c.args.self.now ++ record { segment = c.args.segment; page = c.args.page; bytes = bytes } ∷ [])) c.in_ok-bytes.ensures.hold
     ∙ undone-kept (owner_bytes c.args.space.now) c.args.self.now c.args.segment c.args.page
+
+pub returns-in_err-bytes-clause-no_frame : goal.returns-in_err-bytes-clause-no_frame
+returns-in_err-bytes-clause-no_frame g c failed =
+    let lacks : LacksFrame c.args.space.now c.args.segment c.args.page = search rules in
+    out_of_frames g.row.N c.args.space.now c.args.segment c.args.page c.sound.ensures c.requires.there lacks

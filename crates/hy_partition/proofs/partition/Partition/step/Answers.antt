@@ -1,4 +1,4 @@
-use Rattle.std.proofs.Common.{◌≡◌, ◌++◌, ◌∷◌, [], Option, Some, ap, ◌∙◌, subst, refl, arith}
+use Rattle.std.proofs.Common.{◌≡◌, ◌++◌, ◌∷◌, [], Option, Some, None, ap, ◌∙◌, subst, refl, arith}
 use Rattle.hy_schema.specs.declared.command.Commit.TheVariants as commits
 use Rattle.hy_partition.specs.Jobs.{RunningJob}
 use Rattle.hy_partition.specs.Partition.{PartitionState}
@@ -7,12 +7,12 @@ use Rattle.hy_schema.specs.declared.command.Reply.{Reply}
 use Rattle.hy_schema.specs.declared.command.Reply.TheVariants as replies
 use Rattle.hy_schema.specs.Spelling.{tables_of}
 use Rattle.hy_space.specs.Space.{owner_bytes}
-use Rattle.hy_frames.specs.FrameTable.{free_of}
 use Rattle.hy_partition.specs.Changes.{DoesSlice}
+use Rattle.hy_partition.specs.Steps.{LacksFrames}
 use Rattle.hy_partition.specs.declared.job.Progress.TheVariants as progress
 use Rattle.hy_partition.specs.Views.{partition_of}
 use Rattle.hy_partition.proofs.SoundLaws.{sound-accepted, runs}
-use Rattle.hy_partition.proofs.StepsToLaws.{step-running, refused_why, steps-more, steps-refused, tables-running, grown-first, customers-running, in_range-running}
+use Rattle.hy_partition.proofs.StepsToLaws.{step-running, lacks_frames, refused_why, steps-more, steps-refused, tables-running, grown-first, customers-running, in_range-running}
 use Rattle.hy_partition.proofs.partition.Partition.step.Goals as goal
 
 pub run_slice-requires : goal.run_slice-requires
@@ -42,7 +42,8 @@ pub returns-in-Err : goal.returns-in-Err
 returns-in-Err g c =
     let p : PartitionState = partition_of c.self.inside in
     let job : RunningJob = record { command = c.in-Some.running.command; slices = c.in-Some.running.slices } in
-    let why = refused_why c.in-Err.shortage c.new-in-Err.result (free_of c.roll_back.new.space.frames) (c.new-in-Err.ensures ∙ ap replies.Refused c.refusal_for_shortage.ensures)
-    (λ full. c.roll_back.ensures.free ∙ c.run_slice.ensures.no_frame (c.in-Err.is ∙ ap Err full)) in
+    let after : PartitionState = record p { running = None; earlier = c.roll_back.new.self; finished = Some c.new-in-Err.result; space = c.roll_back.new.space } in
+    let why = refused_why c.in-Err.shortage c.new-in-Err.result (LacksFrames after) (c.new-in-Err.ensures ∙ ap replies.Refused c.refusal_for_shortage.ensures)
+    (λ full. lacks_frames g.row.N _ p after c.run_slice.new.space c.self.invariant c.run_slice.ensures.can_undo.children (c.run_slice.ensures.no_frame (c.in-Err.is ∙ ap Err full)) c.roll_back.ensures.free refl) in
     step-running c.args.self.now p _ job progress.Finished (Ok progress.Finished) refl c.self.view_is c.in-Some.is
     (steps-refused g.row.N p job c.run_slice.new.space c.roll_back.new.space c.run_slice.new.earlier c.roll_back.new.self c.new-in-Err.result c.run_slice.ensures.can_undo c.roll_back.ensures.empty c.roll_back.ensures.bytes c.roll_back.ensures.children why)
