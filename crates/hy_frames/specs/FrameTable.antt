@@ -15,6 +15,10 @@ pub record FrameTable : Type 0 where
 abbrev pub empty_frame : Frame
 empty_frame = record { count = 0; bytes = [] }
 
+-- the most frames that a table can have
+abbrev pub max_frames : ℕ
+max_frames = 10000000
+
 -- the frame of a number, which is empty where no frame has that number
 abbrev pub frame_at : FrameTable → ℕ → Frame
 frame_at table f = slice_index_or table.frames f empty_frame
@@ -47,7 +51,7 @@ pub record Sets (old new : FrameTable) (f : ℕ) (frame : Frame) : Type 0 where
 
 -- a limit that a table can have: at least one frame, at most ten million, and no fewer than are in use
 abbrev pub IsLimitFor : FrameTable → ℕ → Type 0
-IsLimitFor table limit = (1 ≤ limit) × (limit ≤ 10000000) × (in_use table ≤ limit)
+IsLimitFor table limit = (1 ≤ limit) × (limit ≤ max_frames) × (in_use table ≤ limit)
 
 -- what always holds of a table of frames with pages of `page_size` bytes
 pub record IsSoundTable (page_size : ℕ) (table : FrameTable) : Type 0 where
@@ -56,4 +60,4 @@ pub record IsSoundTable (page_size : ℕ) (table : FrameTable) : Type 0 where
   pub pages : (f : ℕ) → 1 ≤ count_of table f → length (page_of table f) ≡ page_size
   pub within : in_use table ≤ table.max
   pub some : 1 ≤ table.max
-  pub limit : table.max ≤ 10000000
+  pub limit : table.max ≤ max_frames

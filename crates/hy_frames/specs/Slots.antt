@@ -1,6 +1,6 @@
 -- How the slots of a table and the list of unused numbers fit together.
 use Rattle.std.specs.Prelude.{◌≡◌, ℕ, ◌+◌, ◌<◌, ◌≤◌, ◌⊎◌, ◌==◌, List, [], ◌∷◌, ◌++◌, length, slice_index_or, slice_set, count_by, if◌then◌else◌}
-use Rattle.hy_frames.specs.FrameTable.{Frame, FrameTable, in_use, shared_of, IsSoundTable}
+use Rattle.hy_frames.specs.FrameTable.{Frame, FrameTable, max_frames, in_use, shared_of, IsSoundTable}
 
 -- how often a number stands in a list
 abbrev pub occurrences : ℕ → List ℕ → ℕ
@@ -16,7 +16,7 @@ pub record IsSoundSlots (page_size : ℕ) (slots : FrameTable) (unused : List �
   pub each_once : (f : ℕ) → occurrences f unused ≡ unused_at slots.frames f
   pub partition : in_use slots + length unused ≡ length slots.frames
   pub fits : length slots.frames ≤ room
-  pub small : length slots.frames ≤ 10000000
+  pub small : length slots.frames ≤ max_frames
   pub sharing : shared ≡ shared_of slots
 
 -- a slot is unused, or there is room for one more slot and its number

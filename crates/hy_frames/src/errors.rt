@@ -1,19 +1,14 @@
 //! Why a call was refused.
 
-use thiserror::Error;
-
 /// What a table of frames ran out of.
-#[derive(Clone, Copy, Debug, PartialEq, Eq, Error)]
+#[derive(Clone, Copy, Debug, PartialEq, Eq)]
 pub enum Shortage {
     /// The allocator has no memory.
-    #[error("E1 NoMemory")]
     NoMemory,
     /// As many frames are in use as may be.
-    #[error("E2 NoFrame")]
     NoFrame,
 }
 
-/// A limit that is no limit for this table.
-#[derive(Clone, Copy, Debug, PartialEq, Eq, Error)]
-#[error("E8 OutOfRange")]
+/// A limit that this table can't have.
+#[derive(Clone, Copy, Debug, PartialEq, Eq)]
 pub struct OutOfRange;

@@ -8,4 +8,4 @@ mod table;
 
 pub use errors::{OutOfRange, Shortage};
 pub use shared_page::Hold;
-pub use table::{FrameNo, Frames, MAX_FRAMES};
+pub use table::{FrameNo, Frames};

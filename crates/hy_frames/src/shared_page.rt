@@ -28,11 +28,11 @@ impl<const N: usize> Model for Hold<N> {
 
 impl<const N: usize> Hold<N> {
     /// Moves a page to where it can be shared, or gives it back where there is no memory.
-    pub fn new(alloc: Global, page: Page<N>) -> Result<Hold<N>, AllocFailed<Page<N>>>
+    pub(crate) fn new(alloc: Global, page: Page<N>) -> Result<Hold<N>, AllocFailed<Page<N>>>
         ensures ok { IfOk result (λ hold. hold ≡ page.entry) }
         ensures returned { IfErr result (λ failed. failed.value ≡ page.entry) }
     {
-        page.know_bytes();
+        let _bytes = page.bytes();
         match Arc::new(alloc, page) {
             Ok(page) => Ok(Hold { page }),
             Err(failed) => Err(failed),
@@ -55,7 +55,7 @@ impl<const N: usize> Hold<N> {
     }
 
     /// Another hold of the same page.
-    pub fn try_clone(&self) -> Result<Hold<N>, AllocError>
+    pub(crate) fn try_clone(&self) -> Result<Hold<N>, AllocError>
         ensures { IfOk result (λ hold. hold ≡ self.now) }
     {
         let page = Arc::try_clone(&self.page)?;
@@ -78,9 +78,18 @@ impl<const N: usize> Hold<N> {
             page.write(offset, bytes);
             return Ok(());
         }
+        self.write_copy(alloc, offset, bytes)
+    }
+
+    /// Writes bytes into a copy of the page, and holds that copy from then on.
+    fn write_copy(&mut self, alloc: Global, offset: usize, bytes: &[u8]) -> Result<(), AllocError>
+        requires small { N ≤ 65536 }
+        requires within { offset + length bytes.now ≤ N }
+        ensures ok { OnOk result (self.new ≡ overwritten self.old offset bytes.now) }
+        ensures err { OnErr result (self.new ≡ self.old) }
+    {
         let mut page = self.page.copy();
         page.write(offset, bytes);
-        page.know_bytes();
         self.page = Arc::new(alloc, page)?;
         Ok(())
     }

@@ -1,6 +1,6 @@
 //! One slot of a table of frames.
 
-ghost use Rattle.std.specs.Prelude.{◌≡◌, ℕ, ◌+◌, ◌-◌, ◌^◌, ◌<◌, ◌≤◌, ◌==◌, List, [], length, if◌then◌else◌, OnOk, OnErr};
+ghost use Rattle.std.specs.Prelude.{◌≡◌, ◌+◌, ◌-◌, ◌^◌, ◌<◌, ◌≤◌, [], length, OnOk, OnErr};
 ghost use Rattle.hy_page.specs.Bytes.{overwritten};
 ghost use Rattle.hy_frames.specs.FrameTable.{Frame, empty_frame};
 
@@ -18,7 +18,7 @@ pub(crate) struct Slot<const N: usize> {
 
 // Clauses see a frame. An unused slot has no page.
 impl<const N: usize> Model for Slot<N> {
-    ghost use Rattle.std.specs.Prelude.{ℕ, ◌<◌, ◌↔◌, [], IsSome, unwrap_or};
+    ghost use Rattle.std.specs.Prelude.{◌<◌, ◌↔◌, [], IsSome, unwrap_or};
     ghost use Rattle.hy_frames.specs.FrameTable.{Frame};
 
     ghost Value = { Frame };

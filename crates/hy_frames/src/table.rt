@@ -1,8 +1,8 @@
 //! A table of frames.
 
-ghost use Rattle.std.specs.Prelude.{◌≡◌, ◌≢◌, ℕ, ◌+◌, ◌-◌, ◌^◌, ◌<◌, ◌≤◌, ◌↔◌, ◌++◌, ◌∷◌, [], List, length, vec_capacity, vec_len, IfOk, IfErr, IsOk, OnOk, OnErr, IsErrAnd};
+ghost use Rattle.std.specs.Prelude.{◌≡◌, ◌≢◌, ℕ, ◌+◌, ◌-◌, ◌^◌, ◌<◌, ◌≤◌, ◌↔◌, length, vec_capacity, IfOk, IfErr, IsOk, OnOk, OnErr, IsErrAnd};
 ghost use Rattle.hy_page.specs.Bytes.{overwritten};
-ghost use Rattle.hy_frames.specs.FrameTable.{FrameTable, Frame, empty_frame, frame_at, count_of, page_of, in_use, free_of, shared_of, Sets, IsLimitFor, IsSoundTable};
+ghost use Rattle.hy_frames.specs.FrameTable.{FrameTable, max_frames, empty_frame, frame_at, count_of, page_of, in_use, free_of, shared_of, Sets, IsLimitFor, IsSoundTable};
 ghost use Rattle.hy_frames.specs.Slots.{IsPut, HasRoom, occurrences};
 
 use super::errors::{OutOfRange, Shortage};
@@ -13,7 +13,7 @@ use std::alloc::{AllocError, Global};
 use std::marker::Model;
 
 /// The most frames that one table can have.
-pub const MAX_FRAMES: u64 = 10_000_000;
+const MAX_FRAMES: u64 = 10_000_000;
 
 /// The number of a frame.
 #[derive(Clone, Copy, Debug, PartialEq, Eq)]
@@ -69,7 +69,7 @@ impl<const N: usize> Frames<N> {
         requires smallest { 256 ≤ N }
         requires largest { N ≤ 65536 }
         requires some { 1 ≤ max }
-        requires limit { max ≤ 10000000 }
+        requires limit { max ≤ max_frames }
         ensures empty { (f : ℕ) → frame_at result f ≡ empty_frame }
         ensures unused { in_use result ≡ 0 }
         ensures max { result.max ≡ max }
@@ -99,7 +99,7 @@ impl<const N: usize> Frames<N> {
         ensures full_only_then { IfErr result
             (λ refused. refused.1 ≡ Shortage.NoFrame → free_of self.old ≡ 0) }
     {
-        page.know_bytes();
+        let _bytes = page.bytes();
         if self.free() == 0 {
             return Err((page, Shortage::NoFrame));
         }
@@ -173,13 +173,6 @@ impl<const N: usize> Frames<N> {
         ensures { result ≡ shared_of self.now }
     {
         self.shared
-    }
-
-    /// How many frames can be in use.
-    pub fn max(&self) -> u64
-        ensures { result ≡ self.now.max }
-    {
-        self.max
     }
 
     /// The page in a frame in use.
@@ -316,6 +309,25 @@ mod tests {
         frames.drop_one(frame);
         frames.drop_one(frame);
         assert_eq!(rt; frames.free(), 1);
+        Ok(())
+    }
+
+    #[test]
+    fn long_writes_stand_in_two_frames(rt: HostRuntime) -> Result<(), Fail> {
+        let mut frames: Frames<256> = Frames::new(rt.alloc(), 2);
+        let Ok(first) = frames.take(Page::zero()) else {
+            return Err(Fail::from(Shortage::NoMemory));
+        };
+        let Ok(second) = frames.take(Page::zero()) else {
+            return Err(Fail::from(Shortage::NoMemory));
+        };
+        assert!(rt; first != second);
+        frames.write(first, 240, b"sixteen at last!")?;
+        let hold = frames.hold(second)?;
+        frames.write(second, 0, b"sixteen at first")?;
+        assert_eq!(rt; frames.page(first).field(248, 8), 0x217473616c207461);
+        assert_eq!(rt; frames.page(second).field(8, 8), 0x7473726966207461);
+        assert_eq!(rt; hold.page().field(8, 8), 0);
         Ok(())
     }
 }

@@ -1,5 +1,5 @@
 -- The laws of numbers as bytes and of overwritten bytes.
-use Rattle.std.proofs.Common.{◌≡◌, ℕ, zero, suc, ◌+◌, ◌-◌, ◌*◌, ◌/◌, ◌%◌, ◌^◌, ◌<◌, ◌≤◌, List, [], ◌∷◌, ◌++◌, length, take, drop, replicate, refl, sym, ap, ◌∙◌, ap₂, arith, append_assoc, length-append, length-drop, get_or-drop}
+use Rattle.std.proofs.Common.{◌≡◌, ℕ, zero, suc, ◌+◌, ◌-◌, ◌*◌, ◌/◌, ◌%◌, ◌^◌, ◌<◌, ◌≤◌, List, [], ◌∷◌, ◌++◌, length, take, drop, replicate, refl, sym, ap, ◌∙◌, arith, append_assoc, length-append, length-drop, get_or-drop}
 use Rattle.std.proofs.lemmas.List.{length-take-le, take_at, drop_at, drop-take, drop-drop, take-append-le, take-take, take-replicate, drop-replicate}
 use Rattle.std.proofs.lemmas.Nat.{div_below}
 use Rattle.std.proofs.Math.Nat.{pow-suc, pow-le-pow_right, div-div-eq-div-mul}
@@ -18,14 +18,6 @@ number_of-bytes_of (suc width) number fits =
     let above : number / 256 < 256 ^ width = div_below number 256 (256 ^ width) (omega arith) (omega (arith, pow-suc 256 width)) in
     omega (arith, number_of-bytes_of width (number / 256) above)
 
--- bytes are the bytes of the number that they spell
-pub bytes_of-number_of : (bytes : List ℕ) → AreBytes bytes → bytes_of (length bytes) (number_of bytes) ≡ bytes
-bytes_of-number_of [] are_bytes = refl
-bytes_of-number_of (byte ∷ bytes) are_bytes =
-    let low : byte < 256 = are_bytes 0 in
-    let rest = bytes_of-number_of bytes (λ k. are_bytes (suc k)) in
-    ap₂ ◌∷◌ (omega arith) (ap (bytes_of (length bytes)) (omega arith) ∙ rest)
-
 -- some bytes spell a number that fits them
 pub number_of-below : (bytes : List ℕ) → AreBytes bytes → number_of bytes < 256 ^ length bytes
 number_of-below [] are_bytes = omega arith
@@ -33,12 +25,6 @@ number_of-below (byte ∷ bytes) are_bytes =
     let low : byte < 256 = are_bytes 0 in
     let rest = number_of-below bytes (λ k. are_bytes (suc k)) in
     omega (arith, pow-suc 256 (length bytes))
-
--- the bytes of a number are bytes
-pub AreBytes-bytes_of : (width number : ℕ) → AreBytes (bytes_of width number)
-AreBytes-bytes_of zero number k = omega arith
-AreBytes-bytes_of (suc width) number zero = omega arith
-AreBytes-bytes_of (suc width) number (suc k) = AreBytes-bytes_of width (number / 256) k
 
 -- the lowest bytes of a number
 pub take-bytes_of : (width more number : ℕ) → width ≤ more → take width (bytes_of more number) ≡ bytes_of width number
@@ -49,11 +35,6 @@ take-bytes_of (suc width) (suc more) number within = ap (λ bytes. number % 256 
 -- a part within a list has as many bytes as are asked for
 pub length-bytes_at : (bytes : List ℕ) (offset count : ℕ) → offset + count ≤ length bytes → length (bytes_at bytes offset count) ≡ count
 length-bytes_at bytes offset count within = length-take-le count (drop offset bytes) (omega (arith, length-drop offset bytes))
-
--- a write within a list keeps its length
-pub length-overwritten : (bytes : List ℕ) (offset : ℕ) (others : List ℕ) → offset + length others ≤ length bytes → length (overwritten bytes offset others) ≡ length bytes
-length-overwritten bytes offset others within =
-    simp (length-append, length-drop) (omega (arith, length-take-le offset bytes (omega arith)))
 
 -- where bytes were written, these bytes stand
 pub bytes_at-overwritten_same : (bytes : List ℕ) (offset : ℕ) (others : List ℕ) → offset + length others ≤ length bytes → bytes_at (overwritten bytes offset others) offset (length others) ≡ others

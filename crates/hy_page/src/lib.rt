@@ -74,14 +74,6 @@ impl<const N: usize> Page<N> {
         whole[offset..offset + bytes.len()].copy_from_slice(bytes);
     }
 
-    /// What always holds of a page: it has `N` bytes.
-    pub fn know_bytes(&self)
-        ensures size { length self.now ≡ N }
-        ensures range { AreBytes self.now }
-    {
-        let _bytes = self.bytes();
-    }
-
     /// A second page with the same bytes.
     pub fn copy(&self) -> Page<N>
         ensures bytes { result ≡ self.now }

@@ -135,10 +135,6 @@ module _ (page_size : ℕ) (s : SpaceState) (counted : IsCounted page_size s) wh
         λ other apart. same_child_bytes s.frames new (child_table s other) (λ g more. drops.pages g (omega (arith, drops.counts g, counted.exact g, parts g, child_in_sum g rest other, ap (child_times g) (get_or-set_other s.children child other None None apart)))),
       )
 
-  -- a child's frames have users
-  pub child_frames_used : (child : ℕ) (table : List (List ℕ)) → child_table s child ≡ Some table → (f : ℕ) → 0 < times f table → 0 < count_of s.frames f
-  child_frames_used child table is_table f more = omega (arith, child_counted f child, ap (child_times f) is_table)
-
   -- few enough tables have a frame for one more user
   pub room_for_user : (f : ℕ) → count_of s.frames f + times f s.owner ≤ length s.children + 2
   room_for_user f =

@@ -2,7 +2,7 @@
 use Rattle.std.proofs.Common.{◌≡◌, ◌≢◌, ℕ, zero, suc, ◌+◌, ◌<◌, ◌≤◌, inl, inr, List, [], ◌∷◌, ◌++◌, length, get_or, take, drop, set, map, refl, sym, ap, ap₂, ◌∙◌, arith, sum_by, Option, Some, None}
 use Rattle.std.specs.Option.{option_map}
 use Rattle.std.proofs.lemmas.List.{get_or_past, map-append, take-map, map-set, set-get_or}
-use Rattle.std.proofs.lemmas.List.Sums.{sum_by-cons, sum_by_push, sum_by-set, get_or-le-sum_by, sum_by-take-drop}
+use Rattle.std.proofs.lemmas.List.Sums.{sum_by-cons, sum_by-set, get_or-le-sum_by, sum_by-take-drop}
 use Rattle.std.proofs.lemmas.Bool.{cases_lt}
 use Rattle.hy_frames.specs.FrameTable.{FrameTable, page_of}
 use Rattle.hy_frames.specs.Slots.{occurrences}
@@ -39,16 +39,6 @@ times-with_frame f table segment page frame there within =
       arith,
       sum_by-set (occurrences f) table segment (set row page frame) [] there,
       sum_by-set (λ x. same x f) row page frame 0 within,
-    )
-
--- one more frame at a segment's end
-pub times-push : (f : ℕ) (table : List (List ℕ)) (segment frame : ℕ) → segment < length table → times f (set table segment (get_or table segment [] ++ frame ∷ [])) ≡ times f table + same frame f
-times-push f table segment frame there =
-    let row = get_or table segment [] in
-    omega (
-      arith,
-      sum_by-set (occurrences f) table segment (row ++ frame ∷ []) [] there,
-      sum_by_push (λ x. same x f) row frame,
     )
 
 -- the first frames of a segment alone

@@ -1,12 +1,12 @@
 -- How the users of frames add up.
-use Rattle.std.proofs.Common.{◌≡◌, ◌≢◌, ℕ, ◌+◌, ◌-◌, ◌<◌, ◌≤◌, inl, inr, List, cond, eqb, length, get_or, take, refl, sym, ap, ◌∙◌, arith}
+use Rattle.std.proofs.Common.{◌≡◌, ◌≢◌, ℕ, ◌+◌, ◌-◌, ◌<◌, ◌≤◌, inl, inr, List, cond, eqb, length, get_or, take, sym, ap, ◌∙◌, arith}
 use Rattle.std.proofs.lemmas.Bool.{cases_lt, cases_eq, eq-eqb, ne_eqb}
 use Rattle.std.proofs.lemmas.List.{get_or_read}
 use Rattle.std.proofs.lemmas.List.Sums.{sum_by_more, sum_by_more_le}
 use Rattle.hy_frames.specs.Slots.{occurrences}
 use Rattle.hy_space.specs.Space.{times}
 use Rattle.hy_frames.specs.FrameTable.{Frame, FrameTable, empty_frame, count_of, page_of, free_of, Sets}
-use Rattle.hy_space.specs.Users.{AddsUsers, DropsUsers}
+use Rattle.hy_space.specs.Users.{DropsUsers}
 
 -- 1 where two numbers are one, else 0
 abbrev pub same : ℕ → ℕ → ℕ
@@ -17,44 +17,6 @@ same_yes a b e = ap {B = ℕ} (λ t. cond t 1 0) (eq-eqb a b e)
 
 pub same_no : (a b : ℕ) → a ≢ b → same a b ≡ 0
 same_no a b n = ap {B = ℕ} (λ t. cond t 1 0) (ne_eqb a b n)
-
-pub AddsUsers-none : (table : FrameTable) (added : ℕ → ℕ) → ((f : ℕ) → added f ≡ 0) → AddsUsers table table added
-AddsUsers-none table added none = record {
-  counts = λ f. omega (arith, none f);
-  pages = λ f. refl;
-  limit = refl;
-  free = refl;
-}
-
-pub AddsUsers-then : (a b c : FrameTable) (x y z : ℕ → ℕ) → AddsUsers a b x → AddsUsers b c y → ((f : ℕ) → z f ≡ x f + y f) → AddsUsers a c z
-AddsUsers-then a b c x y z first second sum = record {
-  counts = λ f. omega (arith, first.counts f, second.counts f, sum f);
-  pages = λ f. second.pages f ∙ first.pages f;
-  limit = second.limit ∙ first.limit;
-  free = second.free ∙ first.free;
-}
-
-pub AddsUsers-one : (old new : FrameTable) (f : ℕ) → Sets old new f (record { count = count_of old f + 1; bytes = page_of old f }) → free_of new ≡ free_of old → AddsUsers old new (λ g. same f g)
-AddsUsers-one old new f sets free = record {
-  counts = λ g. elim (cases_eq g f) [
-    | inl here ↦ omega (arith, ap (count_of new) here, ap (count_of old) here, ap (λ (x : Frame). x.count) sets.here, same_yes f g (sym here))
-    | inr apart ↦ omega (arith, ap (λ (x : Frame). x.count) (sets.others g apart), same_no f g (λ e. apart (sym e)))
-  ];
-  pages = λ g. elim (cases_eq g f) [
-    | inl here ↦ ap (page_of new) here ∙ ap (λ (x : Frame). x.bytes) sets.here ∙ ap (page_of old) (sym here)
-    | inr apart ↦ ap (λ (x : Frame). x.bytes) (sets.others g apart)
-  ];
-  limit = sets.limit;
-  free = free;
-}
-
-pub DropsUsers-none : (table : FrameTable) (dropped : ℕ → ℕ) → ((f : ℕ) → dropped f ≡ 0) → DropsUsers table table dropped
-DropsUsers-none table dropped none = record {
-  counts = λ f. omega (arith, none f);
-  pages = λ f used. refl;
-  limit = refl;
-  free = omega arith;
-}
 
 pub DropsUsers-then : (a b c : FrameTable) (x y z : ℕ → ℕ) → DropsUsers a b x → DropsUsers b c y → ((f : ℕ) → z f ≡ x f + y f) → DropsUsers a c z
 DropsUsers-then a b c x y z first second sum = record {

@@ -2,7 +2,7 @@
 use Rattle.std.specs.Prelude.{◌≡◌, ◌≢◌, ℕ, ◌+◌, ◌<◌, ◌≤◌, ◌==◌, nat_lt, Bool, List, [], ◌∷◌, ◌++◌, length, map, take, slice_index, slice_index_or, slice_set, count_by, sum_by, All, Option, None, IsSome, option_to_list}
 use Rattle.std.specs.Option.{option_map}
 use Rattle.std.specs.List.{flat_map}
-use Rattle.hy_frames.specs.FrameTable.{FrameTable, count_of, page_of, in_use, free_of}
+use Rattle.hy_frames.specs.FrameTable.{FrameTable, max_frames, count_of, page_of, in_use, free_of}
 
 -- for each table the frame number of each page, by segment; a closed child has none
 pub record SpaceState : Type 0 where
@@ -66,7 +66,7 @@ page_at segments segment page = slice_index_or (slice_index_or segments segment 
 abbrev pub page_bytes : SpaceState → ℕ → ℕ → List ℕ
 page_bytes s segment page = page_at (owner_bytes s) segment page
 
--- no open child has the page's frame
+-- the page's frame has one user; where the space is sound and the page is there, no open child has that frame
 abbrev pub IsOwn : SpaceState → ℕ → ℕ → Type 0
 IsOwn s segment page = count_of s.frames (frame_no s segment page) ≡ 1
 
@@ -147,4 +147,4 @@ pub record IsSound (page_size : ℕ) (s : SpaceState) : Type 0 where
   pub largest : page_size ≤ 65536
   pub within : in_use s.frames ≤ s.frames.max
   pub some : 1 ≤ s.frames.max
-  pub limit : s.frames.max ≤ 10000000
+  pub limit : s.frames.max ≤ max_frames

@@ -3,7 +3,7 @@
 
 ghost use Rattle.std.specs.Prelude.{◌≡◌, ℕ, ◌+◌, ◌^◌, ◌<◌, ◌≤◌, ◌↔◌, [], length, map, replicate, Some, None, IsSome, IsOk, IfOk, OnOk, OnErr, IsErrOf};
 ghost use Rattle.hy_page.specs.Bytes.{number_of, bytes_at, overwritten};
-ghost use Rattle.hy_frames.specs.FrameTable.{FrameTable, count_of, in_use, free_of, shared_of, IsLimitFor};
+ghost use Rattle.hy_frames.specs.FrameTable.{max_frames, count_of, in_use, free_of, shared_of, IsLimitFor};
 ghost use Rattle.hy_space.specs.Space.{SpaceState, owner_bytes, child_table, child_bytes, page_count, HasPage, frame_no, page_bytes, IsOwn, with_new_frame, with_first_frames, with_page, with_new_page, with_first_pages, TakesFrame, MakesOwn, LacksFrame, IsLeastFree, SameForChildren, SameForOthers, SameForOwner, IsSound};
 ghost use Rattle.hy_space.specs.Children.{IsFirstClosed, IsPadded};
 
@@ -46,7 +46,7 @@ impl<const N: usize> Space<N> {
         requires smallest { 256 ≤ N }
         requires largest { N ≤ 65536 }
         requires some { 1 ≤ max }
-        requires limit { max ≤ 10000000 }
+        requires limit { max ≤ max_frames }
         ensures owner { IfOk result (λ s. s.owner ≡ replicate segments []) }
         ensures children { IfOk result (λ s. s.children ≡ []) }
         ensures unused { IfOk result (λ s. in_use s.frames ≡ 0) }
@@ -111,9 +111,37 @@ impl<const N: usize> Space<N> {
                 Err(_) => Err(Shortage::NoMemory),
             };
         }
+        self.write_shared(segment as usize, page as usize, offset, bytes)
+    }
+
+    /// Writes bytes into a copy of a page that a child sees too, and puts the copy into a fresh frame.
+    fn write_shared(
+        &mut self,
+        segment: usize,
+        page: usize,
+        offset: usize,
+        bytes: &[u8],
+    ) -> Result<(), Shortage>
+        requires there { HasPage self.old segment page }
+        requires shared { 1 < count_of self.old.frames (frame_no self.old segment page) }
+        requires within { offset + length bytes.now ≤ N }
+        ensures bytes { OnOk result (owner_bytes self.new
+            ≡ with_page (owner_bytes self.old) segment page
+            (overwritten (page_bytes self.old segment page) offset bytes.now)) }
+        ensures children { OnOk result (SameForChildren self.old self.new) }
+        ensures own { OnOk result (IsOwn self.new segment page) }
+        ensures fresh { OnOk result (TakesFrame self.old self.new segment page) }
+        ensures others { OnOk result ((segment' page' : ℕ) → HasPage self.old segment' page'
+            → IsOwn self.old segment' page' → IsOwn self.new segment' page') }
+        ensures full { free_of self.old.frames ≡ 0 → IsErrOf result Shortage.NoFrame }
+        ensures full_only_then { result ≡ Err Shortage.NoFrame → free_of self.old.frames ≡ 0 }
+        ensures limit { self.new.frames.max ≡ self.old.frames.max }
+        ensures err { OnErr result (self.new ≡ self.old) }
+    {
+        let frame = self.owner.frame(segment, page);
         let mut copy = self.frames.page(frame).copy();
         copy.write(offset, bytes);
-        self.replace_shared(segment as usize, page as usize, copy)
+        self.replace_shared(segment, page, copy)
     }
 
     /// Puts a page into a fresh frame, in the place of one that a child sees too.
@@ -235,7 +263,7 @@ impl<const N: usize> Space<N> {
     {
         let frame = self.owner.frame(segment as usize, page as usize);
         let is_own = self.frames.count(frame) == 1;
-        if !is_own && self.frames.free() == 0 {
+        if !is_own && self.free() == 0 {
             return Err(Shortage::NoFrame);
         }
         let hold = match self.frames.hold(frame) {
@@ -243,10 +271,29 @@ impl<const N: usize> Space<N> {
             Err(_) => return Err(Shortage::NoMemory),
         };
         if !is_own {
-            let copy = hold.page().copy();
-            self.replace_shared(segment as usize, page as usize, copy)?;
+            self.copy_shared(segment as usize, page as usize)?;
         }
         Ok(hold)
+    }
+
+    /// Puts a copy of a page that a child sees too into a fresh frame.
+    fn copy_shared(&mut self, segment: usize, page: usize) -> Result<(), Shortage>
+        requires there { HasPage self.old segment page }
+        requires shared { 1 < count_of self.old.frames (frame_no self.old segment page) }
+        ensures bytes { OnOk result (owner_bytes self.new ≡ owner_bytes self.old) }
+        ensures children { OnOk result (SameForChildren self.old self.new) }
+        ensures own { OnOk result (IsOwn self.new segment page) }
+        ensures fresh { OnOk result (TakesFrame self.old self.new segment page) }
+        ensures others { OnOk result ((segment' page' : ℕ) → HasPage self.old segment' page'
+            → IsOwn self.old segment' page' → IsOwn self.new segment' page') }
+        ensures full { free_of self.old.frames ≡ 0 → IsErrOf result Shortage.NoFrame }
+        ensures full_only_then { result ≡ Err Shortage.NoFrame → free_of self.old.frames ≡ 0 }
+        ensures limit { self.new.frames.max ≡ self.old.frames.max }
+        ensures err { OnErr result (self.new ≡ self.old) }
+    {
+        let frame = self.owner.frame(segment, page);
+        let copy = self.frames.page(frame).copy();
+        self.replace_shared(segment, page, copy)
     }
 
     /// Puts another page in the place of one of the owner's own. This needs no memory.
@@ -398,6 +445,59 @@ mod tests {
         space.set_max(1)?;
         space.cut(0, 0);
         assert_eq!(rt; space.free(), 1);
+        Ok(())
+    }
+
+    #[test]
+    fn long_writes_stand_in_two_segments(rt: HostRuntime) -> Result<(), Fail> {
+        let mut space: Space<256> = Space::new(rt.alloc(), 2, 4)?;
+        let first = space.grow(0)?;
+        let second = space.grow(1)?;
+        space.write(0, first, 100, b"a longer text")?;
+        space.write(1, second, 240, b"sixteen at last!")?;
+        let child = space.fork()?;
+        space.write(1, second, 0, b"sixteen at first")?;
+        assert_eq!(rt; space.read(0, first, 108, 5), 0x7478657420);
+        assert_eq!(rt; space.read(1, second, 8, 8), 0x7473726966207461);
+        assert_eq!(rt; space.read(1, second, 248, 8), 0x217473616c207461);
+        let holds = space.holds(child)?;
+        assert_eq!(rt; holds.len(), 2);
+        assert_eq!(rt; holds[1].len(), 1);
+        assert_eq!(rt; holds[1][0].page().field(8, 8), 0);
+        assert_eq!(rt; holds[1][0].page().field(248, 8), 0x217473616c207461);
+        Ok(())
+    }
+
+    #[test]
+    fn three_children_are_open_at_once(rt: HostRuntime) -> Result<(), Fail> {
+        let mut space: Space<256> = Space::new(rt.alloc(), 1, 4)?;
+        let page = space.grow(0)?;
+        assert_eq!(rt; space.fork()?, 0);
+        space.write(0, page, 0, b"second")?;
+        assert_eq!(rt; space.fork()?, 1);
+        space.write(0, page, 0, b"third")?;
+        assert_eq!(rt; space.fork()?, 2);
+        space.write(0, page, 0, b"owner")?;
+        assert_eq!(rt; space.free(), 0);
+        let holds = space.holds(1)?;
+        assert_eq!(rt; holds.len(), 1);
+        assert_eq!(rt; holds[0].len(), 1);
+        assert_eq!(rt; holds[0][0].page().field(0, 6), 0x646e6f636573);
+        Ok(())
+    }
+
+    #[test]
+    fn numbers_are_given_again(rt: HostRuntime) -> Result<(), Fail> {
+        let mut space: Space<256> = Space::new(rt.alloc(), 1, 1)?;
+        space.grow(0)?;
+        assert_eq!(rt; space.fork()?, 0);
+        assert_eq!(rt; space.fork()?, 1);
+        assert_eq!(rt; space.fork()?, 2);
+        space.close(0);
+        space.close(1);
+        assert_eq!(rt; space.fork()?, 0);
+        assert_eq!(rt; space.fork()?, 1);
+        assert_eq!(rt; space.fork()?, 3);
         Ok(())
     }
 }

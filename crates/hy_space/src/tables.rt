@@ -1,6 +1,6 @@
 //! Page tables: the frame of each page, by segment.
 
-ghost use Rattle.std.specs.Prelude.{◌≡◌, ℕ, ◌+◌, ◌<◌, ◌≤◌, List, [], ◌∷◌, ◌++◌, length, replicate, take, slice_index, slice_index_or, slice_set, IfOk, IfErr, OnOk, OnErr, IsErrOf};
+ghost use Rattle.std.specs.Prelude.{◌≡◌, ℕ, ◌+◌, ◌<◌, List, [], ◌∷◌, ◌++◌, length, replicate, take, slice_index, slice_index_or, slice_set, IfOk, OnOk, OnErr, IsErrOf};
 ghost use Rattle.hy_frames.specs.FrameTable.{count_of, free_of, Sets};
 ghost use Rattle.hy_space.specs.Space.{with_frame, with_new_frame, with_first_frames};
 

@@ -1,6 +1,6 @@
 //! Users of frames, many at once.
 
-ghost use Rattle.std.specs.Prelude.{◌≡◌, ℕ, ◌+◌, ◌<◌, ◌≤◌, ◌^◌, List, length, map, IfOk};
+ghost use Rattle.std.specs.Prelude.{◌≡◌, ℕ, ◌+◌, ◌<◌, ◌≤◌, ◌^◌, map, IfOk};
 ghost use Rattle.hy_frames.specs.FrameTable.{count_of, page_of};
 ghost use Rattle.hy_frames.specs.Slots.{occurrences};
 ghost use Rattle.hy_space.specs.Space.{times, table_bytes};

@@ -27,7 +27,7 @@ after g c =
     let put_2 = subst (λ unused. IsPut s.slots.items unused c.put.new.slots.items c.put.new.unused.items c.of.result c.put.result) c.make_room.ensures.unused put_1 in
     let put_3 = subst (λ frame. IsPut s.slots.items s.unused.items c.put.new.slots.items c.put.new.unused.items frame c.put.result) slot put_2 in
     let free : free_of table ≡ c.free.result = ap free_of c.self.view_is ∙ sym c.free.ensures in
-    taken g.row.N table (vec_capacity s.unused) s.shared c.put.result (record { count = 1; bytes = c.args.page }) (refl) c.know_bytes.ensures.size (omega (arith, c.if-free-eq0.false)) s.unused.items c.put.new.slots.items c.put.new.unused.items (vec_capacity c.put.new.unused) c.self.invariant put_3 c.put.ensures.room_kept
+    taken g.row.N table (vec_capacity s.unused) s.shared c.put.result (record { count = 1; bytes = c.args.page }) (refl) c.bytes-bytes.ensures.size (omega (arith, c.if-free-eq0.false)) s.unused.items c.put.new.slots.items c.put.new.unused.items (vec_capacity c.put.new.unused) c.self.invariant put_3 c.put.ensures.room_kept
 
 pub invariant_of-self-in-Ok : goal.invariant_of-self-in-Ok
 invariant_of-self-in-Ok g c = (after g c).sound
