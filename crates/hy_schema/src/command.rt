@@ -61,7 +61,7 @@ pub enum Commit {
 /// The answer to a command.
 #[derive(Clone, Copy, Debug, PartialEq, Eq)]
 pub enum Reply {
-    /// A payment was accepted (TPC-C clause 2.5.3.4).
+    /// A payment was accepted (TPC-C clause 2.5).
     Payment {
         /// The number of the customer who paid.
         customer: u16,
