@@ -122,8 +122,8 @@ pub record Closes (old new : PartitionState) (child : ℕ) : Type 0 where
   pub job : KeepsJob old new
   pub others : KeepsOthers old new child
 
--- a partition with the rows of one warehouse of a load, with nothing kept and no snapshot. Each table took one frame, and
--- each row at most one more
+-- a partition with the rows of one warehouse of a load, with nothing kept and no snapshot. No more
+-- frames were taken than it has rows, and three
 pub record Begins (load : Tables) (number frames commits : ℕ) (p : PartitionState) : Type 0 where
   pub warehouse : p.warehouse ≡ number
   pub loaded : p.loaded ≡ of_warehouse number load
