@@ -18,10 +18,10 @@ right-no_fault right Whole rows number good bad =
     right_or_wrong (right (number - 1)) (number ≡ length rows + 1) Whole (slice_get rows (number - 1)) (good.each (number - 1)) good.whole bad.fault
 
 pub load-no_fault : (tables : Tables) (fault : LoadFault) → IsLoad tables → HasFault tables fault → ⊥
-load-no_fault tables (faults.Row table.Warehouse number) load fault = right-no_fault _ _ tables.warehouses number load.warehouses fault
+load-no_fault tables (faults.Row table.Warehouse number) load fault = right-no_fault _ _ tables.warehouses number load.warehouses fault.1
 load-no_fault tables (faults.Row table.District number) load fault = right-no_fault _ _ tables.districts number load.districts fault.1
-load-no_fault tables (faults.Row table.Customer number) load fault = right-no_fault _ _ tables.customers number load.customers fault.2
-load-no_fault tables (faults.Condition number) load fault = elim fault.3 [
-  | inl first ↦ first.1 load.condition_1
-  | inr second ↦ second.2 load.condition_12
+load-no_fault tables (faults.Row table.Customer number) load fault = right-no_fault _ _ tables.customers number load.customers fault.1
+load-no_fault tables (faults.Condition number) load fault = elim fault.1 [
+  | inl first ↦ first.1 load.conditions.condition_1
+  | inr second ↦ second.2 load.conditions.condition_12
 ]

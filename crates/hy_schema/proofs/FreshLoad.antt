@@ -3,6 +3,7 @@ use Rattle.std.proofs.Common.{◌≡◌, ℕ, zero, suc, ◌+◌, ◌<◌, List,
 use Rattle.std.proofs.lemmas.Int.{ints}
 use Rattle.hy_schema.specs.Ranges.{IsBetween, IsLoadedText, IsCustomerInRange}
 use Rattle.hy_schema.specs.Loads.{IsWarehouseAt, IsDistrictAt, IsCustomerAt, IsLoad}
+use Rattle.hy_schema.proofs.BetweenLaws.{IsBetween-bounds, bounds}
 use Rattle.hy_schema.proofs.PrintableLaws.{printable}
 use Rattle.hy_schema.specs.WorkedRows.{fresh, fresh_district, fresh_customer, fresh-condition_1, fresh-condition_12}
 
@@ -29,12 +30,12 @@ right_everywhere right rows all place =
 district_right : (place : ℕ) (name : List ℕ) → place < 10 → IsLoadedText 10 name → IsDistrictAt 1 place (fresh_district (place + 1) name)
 district_right place name within is_name = (
   record {
-    id = (omega arith, omega arith);
-    warehouse = (lit≤ tt, lit≤ tt);
+    id = IsBetween-bounds 1 10 (place + 1) (omega arith) (omega arith);
+    warehouse = refl;
     name = is_name;
     tax = omega arith;
     ytd = (omega (arith, ints), omega (arith, ints));
-    next_order = (lit≤ tt, lit≤ tt);
+    next_order = refl;
   },
   omega arith,
   omega arith,
@@ -43,15 +44,15 @@ district_right place name within is_name = (
 
 -- the values of a customer of the fresh load are in range
 customer_in_range : (district number : ℕ) (first last : List ℕ) → IsBetween 1 10 district → IsBetween 1 3 number → IsLoadedText 16 first → IsLoadedText 16 last → IsCustomerInRange (fresh_customer district number first last)
-customer_in_range district number first last is_district is_number is_first is_last = record {
-  id = (is_number.0, omega (arith, is_number.1));
+customer_in_range district number first last is_district is_number is_first is_last = let few = bounds 1 3 number is_number in record {
+  id = IsBetween-bounds 1 3_000 number few.0 (omega (arith, few.1));
   district = is_district;
-  warehouse = (lit≤ tt, lit≤ tt);
+  warehouse = refl;
   first = is_first;
   middle = (lit≤ tt, printable (codes "OE") refl);
   last = is_last;
   credit = inl refl;
-  discount = omega (arith, is_number.1);
+  discount = omega (arith, few.1);
   balance = (omega (arith, ints), omega (arith, ints));
   ytd_payment = (omega (arith, ints), omega (arith, ints));
   payment_count = lit≤ tt;
@@ -61,15 +62,15 @@ customer_in_range district number first last is_district is_number is_first is_l
 -- the first, the second and the third customer of a district
 first_in_range : (district : ℕ) → IsBetween 1 10 district → IsCustomerInRange (fresh_customer district 1 (codes "F0001") (codes "BARBARBAR"))
 first_in_range district is_district =
-    customer_in_range district 1 (codes "F0001") (codes "BARBARBAR") is_district (lit≤ tt, lit≤ tt) (lit≤ tt, printable (codes "F0001") refl) (lit≤ tt, printable (codes "BARBARBAR") refl)
+    customer_in_range district 1 (codes "F0001") (codes "BARBARBAR") is_district refl (lit≤ tt, printable (codes "F0001") refl) (lit≤ tt, printable (codes "BARBARBAR") refl)
 
 second_in_range : (district : ℕ) → IsBetween 1 10 district → IsCustomerInRange (fresh_customer district 2 (codes "F0002") (codes "BARBAROUGHT"))
 second_in_range district is_district =
-    customer_in_range district 2 (codes "F0002") (codes "BARBAROUGHT") is_district (lit≤ tt, lit≤ tt) (lit≤ tt, printable (codes "F0002") refl) (lit≤ tt, printable (codes "BARBAROUGHT") refl)
+    customer_in_range district 2 (codes "F0002") (codes "BARBAROUGHT") is_district refl (lit≤ tt, printable (codes "F0002") refl) (lit≤ tt, printable (codes "BARBAROUGHT") refl)
 
 third_in_range : (district : ℕ) → IsBetween 1 10 district → IsCustomerInRange (fresh_customer district 3 (codes "F0003") (codes "BARBARABLE"))
 third_in_range district is_district =
-    customer_in_range district 3 (codes "F0003") (codes "BARBARABLE") is_district (lit≤ tt, lit≤ tt) (lit≤ tt, printable (codes "F0003") refl) (lit≤ tt, printable (codes "BARBARABLE") refl)
+    customer_in_range district 3 (codes "F0003") (codes "BARBARABLE") is_district refl (lit≤ tt, printable (codes "F0003") refl) (lit≤ tt, printable (codes "BARBARABLE") refl)
 
 -- the rows of each list are right
 districts_right : AreRightFrom (IsDistrictAt 1) 0 fresh.districts
@@ -107,65 +108,65 @@ districts_right = (
 
 customers_right : AreRightFrom (IsCustomerAt 1 fresh.customers) 0 fresh.customers
 customers_right = (
-  (first_in_range 1 (lit≤ tt, lit≤ tt), lit≤ tt, (refl, refl, refl)),
+  (first_in_range 1 refl, lit≤ tt, (refl, refl, refl)),
   (
-    (second_in_range 1 (lit≤ tt, lit≤ tt), lit≤ tt, inl (refl, refl, refl)),
+    (second_in_range 1 refl, lit≤ tt, inl (refl, refl, refl)),
     (
-      (third_in_range 1 (lit≤ tt, lit≤ tt), lit≤ tt, inl (refl, refl, refl)),
+      (third_in_range 1 refl, lit≤ tt, inl (refl, refl, refl)),
       (
-        (first_in_range 2 (lit≤ tt, lit≤ tt), lit≤ tt, inr (refl, refl)),
+        (first_in_range 2 refl, lit≤ tt, inr (inl (refl, refl), refl)),
         (
-          (second_in_range 2 (lit≤ tt, lit≤ tt), lit≤ tt, inl (refl, refl, refl)),
+          (second_in_range 2 refl, lit≤ tt, inl (refl, refl, refl)),
           (
-            (third_in_range 2 (lit≤ tt, lit≤ tt), lit≤ tt, inl (refl, refl, refl)),
+            (third_in_range 2 refl, lit≤ tt, inl (refl, refl, refl)),
             (
-              (first_in_range 3 (lit≤ tt, lit≤ tt), lit≤ tt, inr (refl, refl)),
+              (first_in_range 3 refl, lit≤ tt, inr (inl (refl, refl), refl)),
               (
-                (second_in_range 3 (lit≤ tt, lit≤ tt), lit≤ tt, inl (refl, refl, refl)),
+                (second_in_range 3 refl, lit≤ tt, inl (refl, refl, refl)),
                 (
-                  (third_in_range 3 (lit≤ tt, lit≤ tt), lit≤ tt, inl (refl, refl, refl)),
+                  (third_in_range 3 refl, lit≤ tt, inl (refl, refl, refl)),
                   (
-                    (first_in_range 4 (lit≤ tt, lit≤ tt), lit≤ tt, inr (refl, refl)),
+                    (first_in_range 4 refl, lit≤ tt, inr (inl (refl, refl), refl)),
                     (
-                      (second_in_range 4 (lit≤ tt, lit≤ tt), lit≤ tt, inl (refl, refl, refl)),
+                      (second_in_range 4 refl, lit≤ tt, inl (refl, refl, refl)),
                       (
-                        (third_in_range 4 (lit≤ tt, lit≤ tt), lit≤ tt, inl (refl, refl, refl)),
+                        (third_in_range 4 refl, lit≤ tt, inl (refl, refl, refl)),
                         (
-                          (first_in_range 5 (lit≤ tt, lit≤ tt), lit≤ tt, inr (refl, refl)),
+                          (first_in_range 5 refl, lit≤ tt, inr (inl (refl, refl), refl)),
                           (
-                            (second_in_range 5 (lit≤ tt, lit≤ tt), lit≤ tt, inl (refl, refl, refl)),
+                            (second_in_range 5 refl, lit≤ tt, inl (refl, refl, refl)),
                             (
-                              (third_in_range 5 (lit≤ tt, lit≤ tt), lit≤ tt, inl (refl, refl, refl)),
+                              (third_in_range 5 refl, lit≤ tt, inl (refl, refl, refl)),
                               (
-                                (first_in_range 6 (lit≤ tt, lit≤ tt), lit≤ tt, inr (refl, refl)),
+                                (first_in_range 6 refl, lit≤ tt, inr (inl (refl, refl), refl)),
                                 (
-                                  (second_in_range 6 (lit≤ tt, lit≤ tt), lit≤ tt, inl (refl, refl, refl)),
+                                  (second_in_range 6 refl, lit≤ tt, inl (refl, refl, refl)),
                                   (
-                                    (third_in_range 6 (lit≤ tt, lit≤ tt), lit≤ tt, inl (refl, refl, refl)),
+                                    (third_in_range 6 refl, lit≤ tt, inl (refl, refl, refl)),
                                     (
-                                      (first_in_range 7 (lit≤ tt, lit≤ tt), lit≤ tt, inr (refl, refl)),
+                                      (first_in_range 7 refl, lit≤ tt, inr (inl (refl, refl), refl)),
                                       (
-                                        (second_in_range 7 (lit≤ tt, lit≤ tt), lit≤ tt, inl (refl, refl, refl)),
+                                        (second_in_range 7 refl, lit≤ tt, inl (refl, refl, refl)),
                                         (
-                                          (third_in_range 7 (lit≤ tt, lit≤ tt), lit≤ tt, inl (refl, refl, refl)),
+                                          (third_in_range 7 refl, lit≤ tt, inl (refl, refl, refl)),
                                           (
-                                            (first_in_range 8 (lit≤ tt, lit≤ tt), lit≤ tt, inr (refl, refl)),
+                                            (first_in_range 8 refl, lit≤ tt, inr (inl (refl, refl), refl)),
                                             (
-                                              (second_in_range 8 (lit≤ tt, lit≤ tt), lit≤ tt, inl (refl, refl, refl)),
+                                              (second_in_range 8 refl, lit≤ tt, inl (refl, refl, refl)),
                                               (
-                                                (third_in_range 8 (lit≤ tt, lit≤ tt), lit≤ tt, inl (refl, refl, refl)),
+                                                (third_in_range 8 refl, lit≤ tt, inl (refl, refl, refl)),
                                                 (
-                                                  (first_in_range 9 (lit≤ tt, lit≤ tt), lit≤ tt, inr (refl, refl)),
+                                                  (first_in_range 9 refl, lit≤ tt, inr (inl (refl, refl), refl)),
                                                   (
-                                                    (second_in_range 9 (lit≤ tt, lit≤ tt), lit≤ tt, inl (refl, refl, refl)),
+                                                    (second_in_range 9 refl, lit≤ tt, inl (refl, refl, refl)),
                                                     (
-                                                      (third_in_range 9 (lit≤ tt, lit≤ tt), lit≤ tt, inl (refl, refl, refl)),
+                                                      (third_in_range 9 refl, lit≤ tt, inl (refl, refl, refl)),
                                                       (
-                                                        (first_in_range 10 (lit≤ tt, lit≤ tt), lit≤ tt, inr (refl, refl)),
+                                                        (first_in_range 10 refl, lit≤ tt, inr (inl (refl, refl), refl)),
                                                         (
-                                                          (second_in_range 10 (lit≤ tt, lit≤ tt), lit≤ tt, inl (refl, refl, refl)),
+                                                          (second_in_range 10 refl, lit≤ tt, inl (refl, refl, refl)),
                                                           (
-                                                            (third_in_range 10 (lit≤ tt, lit≤ tt), lit≤ tt, inl (refl, refl, refl)),
+                                                            (third_in_range 10 refl, lit≤ tt, inl (refl, refl, refl)),
                                                             tt,
                                                           ),
                                                         ),
@@ -202,7 +203,7 @@ warehouses_right : AreRightFrom IsWarehouseAt 0 fresh.warehouses
 warehouses_right = (
   (
     record {
-      id = (lit≤ tt, lit≤ tt);
+      id = refl;
       name = (lit≤ tt, printable (codes "W1") refl);
       tax = lit≤ tt;
       ytd = (omega (arith, ints), omega (arith, ints));
@@ -217,6 +218,5 @@ fresh-is_load = record {
   warehouses = record { each = right_everywhere IsWarehouseAt fresh.warehouses warehouses_right; whole = lit< tt };
   districts = record { each = right_everywhere (IsDistrictAt 1) fresh.districts districts_right; whole = lit≤ tt };
   customers = record { each = right_everywhere (IsCustomerAt 1 fresh.customers) fresh.customers customers_right; whole = (refl, refl) };
-  condition_1 = fresh-condition_1;
-  condition_12 = fresh-condition_12;
+  conditions = record { condition_1 = fresh-condition_1; condition_12 = fresh-condition_12 };
 }

@@ -1,4 +1,5 @@
 pub mod TextLaws
+pub mod BetweenLaws
 pub mod ColumnLaws
 pub mod LoadLaws
 pub mod RowLaws
@@ -8,3 +9,6 @@ pub mod FreshLoad
 pub mod PrintableLaws
 pub mod WorkedRanges
 pub mod FaultLaws
+pub mod ChangedLists
+pub mod KeyLaws
+pub mod KeptConditionLaws

@@ -8,7 +8,9 @@ use Rattle.std.proofs.lemmas.Option.{slice_get_past, slice_get_read, slice_get_c
 use Rattle.hy_schema.specs.Conditions.{column_sum}
 use Rattle.hy_schema.specs.declared.warehouse.Warehouse.{Warehouse}
 use Rattle.hy_schema.specs.declared.customer.Customer.{Customer}
+use Rattle.hy_schema.specs.Limits.{districts_per_warehouse, max_warehouses}
 use Rattle.hy_schema.specs.Ranges.{IsCustomerInRange}
+use Rattle.hy_schema.proofs.BetweenLaws.{bounds}
 use Rattle.hy_schema.specs.Loads.{IsRight, IsFirstFault, IsWarehouseAt, IsCustomerAfter, IsCustomerAt, HasAllWarehouses, HasAllCustomers, row_before}
 
 module _ {Row : Type 0} (test : Row → Bool) (column : Row → ℤ) (rows : List Row) (place : ℕ) (row : Row) (within : place < length rows) (read : row ≡ get_or rows place row) where
@@ -83,17 +85,17 @@ decides-customer decided warehouses rows place before row same decides =
     subst (λ (other : Option Customer). IsTrue decided ↔ (IsCustomerInRange row × (row.warehouse ≤ warehouses) × IsCustomerAfter other row)) same decides
 
 -- a test of the last row is a test of the list's end
-pub decides-end : (decided : Bool) (warehouses : ℕ) (rows : List Customer) (last : Option Customer) → last ≡ row_before rows (length rows) → (IsTrue decided ↔ IsSomeAnd last (λ row. (row.warehouse ≡ warehouses) × (row.district ≡ 10))) → (IsTrue decided ↔ HasAllCustomers warehouses rows)
+pub decides-end : (decided : Bool) (warehouses : ℕ) (rows : List Customer) (last : Option Customer) → last ≡ row_before rows (length rows) → (IsTrue decided ↔ IsSomeAnd last (λ row. (row.warehouse ≡ warehouses) × (row.district ≡ districts_per_warehouse))) → (IsTrue decided ↔ HasAllCustomers warehouses rows)
 decides-end decided warehouses rows last same decides =
-    subst (λ (other : Option Customer). IsTrue decided ↔ IsSomeAnd other (λ row. (row.warehouse ≡ warehouses) × (row.district ≡ 10))) same decides
+    subst (λ (other : Option Customer). IsTrue decided ↔ IsSomeAnd other (λ row. (row.warehouse ≡ warehouses) × (row.district ≡ districts_per_warehouse))) same decides
 
--- the last warehouse's number is how many there are, so that they are at most 16
-pub few_warehouses : (rows : List Warehouse) → IsRight IsWarehouseAt (HasAllWarehouses rows) rows → length rows ≤ 16
+-- the last warehouse's number is how many there are
+pub few_warehouses : (rows : List Warehouse) → IsRight IsWarehouseAt (HasAllWarehouses rows) rows → length rows ≤ max_warehouses
 few_warehouses rows right =
     let last = length rows - 1 in
     elim ((slice_get_cases rows last).1) [
       | inl (row, within, found, read) ↦
           let at_last : IsWarehouseAt last row = rw found at (right.each last) in
-          omega (arith, at_last.0.id.1, at_last.1)
+          omega (arith, (bounds 1 16 row.id at_last.0.id).1, at_last.1)
       | inr (past, none) ↦ omega arith
     ]

@@ -1,8 +1,9 @@
 -- The laws of texts and of the fields that hold them.
-use Rattle.std.proofs.Common.{◌≡◌, ℕ, zero, suc, ◌-◌, ◌<◌, ◌≤◌, Bool, false, not, cond, ◌==◌, eqb, ltb, List, [], ◌∷◌, ◌++◌, length, take, replicate, All, Some, None, unwrap_or, refl, sym, ap, ◌∙◌, arith, length-append}
-use Rattle.std.specs.List.{position, position_or_len}
+use Rattle.std.proofs.Common.{◌≡◌, ℕ, zero, suc, ◌+◌, ◌-◌, ◌<◌, ◌≤◌, Bool, true, false, ◌&&◌, not, cond, ◌==◌, eqb, ltb, List, [], ◌∷◌, ◌++◌, length, take, drop, replicate, All, Some, None, unwrap_or, refl, sym, ap, ◌∙◌, arith, length-append}
+use Rattle.std.specs.List.{position, position_or_len, list_all}
 use Rattle.std.proofs.Math.Numerals.{one-add}
-use Rattle.std.proofs.lemmas.List.{length-replicate}
+use Rattle.std.proofs.lemmas.List.{length-replicate, take-append-drop, take_rest}
+use Rattle.std.proofs.lemmas.Bool.{false≢true}
 use Rattle.std.proofs.lemmas.List.Elements.{All-nil, All-cons, All-head, All-tail}
 use Rattle.std.proofs.lemmas.List.Sums.{prefix_len-le-length}
 use Rattle.std.proofs.lemmas.Bool.Decides.{nat_tests}
@@ -69,3 +70,21 @@ unwrap_or-position test xs = unwrap_or-cond (position_or_len test xs) (length xs
   where
     unwrap_or-cond : (place size : ℕ) → place ≤ size → unwrap_or (cond (ltb place size) (Some place) None) size ≡ place
     unwrap_or-cond place size within = grind (arith, nat_tests)
+
+-- bytes that are all zero
+pub only_zeros : (bytes : List ℕ) → list_all (λ byte. byte == 0) bytes ≡ true → bytes ≡ replicate (length bytes) 0
+only_zeros [] all = refl
+only_zeros (zero ∷ bytes) all = ap (λ rest. zero ∷ rest) (only_zeros bytes all)
+only_zeros (suc byte ∷ bytes) all =
+    let some : eqb (suc byte) 0 ≡ false = grind (arith, nat_tests) in
+    absurd (false≢true (sym (ap (λ is_zero. is_zero && list_all (λ b. b == 0) bytes) some) ∙ all))
+
+-- a field with only zeros behind its text is the padded text
+pub padded-whole : (width : ℕ) (field : List ℕ) (len : ℕ) → length field ≡ width → take len field ≡ text_of field → list_all (λ byte. byte == 0) (take (length field - len) (drop len field)) ≡ true → padded width (text_of field) ≡ field
+padded-whole width field len size text tail =
+    let zeros : list_all (λ byte. byte == 0) (drop len field) ≡ true = sym (ap (list_all (λ byte. byte == 0)) (take_rest field len)) ∙ tail in
+    let rest = drop len field in
+    let joined : take len field ++ rest ≡ field = take-append-drop len field in
+    let sum : length (take len field) + length rest ≡ width = sym (length-append (take len field) rest) ∙ ap length joined ∙ size in
+    let count : width - length (take len field) ≡ length rest = omega (arith, sum) in
+    rw (sym text, count, sym (only_zeros rest zeros)) joined

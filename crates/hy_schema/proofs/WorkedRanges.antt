@@ -1,6 +1,7 @@
 -- Worked examples of the ranges: rows at both ends of all their ranges, and values just beyond each end. The tests of a load
 -- and of a command pass and fail on the same numbers.
 use Rattle.std.proofs.Common.{◌≡◌, pos, negsuc, true, false, [], ◌∷◌, codes, refl, inl, inr, arith}
+use Rattle.std.proofs.lemmas.Bool.{false≢true}
 use Rattle.std.proofs.lemmas.Int.{ints}
 use Rattle.hy_schema.specs.declared.warehouse.Warehouse.{Warehouse}
 use Rattle.hy_schema.specs.declared.district.District.{District}
@@ -19,7 +20,7 @@ greatest_warehouse = record { id = 16; name = codes "~~~~~~~~~~"; tax = 10_000; 
 
 pub least_warehouse-in_range : IsWarehouseInRange least_warehouse
 least_warehouse-in_range = record {
-  id = (omega arith, omega arith);
+  id = refl;
   name = (omega arith, printable [] refl);
   tax = omega arith;
   ytd = (omega (arith, ints), omega (arith, ints));
@@ -27,7 +28,7 @@ least_warehouse-in_range = record {
 
 pub greatest_warehouse-in_range : IsWarehouseInRange greatest_warehouse
 greatest_warehouse-in_range = record {
-  id = (omega arith, omega arith);
+  id = refl;
   name = (omega arith, printable (codes "~~~~~~~~~~") refl);
   tax = omega arith;
   ytd = (omega (arith, ints), omega (arith, ints));
@@ -42,22 +43,22 @@ greatest_district = record { id = 10; warehouse = 16; name = codes "~~~~~~~~~~";
 
 pub least_district-in_range : IsDistrictInRange least_district
 least_district-in_range = record {
-  id = (omega arith, omega arith);
-  warehouse = (omega arith, omega arith);
+  id = refl;
+  warehouse = refl;
   name = (omega arith, printable [] refl);
   tax = omega arith;
   ytd = (omega (arith, ints), omega (arith, ints));
-  next_order = (omega arith, omega arith);
+  next_order = refl;
 }
 
 pub greatest_district-in_range : IsDistrictInRange greatest_district
 greatest_district-in_range = record {
-  id = (omega arith, omega arith);
-  warehouse = (omega arith, omega arith);
+  id = refl;
+  warehouse = refl;
   name = (omega arith, printable (codes "~~~~~~~~~~") refl);
   tax = omega arith;
   ytd = (omega (arith, ints), omega (arith, ints));
-  next_order = (omega arith, omega arith);
+  next_order = refl;
 }
 
 -- the least and the greatest row of CUSTOMER
@@ -95,9 +96,9 @@ greatest_customer = record {
 
 pub least_customer-in_range : IsCustomerInRange least_customer
 least_customer-in_range = record {
-  id = (omega arith, omega arith);
-  district = (omega arith, omega arith);
-  warehouse = (omega arith, omega arith);
+  id = refl;
+  district = refl;
+  warehouse = refl;
   first = (omega arith, printable [] refl);
   middle = (omega arith, printable [] refl);
   last = (omega arith, printable [] refl);
@@ -111,9 +112,9 @@ least_customer-in_range = record {
 
 pub greatest_customer-in_range : IsCustomerInRange greatest_customer
 greatest_customer-in_range = record {
-  id = (omega arith, omega arith);
-  district = (omega arith, omega arith);
-  warehouse = (omega arith, omega arith);
+  id = refl;
+  district = refl;
+  warehouse = refl;
   first = (omega arith, printable (codes "~~~~~~~~~~~~~~~~") refl);
   middle = (omega arith, printable (codes "~~") refl);
   last = (omega arith, printable (codes "                ") refl);
@@ -127,28 +128,28 @@ greatest_customer-in_range = record {
 
 -- W_ID 0 and 17; D_ID 0 and 11; C_ID 0 and 3,001; D_NEXT_O_ID 0 and 10^9 + 1
 pub warehouse_0-refused : ¬ IsWarehouseInRange (record least_warehouse { id = 0 })
-warehouse_0-refused row = omega (arith, row.id)
+warehouse_0-refused row = false≢true row.id
 
 pub warehouse_17-refused : ¬ IsWarehouseInRange (record greatest_warehouse { id = 17 })
-warehouse_17-refused row = omega (arith, row.id)
+warehouse_17-refused row = false≢true row.id
 
 pub district_0-refused : ¬ IsDistrictInRange (record least_district { id = 0 })
-district_0-refused row = omega (arith, row.id)
+district_0-refused row = false≢true row.id
 
 pub district_11-refused : ¬ IsDistrictInRange (record greatest_district { id = 11 })
-district_11-refused row = omega (arith, row.id)
+district_11-refused row = false≢true row.id
 
 pub customer_0-refused : ¬ IsCustomerInRange (record least_customer { id = 0 })
-customer_0-refused row = omega (arith, row.id)
+customer_0-refused row = false≢true row.id
 
 pub customer_3001-refused : ¬ IsCustomerInRange (record greatest_customer { id = 3_001 })
-customer_3001-refused row = omega (arith, row.id)
+customer_3001-refused row = false≢true row.id
 
 pub next_order_0-refused : ¬ IsDistrictInRange (record least_district { next_order = 0 })
-next_order_0-refused row = omega (arith, row.next_order)
+next_order_0-refused row = false≢true row.next_order
 
 pub large_next_order-refused : ¬ IsDistrictInRange (record greatest_district { next_order = 1_000_000_001 })
-large_next_order-refused row = omega (arith, row.next_order)
+large_next_order-refused row = false≢true row.next_order
 
 -- a rate above 1; a count above 10^15; amounts beyond 10^15 cents
 pub large_tax-refused : ¬ IsWarehouseInRange (record greatest_warehouse { tax = 10_001 })

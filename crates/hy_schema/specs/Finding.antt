@@ -1,5 +1,5 @@
--- Finding a row by its key, and changing it. A load's rows stand in rising order of their keys (`Loads`), so that the
--- first row with a key is the only one; no law here says so.
+-- Finding a row by its key, and changing it. No key stands twice in a load, nor in what commits make of a warehouse
+-- (`Keys`), so that the first row with a key is the only one.
 use Rattle.std.specs.Prelude.{ℕ, Bool, ◌==◌, ◌&&◌, if◌then◌else◌, List, [], ◌∷◌}
 use Rattle.hy_schema.specs.declared.warehouse.Warehouse.{Warehouse}
 use Rattle.hy_schema.specs.declared.district.District.{District}
@@ -13,7 +13,8 @@ abbrev pub is_district : ℕ → ℕ → District → Bool
 is_district warehouse number row = (row.warehouse == warehouse) && (row.id == number)
 
 abbrev pub is_customer : ℕ → ℕ → ℕ → Customer → Bool
-is_customer warehouse district number row = (row.warehouse == warehouse) && (row.district == district) && (row.id == number)
+is_customer warehouse district number row =
+    (row.warehouse == warehouse) && (row.district == district) && (row.id == number)
 
 -- the list with the first row that passes the test changed
 abbrev pub with_changed : {Row : Type 0} → (Row → Bool) → (Row → Row) → List Row → List Row

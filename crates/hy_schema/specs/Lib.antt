@@ -1,7 +1,9 @@
+pub mod Limits
 pub mod Texts
 pub mod Rows
 pub mod Ranges
 pub mod Tables
+pub mod Keys
 pub mod Finding
 pub mod Commands
 pub mod Transactions

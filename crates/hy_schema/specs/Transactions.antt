@@ -13,7 +13,9 @@ use Rattle.hy_schema.specs.declared.refusal.Refusal.{Refusal}
 use Rattle.hy_schema.specs.declared.refusal.Refusal.TheVariants as refusals
 use Rattle.hy_schema.specs.Tables.{Tables}
 use Rattle.hy_schema.specs.Finding.{is_warehouse, is_district, is_customer, with_changed}
-use Rattle.hy_schema.specs.Commands.{is_between, is_payment_in_range, number_of_who}
+use Rattle.hy_schema.specs.Limits.{districts_per_warehouse}
+use Rattle.hy_schema.specs.Ranges.{is_between}
+use Rattle.hy_schema.specs.Commands.{is_payment_in_range, number_of_who}
 
 -- what is left of a command: the rows after it, and the reply
 pub record Outcome : Type 0 where
@@ -27,16 +29,18 @@ is_payer payment = is_customer payment.customer_warehouse payment.customer_distr
 abbrev pub payer : Payment → Tables → Option Customer
 payer payment tables = find (is_payer payment) tables.customers
 
--- a district has a number from 1 to 10
+-- whether a district has this number
 abbrev pub is_district_number : ℕ → Bool
-is_district_number number = is_between 1 10 number
+is_district_number number = is_between 1 districts_per_warehouse number
 
 -- why a warehouse refuses a payment: the first of these that holds
 abbrev pub payment_refusal : ℕ → Payment → Tables → Option Refusal
 payment_refusal warehouse payment tables =
     if not (is_payment_in_range payment) then Some refusals.OutOfRange
-    else if not ((payment.warehouse == warehouse) && (payment.customer_warehouse == warehouse)) then Some refusals.NoSuchWarehouse
-    else if not (is_district_number payment.district && is_district_number payment.customer_district) then Some refusals.NoSuchDistrict
+    else if not ((payment.warehouse == warehouse) && (payment.customer_warehouse == warehouse))
+    then Some refusals.NoSuchWarehouse
+    else if not (is_district_number payment.district && is_district_number payment.customer_district)
+    then Some refusals.NoSuchDistrict
     else if is_none (payer payment tables) then Some refusals.NoSuchCustomer
     else None
 
@@ -73,7 +77,8 @@ payment_reply payment None = replies.Refused refusals.NoSuchCustomer
 
 -- what an accepted command does
 abbrev pub accepted : Command → Tables → Outcome
-accepted (commands.Payment payment) tables = record { tables = paid payment tables; reply = payment_reply payment (payer payment tables) }
+accepted (commands.Payment payment) tables =
+    record { tables = paid payment tables; reply = payment_reply payment (payer payment tables) }
 
 -- a refused command changes nothing
 abbrev pub outcome_of : Option Refusal → Command → Tables → Outcome

@@ -1,6 +1,6 @@
 -- Worked examples, which the checker computes: a fresh load of one warehouse with three customers in each district, a
 -- few payments at it, the bytes of one row of each table, and a small page table.
-use Rattle.std.specs.Prelude.{◌≡◌, ℕ, pos, negsuc, ◌+ℤ◌, ◌*◌, true, false, List, [], ◌∷◌, ◌++◌, All, drop, replicate, codes, refl}
+use Rattle.std.specs.Prelude.{◌≡◌, ℕ, pos, negsuc, ◌*◌, true, false, List, [], ◌∷◌, ◌++◌, All, map, take, drop, replicate, codes, refl}
 use Rattle.std.specs.List.{flat_map}
 use Rattle.std.proofs.Common.{inl, inr, sym, subst, lit<, lit≤}
 use Rattle.std.proofs.lemmas.List.Elements.{All-nil, All-cons, All-append}
@@ -19,7 +19,7 @@ use Rattle.hy_schema.specs.Tables.{Tables, of_warehouse}
 use Rattle.hy_schema.specs.Commands.{is_in_range, warehouses_of}
 use Rattle.hy_schema.specs.Transactions.{Outcome, act}
 use Rattle.hy_schema.specs.Replay.{replay}
-use Rattle.hy_schema.specs.Conditions.{Condition1, Condition12, ytd_of_districts}
+use Rattle.hy_schema.specs.Conditions.{Condition1, Condition12, IsBalanced, IsSumOfDistricts, ytd_of_districts}
 use Rattle.hy_schema.specs.Spelling.{HasSlots, IsTable, Spells, list_at, slots_per_page, rows_of}
 
 -- the warehouse of the fresh load
@@ -77,18 +77,17 @@ fresh = record {
 -- ten districts of 30.00 are a warehouse of 300.00
 pub fresh-condition_1 : Condition1 fresh
 fresh-condition_1 =
-    All-cons (λ row. row.ytd ≡ ytd_of_districts row.id fresh.districts) fresh_warehouse [] refl (All-nil (λ row. row.ytd ≡ ytd_of_districts row.id fresh.districts))
+    All-cons (IsSumOfDistricts fresh.districts) fresh_warehouse [] refl (All-nil (IsSumOfDistricts fresh.districts))
 
 -- the customers of any districts have paid what they owed
-pub fresh_customers-condition_12 : (districts : List ℕ) → All (λ row. row.balance +ℤ row.ytd_payment ≡ pos 0) (flat_map fresh_customers districts)
-fresh_customers-condition_12 [] = All-nil (λ row. row.balance +ℤ row.ytd_payment ≡ pos 0)
+pub fresh_customers-condition_12 : (districts : List ℕ) → All IsBalanced (flat_map fresh_customers districts)
+fresh_customers-condition_12 [] = All-nil IsBalanced
 fresh_customers-condition_12 (district ∷ districts) =
-    let Paid : Customer → Type 0 = λ row. row.balance +ℤ row.ytd_payment ≡ pos 0 in
     let first = fresh_customer district 1 (codes "F0001") (codes "BARBARBAR") in
     let second = fresh_customer district 2 (codes "F0002") (codes "BARBAROUGHT") in
     let third = fresh_customer district 3 (codes "F0003") (codes "BARBARABLE") in
-    All-append Paid (fresh_customers district) (flat_map fresh_customers districts)
-    (All-cons Paid first (second ∷ third ∷ []) refl (All-cons Paid second (third ∷ []) refl (All-cons Paid third [] refl (All-nil Paid))))
+    All-append IsBalanced (fresh_customers district) (flat_map fresh_customers districts)
+    (All-cons IsBalanced first (second ∷ third ∷ []) refl (All-cons IsBalanced second (third ∷ []) refl (All-cons IsBalanced third [] refl (All-nil IsBalanced))))
     (fresh_customers-condition_12 districts)
 
 pub fresh-condition_12 : Condition12 fresh
@@ -100,6 +99,29 @@ fresh-of_warehouse_1 = refl
 
 pub fresh-of_warehouse_2 : of_warehouse 2 fresh ≡ record { warehouses = []; districts = []; customers = [] }
 fresh-of_warehouse_2 = refl
+
+-- the rows of a second warehouse like the first
+abbrev pub second : Tables
+second = record {
+  warehouses = record fresh_warehouse { id = 2 } ∷ [];
+  districts = map (λ (row : District). record row { warehouse = 2 }) fresh.districts;
+  customers = map (λ (row : Customer). record row { warehouse = 2 }) fresh.customers;
+}
+
+-- the rows of both
+abbrev pub two_warehouses : Tables
+two_warehouses = record {
+  warehouses = fresh.warehouses ++ second.warehouses;
+  districts = fresh.districts ++ second.districts;
+  customers = fresh.customers ++ second.customers;
+}
+
+-- each warehouse has its own rows of them, in their order
+pub two-of_warehouse_1 : of_warehouse 1 two_warehouses ≡ fresh
+two-of_warehouse_1 = refl
+
+pub two-of_warehouse_2 : of_warehouse 2 two_warehouses ≡ second
+two-of_warehouse_2 = refl
 
 -- customer 1 of district 1 pays some cents there
 abbrev pub payment_of : ℕ → Payment
@@ -134,11 +156,13 @@ pub least-warehouses : paid_once.warehouses ≡ record fresh_warehouse { ytd = p
 least-warehouses = refl
 
 -- D_YTD rises by it in district 1, and nothing else changes in any district
-pub least-districts : paid_once.districts ≡ record (fresh_district 1 (codes "D1")) { ytd = pos 3_100 } ∷ drop 1 fresh.districts
+pub least-districts : paid_once.districts
+    ≡ record (fresh_district 1 (codes "D1")) { ytd = pos 3_100 } ∷ drop 1 fresh.districts
 least-districts = refl
 
 -- the customer's balance falls by it, the sum and the number of payments rise, and no other customer changes
-pub least-customers : paid_once.customers ≡ record (fresh_customer 1 1 (codes "F0001") (codes "BARBARBAR")) { balance = negsuc 1_099; ytd_payment = pos 1_100; payment_count = 2 } ∷ drop 1 fresh.customers
+pub least-customers : paid_once.customers
+    ≡ record (fresh_customer 1 1 (codes "F0001") (codes "BARBARBAR")) { balance = negsuc 1_099; ytd_payment = pos 1_100; payment_count = 2 } ∷ drop 1 fresh.customers
 least-customers = refl
 
 -- 5,000.00 is the greatest payment
@@ -152,35 +176,83 @@ greatest-warehouses = refl
 pub replay-payments : replay 1 fresh (commits.Local (commands.Payment (payment_of 100)) ∷ commits.Local (commands.Payment (payment_of 500_000)) ∷ []) ≡ paid_twice
 replay-payments = refl
 
+-- condition 1 after them: 5,301.00 at the warehouse and at its districts together
+pub paid_twice-condition_1 : ytd_of_districts 1 paid_twice.districts ≡ pos 530_100
+paid_twice-condition_1 = refl
+
+-- the order of two payments shows in their replies: 1.00 leaves -11.00 and then 2.00 leaves -13.00
+pub one_first-replies : (pay (payment_of 100) fresh).reply
+    ∷ (pay (payment_of 200) (pay (payment_of 100) fresh).tables).reply ∷ []
+    ≡ replies.Payment 1 (negsuc 1_099) ∷ replies.Payment 1 (negsuc 1_299) ∷ []
+one_first-replies = refl
+
+-- the other way round 2.00 leaves -12.00 and then 1.00 leaves -13.00
+pub two_first-replies : (pay (payment_of 200) fresh).reply
+    ∷ (pay (payment_of 100) (pay (payment_of 200) fresh).tables).reply ∷ []
+    ≡ replies.Payment 1 (negsuc 1_199) ∷ replies.Payment 1 (negsuc 1_299) ∷ []
+two_first-replies = refl
+
+-- but not in the rows after both
+pub both-rows : (pay (payment_of 200) (pay (payment_of 100) fresh).tables).tables
+    ≡ (pay (payment_of 100) (pay (payment_of 200) fresh).tables).tables
+both-rows = refl
+
+-- customer 2 of district 3 pays 1.00 at district 1
+abbrev pub paid_elsewhere : Outcome
+paid_elsewhere = pay (record (payment_of 100) { customer_district = 3; who = who.Number 2 }) fresh
+
+pub elsewhere-reply : paid_elsewhere.reply ≡ replies.Payment 2 (negsuc 1_099)
+elsewhere-reply = refl
+
+-- D_YTD rises in district 1
+pub elsewhere-districts : paid_elsewhere.tables.districts
+    ≡ record (fresh_district 1 (codes "D1")) { ytd = pos 3_100 } ∷ drop 1 fresh.districts
+elsewhere-districts = refl
+
+-- and in CUSTOMER the eighth row changes, that of the customer who paid
+pub elsewhere-customers : paid_elsewhere.tables.customers
+    ≡ take 7 fresh.customers
+    ++ record (fresh_customer 3 2 (codes "F0002") (codes "BARBAROUGHT")) { balance = negsuc 1_099; ytd_payment = pos 1_100; payment_count = 2 }
+    ∷ drop 8 fresh.customers
+elsewhere-customers = refl
+
 -- a cent less than the least payment, and a cent more than the greatest
-pub less-refused : pay (payment_of 99) fresh ≡ record { tables = fresh; reply = replies.Refused refusals.OutOfRange }
+pub less-refused : pay (payment_of 99) fresh
+    ≡ record { tables = fresh; reply = replies.Refused refusals.OutOfRange }
 less-refused = refl
 
-pub more-refused : pay (payment_of 500_001) fresh ≡ record { tables = fresh; reply = replies.Refused refusals.OutOfRange }
+pub more-refused : pay (payment_of 500_001) fresh
+    ≡ record { tables = fresh; reply = replies.Refused refusals.OutOfRange }
 more-refused = refl
 
 -- no moment is 0
-pub moment-refused : pay (record (payment_of 100) { at = 0 }) fresh ≡ record { tables = fresh; reply = replies.Refused refusals.OutOfRange }
+pub moment-refused : pay (record (payment_of 100) { at = 0 }) fresh
+    ≡ record { tables = fresh; reply = replies.Refused refusals.OutOfRange }
 moment-refused = refl
 
 -- the home warehouse is another one
-pub home-refused : pay (record (payment_of 100) { warehouse = 2 }) fresh ≡ record { tables = fresh; reply = replies.Refused refusals.NoSuchWarehouse }
+pub home-refused : pay (record (payment_of 100) { warehouse = 2 }) fresh
+    ≡ record { tables = fresh; reply = replies.Refused refusals.NoSuchWarehouse }
 home-refused = refl
 
 -- the customer's warehouse is another one
-pub customer_warehouse-refused : pay (record (payment_of 100) { customer_warehouse = 2 }) fresh ≡ record { tables = fresh; reply = replies.Refused refusals.NoSuchWarehouse }
+pub customer_warehouse-refused : pay (record (payment_of 100) { customer_warehouse = 2 }) fresh
+    ≡ record { tables = fresh; reply = replies.Refused refusals.NoSuchWarehouse }
 customer_warehouse-refused = refl
 
 -- no district is the eleventh
-pub district-refused : pay (record (payment_of 100) { district = 11 }) fresh ≡ record { tables = fresh; reply = replies.Refused refusals.NoSuchDistrict }
+pub district-refused : pay (record (payment_of 100) { district = 11 }) fresh
+    ≡ record { tables = fresh; reply = replies.Refused refusals.NoSuchDistrict }
 district-refused = refl
 
 -- nor is that of a customer
-pub customer_district-refused : pay (record (payment_of 100) { customer_district = 11 }) fresh ≡ record { tables = fresh; reply = replies.Refused refusals.NoSuchDistrict }
+pub customer_district-refused : pay (record (payment_of 100) { customer_district = 11 }) fresh
+    ≡ record { tables = fresh; reply = replies.Refused refusals.NoSuchDistrict }
 customer_district-refused = refl
 
 -- a district has three customers
-pub customer-refused : pay (record (payment_of 100) { who = who.Number 4 }) fresh ≡ record { tables = fresh; reply = replies.Refused refusals.NoSuchCustomer }
+pub customer-refused : pay (record (payment_of 100) { who = who.Number 4 }) fresh
+    ≡ record { tables = fresh; reply = replies.Refused refusals.NoSuchCustomer }
 customer-refused = refl
 
 -- the ranges of amounts
@@ -232,8 +304,10 @@ district-reads = refl
 -- the bytes of customer 2 of district 3: 2, 3, 1, "F0002", "OE", "BARBAROUGHT", "GC", 200, -1000, 1000, 1, 0
 abbrev pub bytes_of_customer : List ℕ
 bytes_of_customer =
-    2 ∷ 0 ∷ 3 ∷ 1 ∷ 70 ∷ 48 ∷ 48 ∷ 48 ∷ 50 ∷ 0 ∷ 0 ∷ 0 ∷ 0 ∷ 0 ∷ 0 ∷ 0 ∷ 0 ∷ 0 ∷ 0 ∷ 0 ∷ 79 ∷ 69 ∷ 66 ∷ 65 ∷ 82 ∷ 66 ∷ 65
-    ∷ 82 ∷ 79 ∷ 85 ∷ 71 ∷ 72 ∷ 84 ∷ 0 ∷ 0 ∷ 0 ∷ 0 ∷ 0 ∷ 71 ∷ 67 ∷ 200 ∷ 0 ∷ 24 ∷ 252 ∷ 255 ∷ 255 ∷ 255 ∷ 255 ∷ 255 ∷ 255
+    2 ∷ 0 ∷ 3 ∷ 1 ∷ 70 ∷ 48 ∷ 48 ∷ 48 ∷ 50 ∷ 0 ∷ 0 ∷ 0 ∷ 0 ∷ 0 ∷ 0 ∷ 0 ∷ 0 ∷ 0 ∷ 0 ∷ 0 ∷ 79 ∷ 69 ∷ 66 ∷ 65
+    ∷ 82 ∷ 66 ∷ 65
+    ∷ 82 ∷ 79 ∷ 85 ∷ 71 ∷ 72 ∷ 84 ∷ 0 ∷ 0 ∷ 0 ∷ 0 ∷ 0 ∷ 71 ∷ 67 ∷ 200 ∷ 0 ∷ 24 ∷ 252 ∷ 255 ∷ 255 ∷ 255 ∷ 255
+    ∷ 255 ∷ 255
     ∷ 232 ∷ 3 ∷ 0 ∷ 0 ∷ 0 ∷ 0 ∷ 0 ∷ 0 ∷ 1 ∷ 0 ∷ 0 ∷ 0 ∷ 0 ∷ 0 ∷ 0 ∷ 0 ∷ 0 ∷ 0 ∷ 0 ∷ 0 ∷ 0 ∷ 0 ∷ 0 ∷ 0 ∷ []
 
 pub customer-bytes : customer_bytes (fresh_customer 3 2 (codes "F0002") (codes "BARBAROUGHT")) ≡ bytes_of_customer
@@ -254,7 +328,8 @@ small_segment =
     ∷ (1 ∷ warehouse_bytes (record fresh_warehouse { ytd = pos 30_100 }) ++ replicate 42 0)
     ∷ []
 
-pub segment-rows : rows_of 64 21 warehouse_of small_segment ≡ fresh_warehouse ∷ record fresh_warehouse { ytd = pos 30_100 } ∷ []
+pub segment-rows : rows_of 64 21 warehouse_of small_segment
+    ≡ fresh_warehouse ∷ record fresh_warehouse { ytd = pos 30_100 } ∷ []
 segment-rows = refl
 
 -- a segment with one page has no rows
@@ -265,7 +340,8 @@ empty_segment = replicate 64 0 ∷ []
 abbrev pub small_table : List (List (List ℕ))
 small_table = small_segment ∷ empty_segment ∷ empty_segment ∷ []
 
-pub small-slots : (segment row_bytes : ℕ) → IsTable segment row_bytes → HasSlots 64 row_bytes (list_at small_table segment)
+pub small-slots : (segment row_bytes : ℕ) → IsTable segment row_bytes
+    → HasSlots 64 row_bytes (list_at small_table segment)
 small-slots segment row_bytes (inl (here, width)) =
     subst (λ s. HasSlots 64 row_bytes (list_at small_table s)) (sym here) (subst (λ w. HasSlots 64 w small_segment) (sym width) (record { first = lit< tt; slots = lit≤ tt }))
 small-slots segment row_bytes (inr (inl (here, width))) =

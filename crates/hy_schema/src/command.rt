@@ -4,10 +4,20 @@ ghost use Rattle.std.specs.Prelude.{◌≡◌, ◌↔◌, IsTrue, IsOk, IsErrOf}
 ghost use Rattle.hy_schema.specs.Commands.{is_payment_in_range, is_in_range, warehouses_of};
 
 use crate::refusal::Refusal;
+use crate::warehouse::MAX_WAREHOUSES;
 use arrayvec::ArrayVec;
 
 /// How many warehouses a command can name.
-pub const MAX_NAMED: usize = 16;
+pub const MAX_NAMED: usize = MAX_WAREHOUSES as usize;
+
+/// The least amount in cents that is paid at once (TPC-C clause 2.5.1.3).
+pub const MIN_PAYMENT: u64 = 100;
+
+/// The greatest such amount.
+pub const MAX_PAYMENT: u64 = 500_000;
+
+/// The last moment.
+pub const MAX_MOMENT: u64 = 1_000_000_000_000_000;
 
 /// Which customer of a district is meant.
 #[derive(Clone, Copy, Debug, PartialEq, Eq)]
@@ -29,9 +39,9 @@ pub struct Payment {
     pub customer_district: u64,
     /// The customer.
     pub who: Who,
-    /// The amount in cents, 100 to 500,000.
+    /// The amount in cents, from `MIN_PAYMENT` to `MAX_PAYMENT`.
     pub amount: u64,
-    /// The moment, 1 to 10^15.
+    /// The moment, from 1 to `MAX_MOMENT`.
     pub at: u64,
 }
 
@@ -40,7 +50,7 @@ impl Payment {
     fn is_in_range(&self) -> bool
         ensures { result ≡ is_payment_in_range self.now }
     {
-        (100..=500_000).contains(&self.amount) && (1..=1_000_000_000_000_000).contains(&self.at)
+        (MIN_PAYMENT..=MAX_PAYMENT).contains(&self.amount) && (1..=MAX_MOMENT).contains(&self.at)
     }
 }
 

@@ -6,19 +6,26 @@ ghost use Rattle.hy_schema.specs.Ranges.{IsCredit};
 use crate::codec::{
     SlotBytes, push_number, push_signed, push_text, read_number, read_signed, read_text,
 };
+use crate::district::DISTRICTS_PER_WAREHOUSE;
 use crate::load::Load;
 use crate::row::Row;
 use crate::text::Text;
-use crate::warehouse::is_loaded_money;
+use crate::warehouse::{MAX_RATE, MAX_WAREHOUSES, is_loaded_money};
+
+/// The greatest C_ID (TPC-C clause 1.2.1).
+pub const MAX_CUSTOMERS: u16 = 3_000;
+
+/// The greatest number of payments and of deliveries that a loaded row may have.
+pub const MAX_COUNT: u64 = 1_000_000_000_000_000;
 
 /// A row of CUSTOMER (TPC-C clause 1.3.1).
 #[derive(Clone, Copy, Debug, PartialEq, Eq)]
 pub struct Customer {
-    /// C_ID, 1 to 3,000.
+    /// C_ID, from 1 to `MAX_CUSTOMERS`.
     pub id: u16,
-    /// C_D_ID, 1 to 10.
+    /// C_D_ID, from 1 to `DISTRICTS_PER_WAREHOUSE`.
     pub district: u8,
-    /// C_W_ID, 1 to 16.
+    /// C_W_ID, from 1 to `MAX_WAREHOUSES`.
     pub warehouse: u8,
     /// C_FIRST.
     pub first: Text<16>,
@@ -102,6 +109,7 @@ impl Row for Customer {
 }
 
 impl Customer {
+    ghost use Rattle.hy_schema.specs.Limits.{districts_per_warehouse, max_count, max_customers, max_warehouses};
     ghost use Rattle.hy_schema.specs.Ranges.{IsBetween, IsRate, IsLoadedMoney, IsLoadedText, IsCredit, IsCustomerInRange};
 
     /// Whether each column has a value that a load may have.
@@ -114,17 +122,19 @@ impl Customer {
     /// Whether C_ID, C_D_ID and C_W_ID are in range.
     fn has_key_in_range(&self) -> bool
         ensures { IsTrue result
-            ↔ (IsBetween 1 3_000 self.now.id × IsBetween 1 10 self.now.district × IsBetween 1 16 self.now.warehouse) }
+            ↔ (IsBetween 1 max_customers self.now.id × IsBetween 1 districts_per_warehouse self.now.district
+            × IsBetween 1 max_warehouses self.now.warehouse) }
     {
-        (1..=3_000).contains(&self.id)
-            && (1..=10).contains(&self.district)
-            && (1..=16).contains(&self.warehouse)
+        (1..=MAX_CUSTOMERS).contains(&self.id)
+            && (1..=DISTRICTS_PER_WAREHOUSE).contains(&self.district)
+            && (1..=MAX_WAREHOUSES).contains(&self.warehouse)
     }
 
     /// Whether the names and C_CREDIT are in range.
     fn has_texts_in_range(&self) -> bool
         ensures { IsTrue result
-            ↔ (IsLoadedText 16 self.now.first × IsLoadedText 2 self.now.middle × IsLoadedText 16 self.now.last × IsCredit self.now.credit) }
+            ↔ (IsLoadedText 16 self.now.first × IsLoadedText 2 self.now.middle × IsLoadedText 16 self.now.last
+            × IsCredit self.now.credit) }
     {
         self.first.is_printable()
             && self.middle.is_printable()
@@ -135,13 +145,14 @@ impl Customer {
     /// Whether C_DISCOUNT, the amounts and the counts are in range.
     fn has_numbers_in_range(&self) -> bool
         ensures { IsTrue result
-            ↔ (IsRate self.now.discount × IsLoadedMoney self.now.balance × IsLoadedMoney self.now.ytd_payment × (self.now.payment_count ≤ 1_000_000_000_000_000) × (self.now.delivery_count ≤ 1_000_000_000_000_000)) }
+            ↔ (IsRate self.now.discount × IsLoadedMoney self.now.balance × IsLoadedMoney self.now.ytd_payment
+            × (self.now.payment_count ≤ max_count) × (self.now.delivery_count ≤ max_count)) }
     {
-        self.discount <= 10_000
+        self.discount <= MAX_RATE
             && is_loaded_money(self.balance)
             && is_loaded_money(self.ytd_payment)
-            && self.payment_count <= 1_000_000_000_000_000
-            && self.delivery_count <= 1_000_000_000_000_000
+            && self.payment_count <= MAX_COUNT
+            && self.delivery_count <= MAX_COUNT
     }
 }
 

@@ -8,14 +8,20 @@ use crate::codec::{
 use crate::load::Load;
 use crate::row::Row;
 use crate::text::Text;
-use crate::warehouse::is_loaded_money;
+use crate::warehouse::{MAX_RATE, MAX_WAREHOUSES, is_loaded_money};
+
+/// How many districts a warehouse has (TPC-C clause 1.2.1).
+pub const DISTRICTS_PER_WAREHOUSE: u8 = 10;
+
+/// The greatest number of an order.
+pub const MAX_ORDER: u32 = 1_000_000_000;
 
 /// A row of DISTRICT (TPC-C clause 1.3.1).
 #[derive(Clone, Copy, Debug, PartialEq, Eq)]
 pub struct District {
-    /// D_ID, 1 to 10.
+    /// D_ID, from 1 to `DISTRICTS_PER_WAREHOUSE`.
     pub id: u8,
-    /// D_W_ID, 1 to 16.
+    /// D_W_ID, from 1 to `MAX_WAREHOUSES`.
     pub warehouse: u8,
     /// D_NAME.
     pub name: Text<10>,
@@ -77,6 +83,7 @@ impl Row for District {
 }
 
 impl District {
+    ghost use Rattle.hy_schema.specs.Limits.{districts_per_warehouse, max_order, max_warehouses};
     ghost use Rattle.hy_schema.specs.Ranges.{IsBetween, IsRate, IsLoadedMoney, IsLoadedText, IsDistrictInRange};
 
     /// Whether each column has a value that a load may have.
@@ -88,19 +95,21 @@ impl District {
 
     /// Whether D_ID and D_W_ID are in range.
     fn has_key_in_range(&self) -> bool
-        ensures { IsTrue result ↔ (IsBetween 1 10 self.now.id × IsBetween 1 16 self.now.warehouse) }
+        ensures { IsTrue result ↔ (IsBetween 1 districts_per_warehouse self.now.id × IsBetween 1 max_warehouses self.now.warehouse) }
     {
-        (1..=10).contains(&self.id) && (1..=16).contains(&self.warehouse)
+        (1..=DISTRICTS_PER_WAREHOUSE).contains(&self.id)
+            && (1..=MAX_WAREHOUSES).contains(&self.warehouse)
     }
 
     /// Whether the columns behind the key are in range.
     fn has_columns_in_range(&self) -> bool
         ensures { IsTrue result
-            ↔ (IsLoadedText 10 self.now.name × IsRate self.now.tax × IsLoadedMoney self.now.ytd × IsBetween 1 1_000_000_000 self.now.next_order) }
+            ↔ (IsLoadedText 10 self.now.name × IsRate self.now.tax × IsLoadedMoney self.now.ytd
+            × IsBetween 1 max_order self.now.next_order) }
     {
         self.name.is_printable()
-            && self.tax <= 10_000
+            && self.tax <= MAX_RATE
             && is_loaded_money(self.ytd)
-            && (1..=1_000_000_000).contains(&self.next_order)
+            && (1..=MAX_ORDER).contains(&self.next_order)
     }
 }

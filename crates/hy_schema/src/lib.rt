@@ -12,14 +12,14 @@ mod text;
 mod warehouse;
 
 pub use codec::SlotBytes;
-pub use command::{Command, Commit, Payment, Reply, Who};
-pub use customer::Customer;
-pub use district::District;
+pub use command::{Command, Commit, MAX_MOMENT, MAX_PAYMENT, MIN_PAYMENT, Payment, Reply, Who};
+pub use customer::{Customer, MAX_COUNT, MAX_CUSTOMERS};
+pub use district::{DISTRICTS_PER_WAREHOUSE, District, MAX_ORDER};
 pub use load::Load;
 pub use refusal::{LoadFault, Refusal, Table};
 pub use row::Row;
 pub use text::Text;
-pub use warehouse::Warehouse;
+pub use warehouse::{MAX_CENTS, MAX_RATE, MAX_WAREHOUSES, Warehouse};
 
 #[cfg(test)]
 mod tests;

@@ -2,12 +2,13 @@
 
 ghost use Rattle.std.specs.Prelude.{◌≡◌, ◌↔◌, ◌<◌, ◌≤◌, ◌+ℤ◌, ◌^◌, pos, All, IsTrue, IfSome, IfNone, IsSomeAnd, MatchResult};
 ghost use Rattle.std.specs.Option.{option_copied};
+ghost use Rattle.hy_schema.specs.Limits.{districts_per_warehouse, max_warehouses};
 ghost use Rattle.hy_schema.specs.Ranges.{IsCustomerInRange};
-ghost use Rattle.hy_schema.specs.Conditions.{ytd_of_districts};
-ghost use Rattle.hy_schema.specs.Loads.{IsWarehouseAt, IsDistrictAt, IsCustomerAt, IsCustomerAfter, HasAllWarehouses, HasAllDistricts, HasAllCustomers, IsRight, IsFirstFault, district_rank};
+ghost use Rattle.hy_schema.specs.Conditions.{IsBalanced, IsSumOfDistricts, ytd_of_districts};
+ghost use Rattle.hy_schema.specs.Loads.{IsWarehouseAt, IsDistrictAt, IsCustomerAt, IsCustomerAfter, HasAllWarehouses, HasAllDistricts, HasAllCustomers, IsRight, IsFirstFault, IsNextDistrict};
 
 use crate::customer::Customer;
-use crate::district::District;
+use crate::district::{DISTRICTS_PER_WAREHOUSE, District};
 use crate::refusal::{LoadFault, Refusal, Table};
 use crate::row::Row;
 use crate::warehouse::Warehouse;
@@ -42,7 +43,13 @@ impl Model for Load {
 }
 
 impl Load {
-    ghost use Rattle.hy_schema.specs.Tables.{Tables};
+    ghost use Rattle.std.specs.Prelude.{ℕ, List, length};
+    ghost use Rattle.hy_schema.specs.declared.command.Commit.{Commit};
+    ghost use Rattle.hy_schema.specs.Tables.{Tables, of_warehouse};
+    ghost use Rattle.hy_schema.specs.Keys.{HasUniqueKeys};
+    ghost use Rattle.hy_schema.specs.Ranges.{IsBetween};
+    ghost use Rattle.hy_schema.specs.Conditions.{IsConsistent};
+    ghost use Rattle.hy_schema.specs.Replay.{replay};
     ghost use Rattle.hy_schema.specs.Loads.{IsLoad, HasFault};
 
     /// The load with these lists. E12 names the first wrong row, of the first wrong list in the order WAREHOUSE,
@@ -52,8 +59,13 @@ impl Load {
         districts: Vec<District>,
         customers: Vec<Customer>,
     ) -> Result<Load, Refusal>
-        ensures { let tables : Tables = record { warehouses = warehouses.items; districts = districts.items; customers = customers.items } in
-            MatchResult result (λ load. (load ≡ tables) × IsLoad tables) (λ refusal. (fault : LoadFault) × (refusal ≡ Refusal.BadLoad fault) × HasFault tables fault) }
+        ensures { let tables : Tables = record {
+          warehouses = warehouses.items;
+          districts = districts.items;
+          customers = customers.items;
+        } in
+            MatchResult result (λ load. (load ≡ tables) × IsLoad tables)
+            (λ refusal. (fault : LoadFault) × (refusal ≡ Refusal.BadLoad fault) × HasFault tables fault) }
     {
         let count = warehouses.len();
         if let Some(number) = fault_in_warehouses(&warehouses) {
@@ -90,6 +102,24 @@ impl Load {
         ensures { IsLoad self.now }
     {
         let _warehouses = &self.warehouses;
+    }
+
+    /// No two rows of a table have the same key, in a load and in what a list of commits makes of a warehouse of it.
+    pub fn keys_are_unique(&self)
+        ensures loaded { HasUniqueKeys self.now }
+        ensures kept { (warehouse : ℕ) (commits : List Commit) → IsBetween 1 (length self.now.warehouses) warehouse
+            → HasUniqueKeys (replay warehouse (of_warehouse warehouse self.now) commits) }
+    {
+        self.sound();
+    }
+
+    /// Each warehouse of a load has one row of WAREHOUSE, its ten districts in order and its customers, and meets the
+    /// consistency conditions 1 and 12 (TPC-C clause 3.3.2), after any list of commits.
+    pub fn conditions_are_kept(&self)
+        ensures { (warehouse : ℕ) (commits : List Commit) → IsBetween 1 (length self.now.warehouses) warehouse
+            → IsConsistent warehouse (replay warehouse (of_warehouse warehouse self.now) commits) }
+    {
+        self.sound();
     }
 
     /// The rows of WAREHOUSE.
@@ -137,16 +167,17 @@ fn is_warehouse_at(place: usize, row: &Warehouse) -> bool
 
 /// The number of the first wrong row of DISTRICT, if there is one.
 fn fault_in_districts(warehouses: usize, rows: &[District]) -> Option<u64>
-    requires { warehouses ≤ 16 }
+    requires { warehouses ≤ max_warehouses }
     ensures none { IfNone result (IsRight (IsDistrictAt warehouses) (HasAllDistricts warehouses rows.now) rows.now) }
-    ensures fault { IfSome result (IsFirstFault (IsDistrictAt warehouses) (HasAllDistricts warehouses rows.now) rows.now) }
+    ensures fault { IfSome result
+        (IsFirstFault (IsDistrictAt warehouses) (HasAllDistricts warehouses rows.now) rows.now) }
 {
     for (place, row) in rows.iter().enumerate() {
         if !is_district_at(warehouses, place, row) {
             return Some(place as u64 + 1);
         }
     }
-    if rows.len() < 10 * warehouses {
+    if rows.len() < usize::from(DISTRICTS_PER_WAREHOUSE) * warehouses {
         Some(rows.len() as u64 + 1)
     } else {
         None
@@ -159,15 +190,17 @@ fn is_district_at(warehouses: usize, place: usize, row: &District) -> bool
     ensures { IsTrue result ↔ IsDistrictAt warehouses place row.now }
 {
     row.is_in_range()
-        && usize::from(row.warehouse) == place / 10 + 1
-        && usize::from(row.id) == place % 10 + 1
+        && usize::from(row.warehouse) == place / usize::from(DISTRICTS_PER_WAREHOUSE) + 1
+        && usize::from(row.id) == place % usize::from(DISTRICTS_PER_WAREHOUSE) + 1
         && usize::from(row.warehouse) <= warehouses
 }
 
 /// The number of the first wrong row of CUSTOMER, if there is one.
 fn fault_in_customers(warehouses: usize, rows: &[Customer]) -> Option<u64>
-    ensures none { IfNone result (IsRight (IsCustomerAt warehouses rows.now) (HasAllCustomers warehouses rows.now) rows.now) }
-    ensures fault { IfSome result (IsFirstFault (IsCustomerAt warehouses rows.now) (HasAllCustomers warehouses rows.now) rows.now) }
+    ensures none { IfNone result
+        (IsRight (IsCustomerAt warehouses rows.now) (HasAllCustomers warehouses rows.now) rows.now) }
+    ensures fault { IfSome result
+        (IsFirstFault (IsCustomerAt warehouses rows.now) (HasAllCustomers warehouses rows.now) rows.now) }
 {
     let mut before: Option<&Customer> = None;
     for (place, row) in rows.iter().enumerate() {
@@ -185,17 +218,20 @@ fn fault_in_customers(warehouses: usize, rows: &[Customer]) -> Option<u64>
 
 /// Whether CUSTOMER may end behind a row.
 fn is_end(warehouses: usize, last: Option<&Customer>) -> bool
-    ensures { IsTrue result ↔ IsSomeAnd (option_copied last.entry) (λ row. (row.warehouse ≡ warehouses) × (row.district ≡ 10)) }
+    ensures { IsTrue result ↔ IsSomeAnd (option_copied last.entry)
+        (λ row. (row.warehouse ≡ warehouses) × (row.district ≡ districts_per_warehouse)) }
 {
     match last {
         None => false,
-        Some(row) => usize::from(row.warehouse) == warehouses && row.district == 10,
+        Some(row) => usize::from(row.warehouse) == warehouses
+            && row.district == DISTRICTS_PER_WAREHOUSE,
     }
 }
 
 /// Whether a row of CUSTOMER is right behind the one before it.
 fn is_customer_at(warehouses: usize, before: Option<&Customer>, row: &Customer) -> bool
-    ensures { IsTrue result ↔ (IsCustomerInRange row.now × (row.now.warehouse ≤ warehouses) × IsCustomerAfter (option_copied before.entry) row.now) }
+    ensures { IsTrue result ↔ (IsCustomerInRange row.now × (row.now.warehouse ≤ warehouses)
+        × IsCustomerAfter (option_copied before.entry) row.now) }
 {
     row.is_in_range() && usize::from(row.warehouse) <= warehouses && follows(before, row)
 }
@@ -210,24 +246,24 @@ fn follows(before: Option<&Customer>, row: &Customer) -> bool
             let same_district = row.warehouse == before.warehouse
                 && row.district == before.district;
             (same_district && u32::from(row.id) == u32::from(before.id) + 1)
-                || (rank(row) == rank(before) + 1 && row.id == 1)
+                || (is_next_district(before, row) && row.id == 1)
         }
     }
 }
 
-/// The rank of a customer's district among the districts of all warehouses.
-fn rank(row: &Customer) -> u32
-    ensures value { result ≡ district_rank row.now.warehouse row.now.district }
-    ensures range { result < 10_000 }
+/// Whether a customer is of the next district.
+fn is_next_district(before: &Customer, row: &Customer) -> bool
+    ensures { IsTrue result ↔ IsNextDistrict before.now row.now }
 {
-    let warehouse = row.warehouse;
-    let district = row.district;
-    10 * u32::from(warehouse) + u32::from(district)
+    (row.warehouse == before.warehouse && u32::from(row.district) == u32::from(before.district) + 1)
+        || (before.district == DISTRICTS_PER_WAREHOUSE
+            && u32::from(row.warehouse) == u32::from(before.warehouse) + 1
+            && row.district == 1)
 }
 
 /// Whether the rows meet consistency condition 1.
 fn meets_condition_1(warehouses: &[Warehouse], districts: &[District]) -> bool
-    ensures { IsTrue result ↔ All (λ row. row.ytd ≡ ytd_of_districts row.id districts.now) warehouses.now }
+    ensures { IsTrue result ↔ All (IsSumOfDistricts districts.now) warehouses.now }
 {
     warehouses.iter().all(|row| i128::from(row.ytd) == sum_of_districts(row.id, districts))
 }
@@ -248,7 +284,7 @@ fn sum_of_districts(warehouse: u8, districts: &[District]) -> i128
 
 /// Whether the rows meet consistency condition 12.
 fn meets_condition_12(customers: &[Customer]) -> bool
-    ensures { IsTrue result ↔ All (λ row. row.balance +ℤ row.ytd_payment ≡ pos 0) customers.now }
+    ensures { IsTrue result ↔ All IsBalanced customers.now }
 {
     customers.iter().all(|row| i128::from(row.balance) + i128::from(row.ytd_payment) == 0)
 }

@@ -146,6 +146,8 @@ fn load_of_fresh_lists(rt: HostRuntime) -> Result<(), Fail> {
     } = Lists::fresh(&rt, rt.alloc())?;
     let load = Load::of(warehouses, districts, customers)?;
     load.sound();
+    load.keys_are_unique();
+    load.conditions_are_kept();
     assert_eq!(rt; load.warehouses().len(), 1);
     assert_eq!(rt; load.districts().len(), 10);
     assert_eq!(rt; load.customers().len(), 30);
@@ -211,6 +213,15 @@ fn load_names_broken_conditions(rt: HostRuntime) -> Result<(), Fail> {
     lists.customers.push(row)?;
     assert_eq!(rt; lists.refusal(), condition_fault(12));
     Ok(())
+}
+
+#[test]
+fn rows_in_range(rt: HostRuntime) {
+    assert!(rt; warehouse(&rt).is_in_range());
+    assert!(rt; district(&rt, 10).is_in_range());
+    assert!(rt; !district(&rt, 11).is_in_range());
+    assert!(rt; customer(&rt, 10, 3_000).is_in_range());
+    assert!(rt; !customer(&rt, 10, 3_001).is_in_range());
 }
 
 #[test]

@@ -1,6 +1,7 @@
 //! Texts of a fixed width.
 
-ghost use Rattle.std.specs.Prelude.{◌≡◌, ℕ, ◌<◌, ◌≤◌, ◌↔◌, List, length, IsTrue, IsSome, IfSome, ◌++◌, take, drop};
+ghost use Rattle.std.specs.Prelude.{◌≡◌, ℕ, ◌==◌, ◌<◌, ◌≤◌, ◌↔◌, List, length, IsTrue, IsSome, IfSome, ◌++◌, take, drop};
+ghost use Rattle.std.specs.List.{list_all};
 ghost use Rattle.hy_schema.specs.Texts.{IsText, IsPrintable, padded, text_of};
 
 use std::marker::Model;
@@ -46,7 +47,14 @@ impl<const WIDTH: usize> Text<WIDTH> {
         requires { length bytes.now ≡ WIDTH }
         ensures { result ≡ text_of bytes.now }
     {
-        Text::of_bytes(&bytes[..text_len(bytes)])
+        let len = text_len(bytes);
+        if has_only_zeros(&bytes[len..]) {
+            Text {
+                field: whole(bytes),
+            }
+        } else {
+            Text::of_bytes(&bytes[..len])
+        }
     }
 
     /// The text with these bytes, which fit and are none of them zero.
@@ -95,6 +103,27 @@ fn text_len(bytes: &[u8]) -> usize
         .iter()
         .position(|byte| *byte == 0)
         .unwrap_or(bytes.len())
+}
+
+/// Whether each byte is zero.
+fn has_only_zeros(bytes: &[u8]) -> bool
+    ensures { result ≡ list_all (λ byte. byte == 0) bytes.now }
+{
+    bytes.iter().all(
+        |byte: &u8| -> bool
+            ensures { result ≡ (byte.now == 0) }
+        { *byte == 0 },
+    )
+}
+
+/// The bytes of a slice that has the width. The copy is of a width that the compiler knows.
+fn whole<const WIDTH: usize>(bytes: &[u8]) -> [u8; WIDTH]
+    requires { length bytes.now ≡ WIDTH }
+    ensures { result ≡ bytes.now }
+{
+    let mut field = [0; WIDTH];
+    field.copy_from_slice(&bytes[..WIDTH]);
+    field
 }
 
 /// The bytes, with zeros behind them up to the width.

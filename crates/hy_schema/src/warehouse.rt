@@ -10,10 +10,19 @@ use crate::load::Load;
 use crate::row::Row;
 use crate::text::Text;
 
+/// The greatest W_ID.
+pub const MAX_WAREHOUSES: u8 = 16;
+
+/// The greatest amount in cents that a loaded row may have.
+pub const MAX_CENTS: i64 = 1_000_000_000_000_000;
+
+/// The whole, in ten-thousandths.
+pub const MAX_RATE: u16 = 10_000;
+
 /// A row of WAREHOUSE (TPC-C clause 1.3.1).
 #[derive(Clone, Copy, Debug, PartialEq, Eq)]
 pub struct Warehouse {
-    /// W_ID, 1 to 16.
+    /// W_ID, from 1 to `MAX_WAREHOUSES`.
     pub id: u8,
     /// W_NAME.
     pub name: Text<10>,
@@ -75,16 +84,16 @@ impl Warehouse {
     pub fn is_in_range(&self) -> bool
         ensures { IsTrue result ↔ IsWarehouseInRange self.now }
     {
-        (1..=16).contains(&self.id)
+        (1..=MAX_WAREHOUSES).contains(&self.id)
             && self.name.is_printable()
-            && self.tax <= 10_000
+            && self.tax <= MAX_RATE
             && is_loaded_money(self.ytd)
     }
 }
 
-/// Whether an amount in cents is between -10^15 and 10^15.
+/// Whether a loaded row may have an amount in cents.
 pub fn is_loaded_money(cents: i64) -> bool
     ensures { IsTrue result ↔ IsLoadedMoney cents }
 {
-    (-1_000_000_000_000_000..=1_000_000_000_000_000).contains(&cents)
+    (-MAX_CENTS..=MAX_CENTS).contains(&cents)
 }
