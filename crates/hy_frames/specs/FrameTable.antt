@@ -1,10 +1,11 @@
 -- A table of frames: numbered places for pages, each with a count of its users.
-use Rattle.std.specs.Prelude.{◌≡◌, ◌≢◌, ℕ, ◌-◌, ◌≤◌, List, [], length, slice_index_or, count_by, nat_lt}
+use Rattle.std.specs.Prelude.{◌≡◌, ◌≢◌, ℕ, ◌-◌, ◌≤◌, Bool, false, List, [], length, slice_index_or, count_by, nat_lt, replicate, Option, Some, None}
 
--- how many use a page, and its bytes
+-- how many use a page, its bytes, and whether holds may have it too
 pub record Frame : Type 0 where
   pub count : ℕ
   pub bytes : List ℕ
+  pub lent : Bool
 
 -- the frames by their numbers, and how many may be in use
 pub record FrameTable : Type 0 where
@@ -13,7 +14,7 @@ pub record FrameTable : Type 0 where
 
 -- a frame that nobody uses
 abbrev pub empty_frame : Frame
-empty_frame = record { count = 0; bytes = [] }
+empty_frame = record { count = 0; bytes = []; lent = false }
 
 -- the most frames that a table can have
 abbrev pub max_frames : ℕ
@@ -30,6 +31,10 @@ count_of table f = (frame_at table f).count
 -- the bytes in the frame of a number
 abbrev pub page_of : FrameTable → ℕ → List ℕ
 page_of table f = (frame_at table f).bytes
+
+-- whether holds may have the page in the frame of a number
+abbrev pub lent_at : FrameTable → ℕ → Bool
+lent_at table f = (frame_at table f).lent
 
 -- how many frames are in use
 abbrev pub in_use : FrameTable → ℕ
@@ -53,10 +58,19 @@ pub record Sets (old new : FrameTable) (f : ℕ) (frame : Frame) : Type 0 where
 abbrev pub IsLimitFor : FrameTable → ℕ → Type 0
 IsLimitFor table limit = (1 ≤ limit) × (limit ≤ max_frames) × (in_use table ≤ limit)
 
--- what always holds of a table of frames with pages of `page_size` bytes
-pub record IsSoundTable (page_size : ℕ) (table : FrameTable) : Type 0 where
+-- the bytes in the frame of a number, or a page of zeros
+abbrev pub bytes_or_zeros : ℕ → List Frame → Option ℕ → List ℕ
+bytes_or_zeros page_size frames (Some f) = (slice_index_or frames f empty_frame).bytes
+bytes_or_zeros page_size frames None = replicate page_size 0
+
+-- a page has 256 to 65,536 bytes
+pub record IsPageSize (page_size : ℕ) : Type 0 where
   pub smallest : 256 ≤ page_size
   pub largest : page_size ≤ 65536
+
+-- what always holds of a table of frames with pages of `page_size` bytes
+pub record IsSoundTable (page_size : ℕ) (table : FrameTable) : Type 0 where
+  pub size : IsPageSize page_size
   pub pages : (f : ℕ) → 1 ≤ count_of table f → length (page_of table f) ≡ page_size
   pub within : in_use table ≤ table.max
   pub some : 1 ≤ table.max

@@ -1,2 +1,3 @@
 pub mod FrameTable
 pub mod Slots
+pub mod Memories

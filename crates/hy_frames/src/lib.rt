@@ -2,10 +2,12 @@
 #![tactic(auto)]
 
 mod errors;
-mod shared_page;
-mod slots;
-mod table;
+mod frame_no;
+mod frames;
+mod hold;
+mod slot;
 
 pub use errors::{OutOfRange, Shortage};
-pub use shared_page::Hold;
-pub use table::{FrameNo, Frames};
+pub use frame_no::FrameNo;
+pub use frames::{Frames, MAX_FRAMES};
+pub use hold::Hold;

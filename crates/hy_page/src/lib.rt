@@ -74,6 +74,14 @@ impl<const N: usize> Page<N> {
         whole[offset..offset + bytes.len()].copy_from_slice(bytes);
     }
 
+    /// Makes all bytes zero.
+    pub fn clear(&mut self)
+        ensures { self.new ≡ replicate N 0 }
+    {
+        let whole = &mut self.bytes[..];
+        whole.fill(0);
+    }
+
     /// A second page with the same bytes.
     pub fn copy(&self) -> Page<N>
         ensures bytes { result ≡ self.now }
