@@ -1,5 +1,6 @@
 pub mod UserLaws
 pub mod TableLaws
 pub mod SpaceLaws
+pub mod ChildLaws
 pub mod SizeLaws
 pub mod SoundLaws

@@ -6,7 +6,8 @@ use Rattle.std.proofs.lemmas.List.Elements.{All-cons, All-nil}
 use Rattle.hy_frames.specs.FrameTable.{FrameTable, page_of, IsSoundTable}
 use Rattle.hy_frames.specs.Slots.{occurrences}
 use Rattle.hy_space.specs.Space.{SpaceState, times, maps, table_bytes, CountsAreExact, NoFrameTwice, HasPagesOf, IsSound}
-use Rattle.hy_space.specs.Users.{child_times, IsCounted}
+use Rattle.hy_space.specs.Users.{IsCounted}
+use Rattle.hy_space.specs.Space.{child_times}
 use Rattle.hy_space.proofs.UserLaws.{same_yes}
 use Rattle.hy_space.proofs.TableLaws.{occurrences-cons, times-cons, child_in_sum}
 
@@ -68,8 +69,7 @@ IsSound-from page_size s counted sound =
       counts = CountsAreExact-from page_size s counted;
       once = NoFrameTwice-from page_size s counted;
       pages = All-cons P s.owner (flat_map option_to_list s.children) (table_sized page_size s.frames s.owner (λ f more. sound.pages f (omega (arith, counted.exact f)))) (all_children P s.children (λ child table is. table_sized page_size s.frames table (λ f more. sound.pages f (omega (arith, counted.exact f, child_in_sum f s.children child, ap (child_times f) is)))));
-      smallest = sound.smallest;
-      largest = sound.largest;
+      size = sound.size;
       within = sound.within;
       some = sound.some;
       limit = sound.limit;

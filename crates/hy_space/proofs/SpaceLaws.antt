@@ -1,25 +1,27 @@
 -- What each change of frames and tables does to the counts, and to what the owner and the children see.
-use Rattle.std.proofs.Common.{◌≡◌, ◌≢◌, ℕ, ◌+◌, ◌<◌, ◌≤◌, inl, inr, List, [], ◌∷◌, ◌++◌, length, get_or, take, drop, set, refl, sym, ap, ◌∙◌, subst, arith, sum_by, All, Option, Some, None, length-set}
+use Rattle.std.proofs.Common.{◌≡◌, ◌≢◌, ℕ, Bool, false, ◌+◌, ◌<◌, ◌≤◌, inl, inr, List, [], ◌∷◌, ◌++◌, length, get_or, take, drop, set, refl, sym, ap, ◌∙◌, subst, arith, sum_by, All, Option, Some, None, length-set}
 use Rattle.std.specs.Option.{option_map}
 use Rattle.std.proofs.lemmas.List.{get_or_past, get_or-set_other, get_or_append_left, get_or_push, length_push}
 use Rattle.std.proofs.lemmas.List.Sums.{sum_by-set, sum_by-le}
 use Rattle.std.proofs.lemmas.List.Elements.{All-from_get_or}
 use Rattle.std.proofs.lemmas.Bool.{cases_lt, cases_eq}
-use Rattle.hy_frames.specs.FrameTable.{Frame, FrameTable, count_of, page_of, Sets}
+use Rattle.hy_frames.specs.FrameTable.{Frame, FrameTable, count_of, page_of, lent_at, Sets}
 use Rattle.hy_frames.specs.Slots.{occurrences}
-use Rattle.hy_space.specs.Space.{SpaceState, times, table_bytes, owner_bytes, child_table, child_bytes, HasPage, IsOwn, frame_no, with_frame, with_page, with_new_page, with_first_pages}
+use Rattle.hy_space.specs.Space.{SpaceState, KeepsOwn, Lends, with_new_frame, with_first_frames, AddsUsers, DropsUsers, child_times, times, table_bytes, owner_bytes, child_table, child_bytes, HasPage, IsOwn, frame_no, with_frame, with_page, with_new_page, with_first_pages}
 use Rattle.hy_space.specs.Children.{IsPadded}
-use Rattle.hy_space.specs.Users.{AddsUsers, DropsUsers, child_times, IsCounted}
+use Rattle.hy_space.specs.Users.{IsCounted}
 use Rattle.hy_space.proofs.UserLaws.{same, same_yes, same_no}
-use Rattle.hy_space.proofs.TableLaws.{stands, times-with_frame, times-cut, occurrences-drop-le, table_bytes-with_frame, table_bytes-push, table_bytes-cut, same_bytes, same_child_bytes, written_table, child_in_sum}
+use Rattle.hy_space.proofs.TableLaws.{stands, times-with_frame, times-cut, occurrences-drop-le, table_bytes-with_frame, table_bytes-push, table_bytes-cut, frame_no-with_new_frame, frame_no-with_first_frames, same_bytes, same_child_bytes, written_table, child_in_sum}
 
 -- a frame without users gets one, and a page
 pub record TakesOne (old new : FrameTable) (fresh : ℕ) (bytes : List ℕ) : Type 0 where
   pub counts : (f : ℕ) → count_of new f ≡ count_of old f + same fresh f
   pub pages : (f : ℕ) → f ≢ fresh → page_of new f ≡ page_of old f
   pub here : page_of new fresh ≡ bytes
+  pub lent : (f : ℕ) → f ≢ fresh → lent_at new f ≡ lent_at old f
+  pub not_lent : lent_at new fresh ≡ false
 
-pub TakesOne-from : (old new : FrameTable) (fresh : ℕ) (bytes : List ℕ) → count_of old fresh ≡ 0 → Sets old new fresh (record { count = 1; bytes = bytes }) → TakesOne old new fresh bytes
+pub TakesOne-from : (old new : FrameTable) (fresh : ℕ) (bytes : List ℕ) → count_of old fresh ≡ 0 → Sets old new fresh (record { count = 1; bytes = bytes; lent = false }) → TakesOne old new fresh bytes
 TakesOne-from old new fresh bytes unused sets = record {
   counts = λ f. elim (cases_eq f fresh) [
     | inl here ↦ omega (arith, ap (count_of new) here, ap (count_of old) here, ap (λ (x : Frame). x.count) sets.here, same_yes fresh f (sym here))
@@ -27,6 +29,8 @@ TakesOne-from old new fresh bytes unused sets = record {
   ];
   pages = λ f apart. ap (λ (x : Frame). x.bytes) (sets.others f apart);
   here = ap (λ (x : Frame). x.bytes) sets.here;
+  lent = λ f apart. ap (λ (x : Frame). x.lent) (sets.others f apart);
+  not_lent = ap (λ (x : Frame). x.lent) sets.here;
 }
 
 -- the counts are right, and the children see what they saw
@@ -57,8 +61,8 @@ module _ (page_size : ℕ) (s : SpaceState) (counted : IsCounted page_size s) wh
   child_counted f child = omega (arith, counted.exact f, child_in_sum f s.children child)
 
   -- a page that is the owner's own is written
-  pub written_own : (segment page : ℕ) → HasPage s segment page → IsOwn s segment page → (new : FrameTable) (bytes : List ℕ) → Sets s.frames new (frame_no s segment page) (record { count = 1; bytes = bytes }) → (table_bytes new s.owner ≡ with_page (owner_bytes s) segment page bytes) × ((child : ℕ) → option_map (table_bytes new) (child_table s child) ≡ child_bytes s child)
-  written_own segment page place own new bytes sets =
+  pub written_own : (segment page : ℕ) → HasPage s segment page → IsOwn s segment page → (new : FrameTable) (bytes : List ℕ) (lent : Bool) → Sets s.frames new (frame_no s segment page) (record { count = 1; bytes = bytes; lent = lent }) → (table_bytes new s.owner ≡ with_page (owner_bytes s) segment page bytes) × ((child : ℕ) → option_map (table_bytes new) (child_table s child) ≡ child_bytes s child)
+  written_own segment page place own new bytes lent sets =
       let f = frame_no s segment page in
       let stay : (g : ℕ) → g ≢ f → page_of new g ≡ page_of s.frames g = λ g apart. ap (λ (x : Frame). x.bytes) (sets.others g apart) in
       let stood = stands s.owner segment page place.0 place.1 in
@@ -148,3 +152,73 @@ module _ (page_size : ℕ) (s : SpaceState) (counted : IsCounted page_size s) wh
         read,
         ap (option_map (table_bytes new)) read ∙ same_child_bytes s.frames new (child_table s other) (λ f more. adds.pages f),
       )
+
+-- ---- pages that stay the owner's own
+
+-- where each page keeps its frame, and each frame of an own page its count and whether it is lent, own pages stay own
+pub KeepsOwn-from : (old new : SpaceState) → ((segment page : ℕ) → HasPage old segment page → HasPage new segment page → (frame_no new segment page ≡ frame_no old segment page) × (IsOwn old segment page → (count_of new.frames (frame_no old segment page) ≡ 1) × (lent_at new.frames (frame_no old segment page) ≡ lent_at old.frames (frame_no old segment page)))) → KeepsOwn old new
+KeepsOwn-from old new stays = record {
+  own = λ segment page before after is_own.
+      let stay = stays segment page before after in
+      ap (count_of new.frames) stay.0 ∙ (stay.1 is_own).0;
+  private = λ segment page before after is_private.
+      let stay = stays segment page before after in
+      record {
+        own = ap (count_of new.frames) stay.0 ∙ (stay.1 is_private.own).0;
+        not_lent = ap (lent_at new.frames) stay.0 ∙ (stay.1 is_private.own).1 ∙ is_private.not_lent;
+      };
+}
+
+module _ (page_size : ℕ) (s : SpaceState) (counted : IsCounted page_size s) where
+  -- no child has the frame of an own page
+  pub owners_alone : (segment page : ℕ) → HasPage s segment page → IsOwn s segment page → (times (frame_no s segment page) s.owner ≡ 1) × (sum_by (child_times (frame_no s segment page)) s.children ≡ 0)
+  owners_alone segment page place own =
+      let f = frame_no s segment page in
+      let stood = stands s.owner segment page place.0 place.1 in
+      (omega (arith, counted.exact f, counted.owner_once f), omega (arith, counted.exact f, counted.owner_once f))
+
+  -- a close keeps own pages
+  pub close_keeps : (child : ℕ) (table : List (List ℕ)) (children : List (Option (List (List ℕ)))) (new : FrameTable) → child_table s child ≡ Some table → DropsUsers s.frames new (λ f. times f table) → KeepsOwn s (record { owner = s.owner; children = children; frames = new })
+  close_keeps child table children new is_table drops = KeepsOwn-from s (record { owner = s.owner; children = children; frames = new }) (λ segment page before after. (
+    refl,
+    λ own.
+        let f = frame_no s segment page in
+        let none : times f table ≡ 0 = omega (arith, (owners_alone segment page before own).1, child_in_sum f s.children child, ap (child_times f) is_table) in
+        let one : count_of new f ≡ 1 = omega (arith, drops.counts f, own) in
+        (one, drops.lent f (omega arith)),
+  ))
+
+  -- a new page keeps own pages
+  pub grow_keeps : (segment fresh : ℕ) (bytes : List ℕ) (new : FrameTable) → segment < length s.owner → count_of s.frames fresh ≡ 0 → TakesOne s.frames new fresh bytes → KeepsOwn s (record { owner = with_new_frame s.owner segment fresh; children = s.children; frames = new })
+  grow_keeps segment fresh bytes new there unused takes = KeepsOwn-from s (record { owner = with_new_frame s.owner segment fresh; children = s.children; frames = new }) (λ segment' page' before after. (
+    frame_no-with_new_frame s.owner segment fresh segment' page' before.1,
+    λ own.
+        let f = frame_no s segment' page' in
+        let apart : f ≢ fresh = λ e. absurd (omega (arith, own, ap (count_of s.frames) e)) in
+        (omega (arith, takes.counts f, own, same_no fresh f (λ e. apart (sym e))), takes.lent f apart),
+  ))
+
+  -- a cut keeps own pages
+  pub cut_keeps : (segment count : ℕ) (new : FrameTable) → segment < length s.owner → DropsUsers s.frames new (λ f. occurrences f (drop count (get_or s.owner segment []))) → KeepsOwn s (record { owner = with_first_frames s.owner segment count; children = s.children; frames = new })
+  cut_keeps segment count new there drops = KeepsOwn-from s (record { owner = with_first_frames s.owner segment count; children = s.children; frames = new }) (λ segment' page' before after.
+      let same_frame = frame_no-with_first_frames s.owner segment count segment' page' there after.1 in (
+        same_frame,
+        λ own.
+            let f = frame_no s segment' page' in
+            let alone = owners_alone segment' page' before own in
+            let stood = stands (with_first_frames s.owner segment count) segment' page' after.0 after.1 in
+            let stays : 1 ≤ times f (with_first_frames s.owner segment count) = omega (arith, ap (λ n. times n (with_first_frames s.owner segment count)) same_frame) in
+            let none : occurrences f (drop count (get_or s.owner segment [])) ≡ 0 = omega (arith, times-cut f s.owner segment count there, alone.0) in
+            let one : count_of new f ≡ 1 = omega (arith, drops.counts f, own) in
+            (one, drops.lent f (omega arith)),
+      ))
+
+  -- holds of a child's pages keep the owner's own pages, none of which the child has
+  pub holds_keep : (child : ℕ) (table : List (List ℕ)) (new : FrameTable) → child_table s child ≡ Some table → Lends s.frames new (λ f. times f table) → KeepsOwn s (record { owner = s.owner; children = s.children; frames = new })
+  holds_keep child table new is_table lends = KeepsOwn-from s (record { owner = s.owner; children = s.children; frames = new }) (λ segment page before after. (
+    refl,
+    λ own.
+        let f = frame_no s segment page in
+        let none : times f table ≡ 0 = omega (arith, (owners_alone segment page before own).1, child_in_sum f s.children child, ap (child_times f) is_table) in
+        (lends.counts f ∙ own, lends.others f none),
+  ))

@@ -1,13 +1,13 @@
 -- What one table says of its frames, and what is seen through it.
 use Rattle.std.proofs.Common.{◌≡◌, ◌≢◌, ℕ, zero, suc, ◌+◌, ◌<◌, ◌≤◌, inl, inr, List, [], ◌∷◌, ◌++◌, length, get_or, take, drop, set, map, refl, sym, ap, ap₂, ◌∙◌, arith, sum_by, Option, Some, None}
 use Rattle.std.specs.Option.{option_map}
-use Rattle.std.proofs.lemmas.List.{get_or_past, map-append, take-map, map-set, set-get_or}
+use Rattle.std.proofs.lemmas.List.{get_or_past, get_or-take, length-take, get_or-set_same, get_or-set_other, get_or_append_left, map-append, take-map, map-set, set-get_or}
 use Rattle.std.proofs.lemmas.List.Sums.{sum_by-cons, sum_by-set, get_or-le-sum_by, sum_by-take-drop}
-use Rattle.std.proofs.lemmas.Bool.{cases_lt}
+use Rattle.std.proofs.lemmas.Bool.{cases_lt, cases_eq}
 use Rattle.hy_frames.specs.FrameTable.{FrameTable, page_of}
 use Rattle.hy_frames.specs.Slots.{occurrences}
-use Rattle.hy_space.specs.Space.{times, table_bytes, with_frame, with_page, with_new_page, with_first_pages, page_at}
-use Rattle.hy_space.specs.Users.{child_times}
+use Rattle.hy_space.specs.Space.{times, table_bytes, with_frame, with_new_frame, with_first_frames, with_page, with_new_page, with_first_pages, page_at}
+use Rattle.hy_space.specs.Space.{child_times}
 use Rattle.hy_space.proofs.UserLaws.{same, same_yes}
 
 -- ---- how often a frame stands in a table
@@ -142,3 +142,33 @@ child_in_sum f children child = elim (cases_lt child (length children)) [
 pub same_child_bytes : (old new : FrameTable) (table : Option (List (List ℕ))) → ((f : ℕ) → 0 < child_times f table → page_of new f ≡ page_of old f) → option_map (table_bytes new) table ≡ option_map (table_bytes old) table
 same_child_bytes old new None stay = refl
 same_child_bytes old new (Some table) stay = ap Some (same_bytes old new table stay)
+
+-- ---- the frame of a place after a change of the table
+
+-- a page that was there keeps its frame when a page is added
+pub frame_no-with_new_frame : (table : List (List ℕ)) (segment fresh segment' page' : ℕ) → page' < length (get_or table segment' []) → get_or (get_or (with_new_frame table segment fresh) segment' []) page' 0 ≡ get_or (get_or table segment' []) page' 0
+frame_no-with_new_frame table segment fresh segment' page' within = elim (cases_eq segment' segment) [
+  | inl here ↦
+      let there : segment < length table = elim (cases_lt segment (length table)) [
+        | inl below ↦ below
+        | inr past ↦ absurd (omega (arith, ap length (get_or_past table segment' [] (omega arith))))
+      ] in
+      ap (λ n. get_or (get_or (with_new_frame table segment fresh) n []) page' 0) here
+      ∙ ap (λ row. get_or row page' 0) (get_or-set_same table segment (get_or table segment [] ++ fresh ∷ []) [] there)
+      ∙ get_or_append_left (get_or table segment []) (fresh ∷ []) 0 page' (omega (arith, ap (λ n. length (get_or table n [])) here))
+      ∙ ap (λ n. get_or (get_or table n []) page' 0) (sym here)
+  | inr apart ↦ ap (λ row. get_or row page' 0) (get_or-set_other table segment segment' (get_or table segment [] ++ fresh ∷ []) [] apart)
+]
+
+-- a page that is there still keeps its frame when a segment is cut
+pub frame_no-with_first_frames : (table : List (List ℕ)) (segment count segment' page' : ℕ) → segment < length table → page' < length (get_or (with_first_frames table segment count) segment' []) → get_or (get_or (with_first_frames table segment count) segment' []) page' 0 ≡ get_or (get_or table segment' []) page' 0
+frame_no-with_first_frames table segment count segment' page' there within = elim (cases_eq segment' segment) [
+  | inl here ↦
+      let row = get_or table segment [] in
+      let cut : get_or (with_first_frames table segment count) segment' [] ≡ take count row = ap (λ n. get_or (with_first_frames table segment count) n []) here ∙ get_or-set_same table segment (take count row) [] there in
+      let short : page' < length (take count row) = omega (arith, ap length cut) in
+      ap (λ r. get_or r page' 0) cut
+      ∙ get_or-take count row page' 0 (omega (arith, length-take count row))
+      ∙ ap (λ n. get_or (get_or table n []) page' 0) (sym here)
+  | inr apart ↦ ap (λ row. get_or row page' 0) (get_or-set_other table segment segment' (take count (get_or table segment [])) [] apart)
+]

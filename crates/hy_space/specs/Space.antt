@@ -1,8 +1,8 @@
 -- Page tables over one table of frames: the owner's, and those of its open children.
-use Rattle.std.specs.Prelude.{◌≡◌, ◌≢◌, ℕ, ◌+◌, ◌<◌, ◌≤◌, ◌==◌, nat_lt, Bool, List, [], ◌∷◌, ◌++◌, length, map, take, slice_index, slice_index_or, slice_set, count_by, sum_by, All, Option, None, IsSome, option_to_list}
+use Rattle.std.specs.Prelude.{◌≡◌, ◌≢◌, ℕ, ◌+◌, ◌<◌, ◌≤◌, ◌==◌, nat_lt, Bool, false, List, [], ◌∷◌, ◌++◌, length, map, take, slice_index, slice_index_or, slice_set, count_by, sum_by, All, Option, None, Some, IsSome, IsSomeAnd, unwrap_or, option_to_list}
 use Rattle.std.specs.Option.{option_map}
 use Rattle.std.specs.List.{flat_map}
-use Rattle.hy_frames.specs.FrameTable.{FrameTable, max_frames, count_of, page_of, in_use, free_of}
+use Rattle.hy_frames.specs.FrameTable.{FrameTable, max_frames, count_of, page_of, lent_at, in_use, free_of, IsPageSize}
 
 -- for each table the frame number of each page, by segment; a closed child has none
 pub record SpaceState : Type 0 where
@@ -70,6 +70,16 @@ page_bytes s segment page = page_at (owner_bytes s) segment page
 abbrev pub IsOwn : SpaceState → ℕ → ℕ → Type 0
 IsOwn s segment page = count_of s.frames (frame_no s segment page) ≡ 1
 
+-- the page is the owner's own, and no hold has its bytes: it is written in place
+pub record IsPrivate (s : SpaceState) (segment page : ℕ) : Type 0 where
+  pub own : IsOwn s segment page
+  pub not_lent : lent_at s.frames (frame_no s segment page) ≡ false
+
+-- each page that was the owner's own is so still, and each that no hold had either
+pub record KeepsOwn (old new : SpaceState) : Type 0 where
+  pub own : (segment page : ℕ) → HasPage old segment page → HasPage new segment page → IsOwn old segment page → IsOwn new segment page
+  pub private : (segment page : ℕ) → HasPage old segment page → HasPage new segment page → IsPrivate old segment page → IsPrivate new segment page
+
 -- a table with another frame at one place
 abbrev pub with_frame : List (List ℕ) → ℕ → ℕ → ℕ → List (List ℕ)
 with_frame table segment page frame = slice_set table segment (slice_set (slice_index_or table segment []) page frame)
@@ -106,8 +116,7 @@ pub record MakesOwn (old new : SpaceState) (segment page : ℕ) : Type 0 where
   pub table : IsOwn old segment page → new.owner ≡ old.owner
   pub free : IsOwn old segment page → free_of new.frames ≡ free_of old.frames
   pub fresh : ¬ IsOwn old segment page → TakesFrame old new segment page
-  -- each page that was the owner's own is so still
-  pub others : (segment' page' : ℕ) → HasPage old segment' page' → IsOwn old segment' page' → IsOwn new segment' page'
+  pub kept : KeepsOwn old new
   pub limit : new.frames.max ≡ old.frames.max
 
 -- the page needs a frame of its own, and there is none
@@ -134,6 +143,80 @@ pub record SameForOwner (old new : SpaceState) : Type 0 where
   pub table : new.owner ≡ old.owner
   pub bytes : owner_bytes new ≡ owner_bytes old
 
+-- ---- pages of a child
+
+-- the child is open, and its segment has this page
+abbrev pub HasChildPage : SpaceState → ℕ → ℕ → ℕ → Type 0
+HasChildPage s child segment page =
+    IsSomeAnd (child_table s child) (λ table. (segment < length table) × (page < length (slice_index_or table segment [])))
+
+-- the frame of a page of a child
+abbrev pub child_frame_no : SpaceState → ℕ → ℕ → ℕ → ℕ
+child_frame_no s child segment page = slice_index (slice_index_or (unwrap_or (child_table s child) []) segment []) page
+
+-- no other table has the child's page, and no hold has its bytes
+pub record IsChildPrivate (s : SpaceState) (child segment page : ℕ) : Type 0 where
+  pub own : count_of s.frames (child_frame_no s child segment page) ≡ 1
+  pub not_lent : lent_at s.frames (child_frame_no s child segment page) ≡ false
+
+-- ---- users of frames, many at once
+
+-- each frame gains users, and every page stays
+pub record AddsUsers (old new : FrameTable) (added : ℕ → ℕ) : Type 0 where
+  pub counts : (f : ℕ) → count_of new f ≡ count_of old f + added f
+  pub pages : (f : ℕ) → page_of new f ≡ page_of old f
+  pub lent : (f : ℕ) → lent_at new f ≡ lent_at old f
+  pub limit : new.max ≡ old.max
+  pub free : free_of new ≡ free_of old
+
+-- each frame loses users, and every page that still has one stays
+pub record DropsUsers (old new : FrameTable) (dropped : ℕ → ℕ) : Type 0 where
+  pub counts : (f : ℕ) → count_of new f + dropped f ≡ count_of old f
+  pub pages : (f : ℕ) → 0 < count_of new f → page_of new f ≡ page_of old f
+  pub lent : (f : ℕ) → 0 < count_of new f → lent_at new f ≡ lent_at old f
+  pub limit : new.max ≡ old.max
+  pub free : free_of old ≤ free_of new
+
+-- a user of one frame goes to another, which had none and gets a copy of the page
+pub record MovesUser (old new : FrameTable) (from to : ℕ) : Type 0 where
+  pub unused : count_of old to ≡ 0
+  pub here : count_of new to ≡ 1
+  pub copied : page_of new to ≡ page_of old from
+  pub not_lent : lent_at new to ≡ false
+  pub left : count_of new from + 1 ≡ count_of old from
+  pub others : (f : ℕ) → f ≢ from → f ≢ to → count_of new f ≡ count_of old f
+  pub pages : (f : ℕ) → 0 < count_of old f → page_of new f ≡ page_of old f
+  pub lent : (f : ℕ) → 0 < count_of old f → lent_at new f ≡ lent_at old f
+  pub limit : new.max ≡ old.max
+  pub free : free_of new + 1 ≡ free_of old
+
+-- frames whose pages get holds: only those of which `lending` says so may be lent now that were not
+pub record Lends (old new : FrameTable) (lending : ℕ → ℕ) : Type 0 where
+  pub counts : (f : ℕ) → count_of new f ≡ count_of old f
+  pub pages : (f : ℕ) → page_of new f ≡ page_of old f
+  pub others : (f : ℕ) → lending f ≡ 0 → lent_at new f ≡ lent_at old f
+  pub limit : new.max ≡ old.max
+  pub free : free_of new ≡ free_of old
+
+-- at how many places of a child's table a frame stands
+abbrev pub child_times : ℕ → Option (List (List ℕ)) → ℕ
+child_times f None = 0
+child_times f (Some table) = times f table
+
+-- the tables, the bytes and the counts stay; pages may be lent
+pub record IsUnchanged (old new : SpaceState) : Type 0 where
+  pub owner : new.owner ≡ old.owner
+  pub children : new.children ≡ old.children
+  pub counts : (f : ℕ) → count_of new.frames f ≡ count_of old.frames f
+  pub pages : (f : ℕ) → page_of new.frames f ≡ page_of old.frames f
+  pub limit : new.frames.max ≡ old.frames.max
+  pub free : free_of new.frames ≡ free_of old.frames
+
+-- a page of a child stands in another frame, and its user moved with it
+pub record MovesChildPage (old new : SpaceState) (child segment page : ℕ) : Type 0 where
+  pub table : child_table new child ≡ option_map (λ table. with_frame table segment page (child_frame_no new child segment page)) (child_table old child)
+  pub users : MovesUser old.frames new.frames (child_frame_no old child segment page) (child_frame_no new child segment page)
+
 -- each page of a table has `page_size` bytes
 abbrev pub HasPagesOf : ℕ → List (List (List ℕ)) → Type 0
 HasPagesOf page_size segments = All (λ segment. All (λ bytes. length bytes ≡ page_size) segment) segments
@@ -143,8 +226,7 @@ pub record IsSound (page_size : ℕ) (s : SpaceState) : Type 0 where
   pub counts : CountsAreExact s
   pub once : NoFrameTwice s
   pub pages : All (λ table. HasPagesOf page_size (table_bytes s.frames table)) (tables s)
-  pub smallest : 256 ≤ page_size
-  pub largest : page_size ≤ 65536
+  pub size : IsPageSize page_size
   pub within : in_use s.frames ≤ s.frames.max
   pub some : 1 ≤ s.frames.max
   pub limit : s.frames.max ≤ max_frames

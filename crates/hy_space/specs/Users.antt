@@ -1,26 +1,7 @@
--- The users of frames: the places of tables that have them.
-use Rattle.std.specs.Prelude.{◌≡◌, ℕ, ◌+◌, ◌<◌, ◌≤◌, ◌^◌, List, length, sum_by, Option, Some, None}
-use Rattle.hy_frames.specs.FrameTable.{FrameTable, count_of, page_of, free_of}
-use Rattle.hy_space.specs.Space.{SpaceState, times, child_table}
-
--- each frame gains users, and every page stays
-pub record AddsUsers (old new : FrameTable) (added : ℕ → ℕ) : Type 0 where
-  pub counts : (f : ℕ) → count_of new f ≡ count_of old f + added f
-  pub pages : (f : ℕ) → page_of new f ≡ page_of old f
-  pub limit : new.max ≡ old.max
-  pub free : free_of new ≡ free_of old
-
--- each frame loses users, and every page that still has one stays
-pub record DropsUsers (old new : FrameTable) (dropped : ℕ → ℕ) : Type 0 where
-  pub counts : (f : ℕ) → count_of new f + dropped f ≡ count_of old f
-  pub pages : (f : ℕ) → 0 < count_of new f → page_of new f ≡ page_of old f
-  pub limit : new.max ≡ old.max
-  pub free : free_of old ≤ free_of new
-
--- at how many places of a child's table a frame stands
-abbrev pub child_times : ℕ → Option (List (List ℕ)) → ℕ
-child_times f None = 0
-child_times f (Some table) = times f table
+-- The inner rule of a space: the users of frames are the places of tables that have them.
+use Rattle.std.specs.Prelude.{◌≡◌, ℕ, ◌+◌, ◌<◌, ◌≤◌, ◌^◌, length, sum_by}
+use Rattle.hy_frames.specs.FrameTable.{count_of}
+use Rattle.hy_space.specs.Space.{SpaceState, times, child_table, child_times}
 
 -- each frame's count is the number of places that have it, and each table has it once at most
 pub record IsCounted (page_size : ℕ) (s : SpaceState) : Type 0 where

@@ -1,11 +1,10 @@
 //! Page tables: the frame of each page, by segment.
 
-ghost use Rattle.std.specs.Prelude.{◌≡◌, ℕ, ◌+◌, ◌<◌, List, [], ◌∷◌, ◌++◌, length, replicate, take, slice_index, slice_index_or, slice_set, IfOk, OnOk, OnErr, IsErrOf};
+ghost use Rattle.std.specs.Prelude.{◌≡◌, ℕ, ◌+◌, ◌<◌, List, [], ◌∷◌, ◌++◌, false, length, replicate, take, slice_index, slice_index_or, slice_set, IfOk, OnOk, OnErr, IsErrOf};
 ghost use Rattle.hy_frames.specs.FrameTable.{count_of, free_of, Sets};
 ghost use Rattle.hy_space.specs.Space.{with_frame, with_new_frame, with_first_frames};
 
 use hy_frames::{FrameNo, Frames, Shortage};
-use hy_page::Page;
 use std::alloc::{AllocError, Global};
 use std::marker::Model;
 
@@ -49,16 +48,15 @@ impl Segment {
         self.pages[page] = frame;
     }
 
-    /// Takes a frame for a page, and puts it behind all pages.
+    /// Takes a frame for a page of zeros, and puts it behind all pages.
     pub(crate) fn grow<const N: usize>(
         &mut self,
         frames: &mut Frames<N>,
-        page: Page<N>,
     ) -> Result<FrameNo, Shortage>
         ensures pushed { IfOk result (λ f. self.new ≡ self.old ++ f ∷ []) }
         ensures unused { IfOk result (λ f. count_of frames.old f ≡ 0) }
         ensures set { IfOk result
-            (λ f. Sets frames.old frames.new f (record { count = 1; bytes = page.entry })) }
+            (λ f. Sets frames.old frames.new f (record { count = 1; bytes = replicate N 0; lent = false })) }
         ensures free { OnOk result (free_of frames.new + 1 ≡ free_of frames.old) }
         ensures err { OnErr result (self.new ≡ self.old) }
         ensures err_frames { OnErr result (frames.new ≡ frames.old) }
@@ -68,16 +66,10 @@ impl Segment {
         if frames.free() == 0 {
             return Err(Shortage::NoFrame);
         }
-        if self.pages.reserve(1).is_err() {
-            return Err(Shortage::NoMemory);
-        }
-        match frames.take(page) {
-            Ok(frame) => {
-                self.pages.push_reserved(frame);
-                Ok(frame)
-            }
-            Err((_, shortage)) => Err(shortage),
-        }
+        self.pages.reserve(1)?;
+        let frame = frames.take_zero()?;
+        self.pages.push_reserved(frame);
+        Ok(frame)
     }
 
     /// Keeps the first pages only.
@@ -148,25 +140,24 @@ impl PageTable {
         self.segments[segment].replace(page, frame);
     }
 
-    /// Takes a frame for a page, and puts it behind all pages of a segment.
+    /// Takes a frame for a page of zeros, and puts it behind all pages of a segment.
     pub(crate) fn grow<const N: usize>(
         &mut self,
         segment: usize,
         frames: &mut Frames<N>,
-        page: Page<N>,
     ) -> Result<FrameNo, Shortage>
         requires { segment < length self.old }
         ensures pushed { IfOk result (λ f. self.new ≡ with_new_frame self.old segment f) }
         ensures unused { IfOk result (λ f. count_of frames.old f ≡ 0) }
         ensures set { IfOk result
-            (λ f. Sets frames.old frames.new f (record { count = 1; bytes = page.entry })) }
+            (λ f. Sets frames.old frames.new f (record { count = 1; bytes = replicate N 0; lent = false })) }
         ensures free { OnOk result (free_of frames.new + 1 ≡ free_of frames.old) }
         ensures err { OnErr result (self.new ≡ self.old) }
         ensures err_frames { OnErr result (frames.new ≡ frames.old) }
         ensures full { free_of frames.old ≡ 0 → IsErrOf result Shortage.NoFrame }
         ensures full_only_then { result ≡ Err Shortage.NoFrame → free_of frames.old ≡ 0 }
     {
-        self.segments[segment].grow(frames, page)
+        self.segments[segment].grow(frames)
     }
 
     /// Keeps the first pages of a segment only.

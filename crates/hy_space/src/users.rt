@@ -1,13 +1,12 @@
 //! Users of frames, many at once.
 
-ghost use Rattle.std.specs.Prelude.{◌≡◌, ℕ, ◌+◌, ◌<◌, ◌≤◌, ◌^◌, map, IfOk};
-ghost use Rattle.hy_frames.specs.FrameTable.{count_of, page_of};
+ghost use Rattle.std.specs.Prelude.{◌≡◌, ℕ, ◌+◌, ◌<◌, ◌≤◌, ◌^◌, [], length, slice_index, slice_index_or, map, Err, IfOk, OnErr, IsErrOf};
+ghost use Rattle.hy_frames.specs.FrameTable.{count_of, page_of, free_of};
 ghost use Rattle.hy_frames.specs.Slots.{occurrences};
-ghost use Rattle.hy_space.specs.Space.{times, table_bytes};
-ghost use Rattle.hy_space.specs.Users.{AddsUsers, DropsUsers};
+ghost use Rattle.hy_space.specs.Space.{times, table_bytes, with_frame, AddsUsers, DropsUsers, Lends, MovesUser};
 
 use super::tables::PageTable;
-use hy_frames::{FrameNo, Frames, Hold};
+use hy_frames::{FrameNo, Frames, Hold, Shortage};
 use std::alloc::{AllocError, Global};
 
 /// Adds a user to each of some frames.
@@ -55,13 +54,14 @@ pub(crate) fn drop_table<const N: usize>(frames: &mut Frames<N>, table: &PageTab
 /// Holds of the pages in some frames.
 fn holds_of_each<const N: usize>(
     alloc: Global,
-    frames: &Frames<N>,
+    frames: &mut Frames<N>,
     numbers: &[FrameNo],
 ) -> Result<Vec<Hold<N>>, AllocError>
-    requires { (f : ℕ) → 0 < occurrences f numbers.now → 0 < count_of frames.now f }
-    ensures { IfOk result (λ holds. holds.items ≡ map (page_of frames.now) numbers.now) }
+    requires { (f : ℕ) → 0 < occurrences f numbers.now → 0 < count_of frames.old f }
+    ensures holds { IfOk result (λ holds. holds.items ≡ map (page_of frames.old) numbers.now) }
+    ensures lends { Lends frames.old frames.new (λ f. occurrences f numbers.now) }
 {
-    let mut holds = Vec::new(alloc);
+    let mut holds = Vec::with_capacity(alloc, numbers.len())?;
     for number in numbers {
         holds.push(frames.hold(*number)?)?;
     }
@@ -71,16 +71,42 @@ fn holds_of_each<const N: usize>(
 /// Holds of the pages of a table, by segment.
 pub(crate) fn holds_of_table<const N: usize>(
     alloc: Global,
-    frames: &Frames<N>,
+    frames: &mut Frames<N>,
     table: &PageTable,
 ) -> Result<Vec<Vec<Hold<N>>>, AllocError>
-    requires { (f : ℕ) → 0 < times f table.now → 0 < count_of frames.now f }
-    ensures { IfOk result
-        (λ holds. map (λ segment. segment.items) holds.items ≡ table_bytes frames.now table.now) }
+    requires { (f : ℕ) → 0 < times f table.now → 0 < count_of frames.old f }
+    ensures holds { IfOk result
+        (λ holds. map (λ segment. segment.items) holds.items ≡ table_bytes frames.old table.now) }
+    ensures lends { Lends frames.old frames.new (λ f. times f table.now) }
 {
     let mut holds = Vec::new(alloc);
     for segment in table.segments() {
         holds.push(holds_of_each(alloc, frames, segment.frames())?)?;
     }
     Ok(holds)
+}
+
+/// Puts a copy of one page of a table into a fresh frame, where other tables have the page too. Answers the frame.
+pub(crate) fn own_page<const N: usize>(
+    frames: &mut Frames<N>,
+    table: &mut PageTable,
+    segment: usize,
+    page: usize,
+) -> Result<FrameNo, Shortage>
+    requires segment { segment < length table.old }
+    requires page { page < length (slice_index_or table.old segment []) }
+    requires shared { 1 < count_of frames.old (slice_index (slice_index_or table.old segment []) page) }
+    ensures table { IfOk result (λ f. table.new ≡ with_frame table.old segment page f) }
+    ensures users { IfOk result (λ f.
+        MovesUser frames.old frames.new (slice_index (slice_index_or table.old segment []) page) f) }
+    ensures full { free_of frames.old ≡ 0 → IsErrOf result Shortage.NoFrame }
+    ensures full_only_then { result ≡ Err Shortage.NoFrame → free_of frames.old ≡ 0 }
+    ensures err { OnErr result (table.new ≡ table.old) }
+    ensures err_frames { OnErr result (frames.new ≡ frames.old) }
+{
+    let shared = table.frame(segment, page);
+    let fresh = frames.take_copy(shared)?;
+    frames.drop_one(shared);
+    table.replace(segment, page, fresh);
+    Ok(fresh)
 }

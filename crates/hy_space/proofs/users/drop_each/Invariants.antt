@@ -1,6 +1,6 @@
 use Rattle.std.proofs.Common.{take}
 use Rattle.hy_frames.specs.Slots.{occurrences}
-use Rattle.hy_space.specs.Users.{DropsUsers}
+use Rattle.hy_space.specs.Space.{DropsUsers}
 use Rattle.hy_space.proofs.users.drop_each.Given as goal
 
 -- the frames so far have one user less each

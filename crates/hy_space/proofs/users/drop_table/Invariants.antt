@@ -1,6 +1,6 @@
 use Rattle.std.proofs.Common.{take}
 use Rattle.hy_space.specs.Space.{times}
-use Rattle.hy_space.specs.Users.{DropsUsers}
+use Rattle.hy_space.specs.Space.{DropsUsers}
 use Rattle.hy_space.proofs.users.drop_table.Given as goal
 
 -- the frames of the segments so far have one user less each

@@ -1,6 +1,6 @@
 use Rattle.std.proofs.Common.{take}
 use Rattle.hy_space.specs.Space.{times}
-use Rattle.hy_space.specs.Users.{AddsUsers}
+use Rattle.hy_space.specs.Space.{AddsUsers}
 use Rattle.hy_space.proofs.users.share_table.Given as goal
 
 -- the frames of the segments so far have one user more each
