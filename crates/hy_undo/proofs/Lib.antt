@@ -1,0 +1,11 @@
+pub mod PutBackLaws
+pub mod UndoneLaws
+pub mod PageLaws
+pub mod TouchedLaws
+pub mod PrivatePageLaws
+pub mod PieceLaws
+pub mod RollBackLaws
+pub mod SplitLaws
+pub mod CutLaws
+pub mod ChildBackLaws
+pub mod ForkLaws

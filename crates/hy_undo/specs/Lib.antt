@@ -1,0 +1,5 @@
+pub mod UndoLog
+pub mod Touched
+pub mod PrivatePages
+pub mod Pieces
+pub mod Fork
