@@ -1,18 +1,22 @@
 -- Steps one after another, until nothing runs.
-use Rattle.std.proofs.Common.{◌≡◌, ℕ, ◌-◌, ◌<◌, ◌⊎◌, inl, inr, [], ◌∷◌, ◌++◌, Option, Some, None, Result, Ok, Err, refl, sym, ap, ◌∙◌, subst, arith}
-use Rattle.std.specs.Prelude.{IsSome, MatchOption, IsOkAnd}
+use Rattle.std.proofs.Common.{◌≡◌, ℕ, ◌+◌, ◌*◌, ◌-◌, ◌<◌, ◌≤◌, ◌⊎◌, inl, inr, List, [], ◌∷◌, ◌++◌, Option, Some, None, Result, Ok, Err, refl, sym, ap, ◌∙◌, subst, arith}
+use Rattle.std.specs.Prelude.{IsSome, MatchOption, IsOkAnd, slice_index_or}
+use Rattle.std.specs.Option.{ForSome}
 use Rattle.hy_schema.specs.declared.command.Commit.TheVariants as commits
 use Rattle.hy_schema.specs.declared.command.Reply.{Reply}
 use Rattle.hy_schema.specs.declared.refusal.Refusal.{Refusal}
 use Rattle.hy_schema.specs.declared.refusal.Refusal.TheVariants as refusals
 use Rattle.hy_schema.specs.Replay.{replay}
-use Rattle.hy_schema.specs.Transactions.{act}
+use Rattle.hy_schema.specs.Transactions.{act, refusal_of}
 use Rattle.hy_space.specs.Space.{owner_bytes}
-use Rattle.hy_partition.specs.Jobs.{RunningJob}
+use Rattle.hy_frames.specs.FrameTable.{free_of}
+use Rattle.hy_schema.specs.declared.command.Command.{Command}
+use Rattle.hy_schema.specs.declared.command.Command.TheVariants as commands
+use Rattle.hy_partition.specs.Jobs.{RunningJob, slice_count, most_writes}
 use Rattle.hy_partition.specs.Partition.{PartitionState, rows_now}
 use Rattle.hy_partition.specs.Soundness.{IsSound}
 use Rattle.hy_partition.specs.Steps.{Accepts, Ends, KeepsRest, Refuses, StepsTo}
-use Rattle.hy_partition.specs.Undone.{undone}
+use Rattle.hy_undo.specs.UndoLog.{undone}
 use Rattle.hy_partition.specs.declared.job.Progress.{Progress}
 use Rattle.hy_partition.specs.declared.job.Progress.TheVariants as progress
 use Rattle.hy_partition.proofs.SoundLaws.{runs}
@@ -21,12 +25,13 @@ use Rattle.hy_partition.proofs.SoundLaws.{runs}
 pub record IsUnderWay (old now : PartitionState) (first job : RunningJob) : Type 0 where
   pub command : job.command ≡ first.command
   pub kept : now.kept ≡ old.kept
-  pub bytes : undone (owner_bytes now.space) now.earlier ≡ undone (owner_bytes old.space) old.earlier
+  pub bytes : undone (owner_bytes now.space) now.undo ≡ undone (owner_bytes old.space) old.undo
+  pub frames : free_of old.space.frames + most_writes * first.slices ≤ free_of now.space.frames + most_writes * job.slices
   pub rest : KeepsRest old now
 
 -- what some steps have reached of the job that ran at first
 abbrev pub Reached : PartitionState → PartitionState → Type 0
-Reached old now = MatchOption old.running (now ≡ old) (λ first. MatchOption now.running (Accepts first.command old now ⊎ Refuses old now) (IsUnderWay old now first))
+Reached old now = MatchOption old.running (now ≡ old) (λ first. MatchOption now.running (Accepts first.command old now ⊎ Refuses (slice_count first.command) old now) (IsUnderWay old now first))
 
 keeps_rest-then : (old now new : PartitionState) → KeepsRest old now → KeepsRest now new → KeepsRest old new
 keeps_rest-then old now new first second = record {
@@ -34,23 +39,25 @@ keeps_rest-then old now new first second = record {
   loaded = second.loaded ∙ first.loaded;
   max_kept = second.max_kept ∙ first.max_kept;
   snapshots = second.snapshots ∙ first.snapshots;
+  max_frames = second.max_frames ∙ first.max_frames;
   children = record { tables = second.children.tables ∙ first.children.tables; bytes = λ child. second.children.bytes child ∙ first.children.bytes child };
 }
 
 ends-then : (old now new : PartitionState) (reply : Reply) → KeepsRest old now → Ends now new reply → Ends old new reply
-ends-then old now new reply first ends = record { running = ends.running; earlier = ends.earlier; finished = ends.finished; rest = keeps_rest-then old now new first ends.rest }
+ends-then old now new reply first ends = record { running = ends.running; undo = ends.undo; finished = ends.finished; rest = keeps_rest-then old now new first ends.rest }
 
 pub reached-start : (p : PartitionState) → Reached p p
 reached-start p = at p.running refl
   where
-    at : (running : Option RunningJob) → p.running ≡ running → MatchOption running (p ≡ p) (λ first. MatchOption p.running (Accepts first.command p p ⊎ Refuses p p) (IsUnderWay p p first))
+    at : (running : Option RunningJob) → p.running ≡ running → MatchOption running (p ≡ p) (λ first. MatchOption p.running (Accepts first.command p p ⊎ Refuses (slice_count first.command) p p) (IsUnderWay p p first))
     at None is = refl
     at (Some first) is =
-        subst (λ (running : Option RunningJob). MatchOption running (Accepts first.command p p ⊎ Refuses p p) (IsUnderWay p p first)) (sym is) (record {
+        subst (λ (running : Option RunningJob). MatchOption running (Accepts first.command p p ⊎ Refuses (slice_count first.command) p p) (IsUnderWay p p first)) (sym is) (record {
           command = refl;
           kept = refl;
           bytes = refl;
-          rest = record { warehouse = refl; loaded = refl; max_kept = refl; snapshots = refl; children = record { tables = refl; bytes = λ child. refl } };
+          frames = omega arith;
+          rest = record { warehouse = refl; loaded = refl; max_kept = refl; snapshots = refl; max_frames = refl; children = record { tables = refl; bytes = λ child. refl } };
         })
 
 same_rows : (old now : PartitionState) → KeepsRest old now → now.kept ≡ old.kept → rows_now now ≡ rows_now old
@@ -58,6 +65,9 @@ same_rows old now rest kept = ap (λ w. replay w now.loaded now.kept) rest.wareh
 
 accepts-then : (old now new : PartitionState) (first job : RunningJob) → IsUnderWay old now first job → Accepts job.command now new → Accepts first.command old new
 accepts-then old now new first job way accepts = record {
+  accepted =
+      sym (ap (λ w. refusal_of w job.command (rows_now now)) way.rest.warehouse ∙ ap (λ command. refusal_of old.warehouse command (rows_now now)) way.command ∙ ap (refusal_of old.warehouse first.command) (same_rows old now way.rest way.kept))
+      ∙ accepts.accepted;
   kept = accepts.kept ∙ ap (λ kept. kept ++ commits.Local job.command ∷ []) way.kept ∙ ap (λ command. old.kept ++ commits.Local command ∷ []) way.command;
   ends =
       subst (λ (reply : Reply). Ends old new reply)
@@ -65,62 +75,73 @@ accepts-then old now new first job way accepts = record {
       (ends-then old now new _ way.rest accepts.ends);
 }
 
-refuses-then : (old now new : PartitionState) (first job : RunningJob) → IsUnderWay old now first job → Refuses now new → Refuses old new
-refuses-then old now new first job way refuses = record {
+-- each command has two slices at least
+two_slices : (command : Command) → 2 ≤ slice_count command
+two_slices (commands.Payment payment) = omega arith
+
+refuses-then : (old now new : PartitionState) (first job : RunningJob) → job.slices ≤ 1 → IsUnderWay old now first job → Refuses 1 now new → Refuses (slice_count first.command) old new
+refuses-then old now new first job few way refuses = record {
   kept = refuses.kept ∙ way.kept;
   bytes = refuses.bytes ∙ way.bytes;
   reason = elim refuses.reason [
     | inl memory ↦ inl (ends-then old now new _ way.rest memory)
-    | inr frame ↦ inr (ends-then old now new _ way.rest frame.0, frame.1)
+    | inr frame ↦ inr (
+      ends-then old now new _ way.rest frame.0,
+      record {
+        few = omega (arith, way.frames, frame.1.few, two_slices first.command);
+        open_snapshot = (frame.1.open_snapshot.0, subst (λ (all : List (Option ℕ)). IsSome (slice_index_or all frame.1.open_snapshot.0 None)) way.rest.snapshots frame.1.open_snapshot.1);
+      },
+    )
   ];
 }
 
 -- one step more
-module _ (old now new : PartitionState) (first job : RunningJob) (way : IsUnderWay old now first job) where
-  ended : new.running ≡ None → Accepts first.command old new ⊎ Refuses old new → MatchOption new.running (Accepts first.command old new ⊎ Refuses old new) (IsUnderWay old new first)
-  ended none how = subst (λ (running : Option RunningJob). MatchOption running (Accepts first.command old new ⊎ Refuses old new) (IsUnderWay old new first)) (sym none) how
+module _ (old now new : PartitionState) (first job : RunningJob) (few : job.slices ≤ 1) (way : IsUnderWay old now first job) where
+  ended : new.running ≡ None → Accepts first.command old new ⊎ Refuses (slice_count first.command) old new → MatchOption new.running (Accepts first.command old new ⊎ Refuses (slice_count first.command) old new) (IsUnderWay old new first)
+  ended none how = subst (λ (running : Option RunningJob). MatchOption running (Accepts first.command old new ⊎ Refuses (slice_count first.command) old new) (IsUnderWay old new first)) (sym none) how
 
-  refused_running : Refuses now new → new.running ≡ None
+  refused_running : Refuses 1 now new → new.running ≡ None
   refused_running refuses = elim refuses.reason [ inl memory ↦ memory.running | inr frame ↦ frame.0.running ]
 
-  stepped : (reached : Progress) → StepsTo job now new reached → MatchOption new.running (Accepts first.command old new ⊎ Refuses old new) (IsUnderWay old new first)
+  stepped : (reached : Progress) → StepsTo job now new reached → MatchOption new.running (Accepts first.command old new ⊎ Refuses (slice_count first.command) old new) (IsUnderWay old new first)
   stepped progress.More steps =
       let more = steps.1 in
-      subst (λ (running : Option RunningJob). MatchOption running (Accepts first.command old new ⊎ Refuses old new) (IsUnderWay old new first)) (sym more.running) (record {
+      subst (λ (running : Option RunningJob). MatchOption running (Accepts first.command old new ⊎ Refuses (slice_count first.command) old new) (IsUnderWay old new first)) (sym more.running) (record {
         command = way.command;
         kept = more.kept ∙ way.kept;
         bytes = more.bytes ∙ way.bytes;
+        frames = omega (arith, way.frames, more.frames.frames);
         rest = keeps_rest-then old now new way.rest more.rest;
       })
   stepped progress.Finished steps = elim steps [
     | inl last ↦ ended last.1.ends.running (inl (accepts-then old now new first job way last.1))
-    | inr refuses ↦ ended (refused_running refuses) (inr (refuses-then old now new first job way refuses))
+    | inr refuses ↦ ended (refused_running refuses) (inr (refuses-then old now new first job few way refuses))
   ]
 
-pub reached-step : (old now new : PartitionState) (outcome : Result Progress Refusal) → IsSome now.running → Reached old now
+pub reached-step : (old now new : PartitionState) (outcome : Result Progress Refusal) → IsSome now.running → ForSome now.running (λ job. job.slices ≤ 1) → Reached old now
     → MatchOption now.running ((outcome ≡ Err refusals.NotRunning) × (new ≡ now)) (λ job. IsOkAnd outcome (StepsTo job now new)) → Reached old new
-reached-step old now new outcome running reached step = at old.running now.running refl refl reached step
+reached-step old now new outcome running few reached step = at old.running now.running refl refl reached step
   where
     at : (before current : Option RunningJob) → old.running ≡ before → now.running ≡ current
-        → MatchOption before (now ≡ old) (λ first. MatchOption current (Accepts first.command old now ⊎ Refuses old now) (IsUnderWay old now first))
+        → MatchOption before (now ≡ old) (λ first. MatchOption current (Accepts first.command old now ⊎ Refuses (slice_count first.command) old now) (IsUnderWay old now first))
         → MatchOption current ((outcome ≡ Err refusals.NotRunning) × (new ≡ now)) (λ job. IsOkAnd outcome (StepsTo job now new))
-        → MatchOption before (new ≡ old) (λ first. MatchOption new.running (Accepts first.command old new ⊎ Refuses old new) (IsUnderWay old new first))
+        → MatchOption before (new ≡ old) (λ first. MatchOption new.running (Accepts first.command old new ⊎ Refuses (slice_count first.command) old new) (IsUnderWay old new first))
     at None current before_is current_is same step = let none : now.running ≡ None = ap (λ p. p.running) same ∙ before_is in absurd (cc)
     at (Some first) None before_is current_is way step = absurd (cc)
     at (Some first) (Some job) before_is current_is way step = by outcome step
       where
-        by : (outcome : Result Progress Refusal) → IsOkAnd outcome (StepsTo job now new) → MatchOption new.running (Accepts first.command old new ⊎ Refuses old new) (IsUnderWay old new first)
-        by (Ok reached) steps = stepped old now new first job way reached steps
+        by : (outcome : Result Progress Refusal) → IsOkAnd outcome (StepsTo job now new) → MatchOption new.running (Accepts first.command old new ⊎ Refuses (slice_count first.command) old new) (IsUnderWay old new first)
+        by (Ok reached) steps = stepped old now new first job (few job current_is) way reached steps
         by (Err refusal) steps = absurd steps
 
 -- the steps have ended
-pub reached-end : (old now : PartitionState) → now.running ≡ None → Reached old now → MatchOption old.running (now ≡ old) (λ first. Accepts first.command old now ⊎ Refuses old now)
+pub reached-end : (old now : PartitionState) → now.running ≡ None → Reached old now → MatchOption old.running (now ≡ old) (λ first. Accepts first.command old now ⊎ Refuses (slice_count first.command) old now)
 reached-end old now none reached = at old.running reached
   where
-    at : (before : Option RunningJob) → MatchOption before (now ≡ old) (λ first. MatchOption now.running (Accepts first.command old now ⊎ Refuses old now) (IsUnderWay old now first))
-        → MatchOption before (now ≡ old) (λ first. Accepts first.command old now ⊎ Refuses old now)
+    at : (before : Option RunningJob) → MatchOption before (now ≡ old) (λ first. MatchOption now.running (Accepts first.command old now ⊎ Refuses (slice_count first.command) old now) (IsUnderWay old now first))
+        → MatchOption before (now ≡ old) (λ first. Accepts first.command old now ⊎ Refuses (slice_count first.command) old now)
     at None same = same
-    at (Some first) reached = subst (λ (running : Option RunningJob). MatchOption running (Accepts first.command old now ⊎ Refuses old now) (IsUnderWay old now first)) none reached
+    at (Some first) reached = subst (λ (running : Option RunningJob). MatchOption running (Accepts first.command old now ⊎ Refuses (slice_count first.command) old now) (IsUnderWay old now first)) none reached
 
 -- how many steps are left at most
 abbrev pub steps_left : Option RunningJob → ℕ

@@ -38,12 +38,12 @@ out_of_frames size s segment page sound there lacks = elim (open_or_none s.child
 ]
 
 -- two writes take no frame where no child is open
-pub free-written : {T : Type 0} (size : ℕ) (old mid new : SpaceState) (segment page segment' page' : ℕ) (r : Result T Shortage) → IsSound size old → old.children ≡ [] → HasPage old segment page → HasPage old segment' page' → MakesOwn old mid segment page
+pub free-written : {T : Type 0} (size : ℕ) (old mid new : SpaceState) (segment page segment' page' : ℕ) (r : Result T Shortage) → IsSound size old → old.children ≡ [] → HasPage old segment page → HasPage old segment' page' → HasPage mid segment' page' → MakesOwn old mid segment page
     → OnOk r (MakesOwn mid new segment' page') → OnErr r (new ≡ mid) → free_of new.frames ≡ free_of old.frames
-free-written size old mid new segment page segment' page' r sound none there there' first second unchanged =
+free-written size old mid new segment page segment' page' r sound none there there' there_mid first second unchanged =
     let no_table : flat_map option_to_list old.children ≡ [] = ap (flat_map option_to_list) none in
     let own = own_alone size old segment page sound no_table there in
-    let own' = first.others segment' page' there' (own_alone size old segment' page' sound no_table there') in
+    let own' = first.kept.own segment' page' there' there_mid (own_alone size old segment' page' sound no_table there') in
     by_outcome r second unchanged
     (λ (done : MakesOwn mid new segment' page'). done.free own' ∙ first.free own)
     (λ same. ap (λ s. free_of s.frames) same ∙ first.free own)

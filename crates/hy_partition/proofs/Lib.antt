@@ -1,10 +1,9 @@
 pub mod SnapshotLaws
-pub mod PageChanges
 pub mod GrowthLaws
 pub mod PlaceLaws
+pub mod PageChanges
 pub mod StepLaws
 pub mod FindLaws
-pub mod KeptLaws
 pub mod UndoLaws
 pub mod TablesLaws
 pub mod EmptyLaws
@@ -13,3 +12,4 @@ pub mod LoadLaws
 pub mod StepsToLaws
 pub mod FinishLaws
 pub mod FrameLaws
+pub mod ForkLaws

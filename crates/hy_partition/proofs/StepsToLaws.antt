@@ -1,5 +1,5 @@
 -- What the slices of a job need, and what each leaves.
-use Rattle.std.proofs.Common.{◌≡◌, ℕ, zero, suc, ◌+◌, ◌*◌, ◌-◌, ◌≤◌, ◌⊎◌, inl, inr, true, false, List, [], length, Option, Some, None, Result, Ok, Err, refl, sym, ap, ◌∙◌, subst, arith}
+use Rattle.std.proofs.Common.{◌≡◌, ℕ, zero, suc, ◌+◌, ◌*◌, ◌-◌, ◌≤◌, ◌⊎◌, inl, inr, true, false, List, length, Option, Some, None, Result, Ok, Err, refl, sym, ap, ◌∙◌, subst, arith}
 use Rattle.std.specs.Prelude.{IsNone, IsSome, IsSomeAnd, MatchOption, IsOkAnd, slice_index_or, take}
 use Rattle.std.specs.Option.{option_map}
 use Rattle.std.specs.List.{AllByRecursion}
@@ -20,16 +20,17 @@ use Rattle.hy_schema.specs.Transactions.{refusal_of}
 use Rattle.hy_space.specs.Space.{SpaceState, SameForChildren, child_bytes, child_table, owner_bytes, table_bytes}
 use Rattle.hy_partition.specs.Changes.{CanUndo, DoesSlice}
 use Rattle.hy_partition.specs.Growth.{IsGrown, IsGrownCustomer}
-use Rattle.hy_partition.specs.Jobs.{RunningJob, is_last}
+use Rattle.hy_partition.specs.Jobs.{RunningJob, is_last, most_writes}
 use Rattle.hy_partition.specs.Partition.{PartitionState, commits_of, rows_after, rows_now}
 use Rattle.hy_partition.specs.Soundness.{IsSound, Runs, after_slices}
 use Rattle.hy_partition.specs.Steps.{KeepsRest, LacksFrames, StepsTo}
-use Rattle.hy_partition.specs.Undone.{Earlier, undone}
+use Rattle.hy_undo.specs.UndoLog.{UndoLog, undone, empty_log}
 use Rattle.hy_partition.specs.declared.job.Progress.{Progress}
 use Rattle.hy_partition.specs.declared.job.Progress.TheVariants as progress
 use Rattle.hy_partition.proofs.GrowthLaws.{IsGrown-more, IsGrown-replay, in_range_of_accepted}
 use Rattle.hy_partition.proofs.SoundLaws.{runs}
 use Rattle.hy_partition.proofs.StepLaws.{after_slices-none}
+use Rattle.hy_partition.proofs.LoadLaws.{IsGrown-loaded}
 
 -- a step of the job that runs
 pub step-running : (now p q : PartitionState) (job : RunningJob) (reached : Progress) (outcome : Result Progress Refusal) → outcome ≡ Ok reached → p ≡ now → p.running ≡ Some job → StepsTo job p q reached
@@ -57,14 +58,14 @@ snapshot_of_child n places p sound child some = at (commits_of p child) (sound.s
     at None none = absurd (some_bytes p.space.frames (child_table p.space child) some none)
     at (Some commits) spells = refl
 
--- where a slice found no frame, none is free behind it, and a snapshot is open
-pub lacks_frames : (n places : ℕ) (p new : PartitionState) (mid : SpaceState) → IsSound n places p → SameForChildren p.space mid → IsOutOfFrames mid → free_of new.space.frames ≡ free_of mid.frames → new.snapshots ≡ p.snapshots → LacksFrames new
-lacks_frames n places p new mid sound children out free snapshots =
+-- where a slice found no frame, few were free before it, and a snapshot is open
+pub lacks_frames : (n places : ℕ) (p : PartitionState) (mid : SpaceState) → IsSound n places p → SameForChildren p.space mid → IsOutOfFrames mid → free_of p.space.frames ≤ free_of mid.frames + most_writes → LacksFrames 1 p
+lacks_frames n places p mid sound children out taken =
     let child : ℕ = out.open_child.0 in
     let some : IsSome (child_table p.space child) = subst (λ (all : List (Option (List (List ℕ)))). IsSome (slice_index_or all child None)) children.tables out.open_child.1 in
     record {
-      full = free ∙ out.full;
-      open_snapshot = (child, subst (λ (all : List (Option ℕ)). IsSome (slice_index_or all child None)) (sym snapshots) (snapshot_of_child n places p sound child some));
+      few = omega (arith, out.full, taken);
+      open_snapshot = (child, snapshot_of_child n places p sound child some);
     }
 
 customers-after_slices : (command : Command) (slices : ℕ) (tables : Tables) → (after_slices command slices tables).customers ≡ tables.customers
@@ -82,7 +83,7 @@ module _ (n places : ℕ) (p : PartitionState) (sound : IsSound n places p) (job
   grown_now =
       let steps = 500_000 * length p.kept in
       subst (λ (growth : ℕ). IsGrown growth (rows_now p)) (omega (arith, sound.within, sound.limit))
-      (IsGrown-more steps (50_000_000_000_000 - steps) (rows_now p) (IsGrown-replay p.warehouse p.loaded p.kept sound.grown))
+      (IsGrown-more steps (50_000_000_000_000 - steps) (rows_now p) (IsGrown-replay p.warehouse p.loaded p.kept (subst (λ (tables : Tables). IsGrown 0 tables) (sym sound.loaded.3) (IsGrown-loaded p.warehouse sound.loaded.0 sound.loaded.1))))
 
   pub tables-running : HasTables n (owner_bytes p.space)
   tables-running = was.pages.whole
@@ -105,38 +106,40 @@ is_last-none : (command : Command) (slices : ℕ) (before after : Tables) → Do
 is_last-none (commands.Payment payment) zero before after slice = refl
 is_last-none (commands.Payment payment) (suc slices) before after slice = absurd slice
 
-pub steps-more : (n : ℕ) (p : PartitionState) (job : RunningJob) (space : SpaceState) (earlier : List Earlier) (next : RunningJob) → next ≡ record job { slices = job.slices + 1 }
-    → DoesSlice job.command job.slices (tables_of n (owner_bytes p.space)) (tables_of n (owner_bytes space)) None → CanUndo n p.space space p.earlier earlier
-    → StepsTo job p (record p { running = Some next; earlier = earlier; space = space }) progress.More
-steps-more n p job space earlier next next_is slice can_undo = (
+pub steps-more : (n : ℕ) (p : PartitionState) (job : RunningJob) (space : SpaceState) (undo : UndoLog) (next : RunningJob) → next ≡ record job { slices = job.slices + 1 }
+    → DoesSlice job.command job.slices (tables_of n (owner_bytes p.space)) (tables_of n (owner_bytes space)) None → CanUndo n most_writes p.space space p.undo undo
+    → StepsTo job p (record p { running = Some next; undo = undo; space = space }) progress.More
+steps-more n p job space undo next next_is slice can_undo = (
   is_last-none job.command job.slices _ _ slice,
   record {
     running = ap Some next_is;
     finished = refl;
     kept = refl;
     bytes = can_undo.undone;
-    rest = record { warehouse = refl; loaded = refl; max_kept = refl; snapshots = refl; children = can_undo.children };
+    frames = can_undo.frames;
+    rest = record { warehouse = refl; loaded = refl; max_kept = refl; snapshots = refl; children = can_undo.children; max_frames = can_undo.frames.limit };
   },
 )
 
 -- a slice that is refused ends the job, and the pages are put back
-pub steps-refused : (n : ℕ) (p : PartitionState) (job : RunningJob) (mid space : SpaceState) (before earlier : List Earlier) (reply : Reply)
-    → CanUndo n p.space mid p.earlier before → earlier ≡ [] → owner_bytes space ≡ undone (owner_bytes mid) before → SameForChildren mid space
-    → (reply ≡ replies.Refused refusals.NoMemory) ⊎ ((reply ≡ replies.Refused refusals.NoFrame) × LacksFrames (record p { running = None; earlier = earlier; finished = Some reply; space = space }))
-    → StepsTo job p (record p { running = None; earlier = earlier; finished = Some reply; space = space }) progress.Finished
-steps-refused n p job mid space before earlier reply can_undo none bytes children why =
-    let rest : KeepsRest p (record p { running = None; earlier = earlier; finished = Some reply; space = space }) = record {
+pub steps-refused : (n : ℕ) (p : PartitionState) (job : RunningJob) (mid space : SpaceState) (before undo : UndoLog) (reply : Reply)
+    → CanUndo n most_writes p.space mid p.undo before → undo ≡ empty_log space → owner_bytes space ≡ undone (owner_bytes mid) before → SameForChildren mid space → space.frames.max ≡ mid.frames.max
+    → (reply ≡ replies.Refused refusals.NoMemory) ⊎ ((reply ≡ replies.Refused refusals.NoFrame) × LacksFrames 1 p)
+    → StepsTo job p (record p { running = None; undo = undo; finished = Some reply; space = space }) progress.Finished
+steps-refused n p job mid space before undo reply can_undo none bytes children limit why =
+    let rest : KeepsRest p (record p { running = None; undo = undo; finished = Some reply; space = space }) = record {
       warehouse = refl;
       loaded = refl;
       max_kept = refl;
       snapshots = refl;
+      max_frames = limit ∙ can_undo.frames.limit;
       children = record { tables = children.tables ∙ can_undo.children.tables; bytes = λ child. children.bytes child ∙ can_undo.children.bytes child };
     } in
     inr (record {
       kept = refl;
       bytes = bytes ∙ can_undo.undone;
       reason = elim why [
-        | inl memory ↦ inl (record { running = refl; earlier = none; finished = ap Some memory; rest = rest })
-        | inr frame ↦ inr (record { running = refl; earlier = none; finished = ap Some frame.0; rest = rest }, frame.1)
+        | inl memory ↦ inl (record { running = refl; undo = none; finished = ap Some memory; rest = rest })
+        | inr frame ↦ inr (record { running = refl; undo = none; finished = ap Some frame.0; rest = rest }, frame.1)
       ];
     })

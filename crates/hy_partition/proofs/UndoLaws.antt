@@ -1,50 +1,109 @@
--- What a write into a kept page leaves to undo.
-use Rattle.std.proofs.Common.{◌≡◌, ℕ, ◌<◌, true, List, Result, Ok, Err, length, map, sym, ap, ◌∙◌, subst, arith, OnOk, OnErr}
-use Rattle.std.proofs.lemmas.List.{length-map}
-use Rattle.hy_frames.specs.FrameTable.{page_of}
-use Rattle.hy_space.specs.Space.{SpaceState, HasPage, IsOwn, SameForChildren, child_bytes, owner_bytes}
-use Rattle.hy_partition.specs.Undone.{Earlier, undone, has_earlier}
-use Rattle.hy_partition.specs.Rows.{WritesPage}
-use Rattle.hy_partition.specs.Soundness.{IsUndoLog}
-use Rattle.hy_partition.specs.Changes.{CanUndo}
-use Rattle.hy_partition.proofs.PageChanges.{undone-written}
-use Rattle.hy_partition.proofs.KeptLaws.{SameShape, SameShape-with_page, undo_log-still}
+-- What writes leave to undo, and how many frames they take.
+use Rattle.std.proofs.Common.{◌≡◌, ℕ, zero, suc, ◌+◌, ◌≤◌, false, inl, inr, List, [], ◌∷◌, Result, Ok, Err, length, map, refl, ap, ◌∙◌, arith, OnOk, OnErr, length-set}
+use Rattle.std.proofs.lemmas.List.{length_push}
+use Rattle.std.proofs.lemmas.Bool.{cases_eq}
+use Rattle.hy_frames.specs.FrameTable.{Frame, count_of, lent_at, free_of}
+use Rattle.hy_space.specs.Space.{SpaceState, IsOwn, KeepsOwn, MakesOwn, SameForChildren, child_bytes, frame_no, owner_bytes, with_frame}
+use Rattle.hy_undo.specs.UndoLog.{Image, UndoLog, undone, with_image, page_counts}
+use Rattle.hy_undo.specs.PrivatePages.{IsUndoLog}
+use Rattle.hy_partition.specs.Changes.{CanUndo, TakesFrames}
 
 -- what holds whether a call answered Ok or Err
 pub by_outcome : {T E P Q X : Type 0} (r : Result T E) → OnOk r P → OnErr r Q → (P → X) → (Q → X) → X
 by_outcome (Ok x) p q ok err = ok p
 by_outcome (Err e) p q ok err = err q
 
+-- what holds because a call failed
+pub on_failure : {T E P : Type 0} (r : Result T E) (e : E) → r ≡ Err e → OnErr r P → P
+on_failure (Ok x) e is p = absurd (cc)
+on_failure (Err e') e is p = p
+
 pub both_on_ok : {T E : Type 0} (P Q : Type 0) (r : Result T E) → OnOk r P → OnOk r Q → OnOk r (P × Q)
 both_on_ok P Q (Ok x) p q = (p, q)
 both_on_ok P Q (Err e) p q = tt
 
+-- another frame at one place changes no number of pages
+pages-with_frame : (table : List (List ℕ)) (segment page frame : ℕ) → map length (with_frame table segment page frame) ≡ map length table
+pages-with_frame [] segment page frame = refl
+pages-with_frame (row ∷ table) zero page frame = ap (λ n. n ∷ map length table) (length-set row page frame)
+pages-with_frame (row ∷ table) (suc segment) page frame = ap (λ rest. length row ∷ rest) (pages-with_frame table segment page frame)
+
+-- a page that is made the owner's own takes one frame at most
+pub takes-made_own : (old new : SpaceState) (segment page : ℕ) → MakesOwn old new segment page → TakesFrames 1 old new
+takes-made_own old new segment page made = elim (cases_eq (count_of old.frames (frame_no old segment page)) 1) [
+  | inl own ↦ record { pages = ap (map length) (made.table own); frames = omega (arith, made.free own); limit = made.limit }
+  | inr shared ↦
+      let fresh = made.fresh shared in
+      record {
+        pages = ap (map length) fresh.table ∙ pages-with_frame old.owner segment page (frame_no new segment page);
+        frames = omega (arith, fresh.free);
+        limit = made.limit;
+      }
+]
+
 -- one change after another
-pub can_undo-then : (n : ℕ) (old mid new : SpaceState) (before between after : List Earlier) → CanUndo n old mid before between → CanUndo n mid new between after → CanUndo n old new before after
-can_undo-then n old mid new before between after first second = record {
+pub can_undo-then : (n most more all : ℕ) (old mid new : SpaceState) (before between after : UndoLog) → most + more ≤ all → CanUndo n most old mid before between → CanUndo n more mid new between after → CanUndo n all old new before after
+can_undo-then n most more all old mid new before between after within first second = record {
   children = record {
     tables = second.children.tables ∙ first.children.tables;
     bytes = λ child. second.children.bytes child ∙ first.children.bytes child;
   };
   undone = second.undone ∙ first.undone;
   undo_log = second.undo_log;
+  counts = second.counts ∙ first.counts;
+  images = omega (arith, first.images, second.images);
+  frames = record {
+    pages = second.frames.pages ∙ first.frames.pages;
+    frames = omega (arith, first.frames.frames, second.frames.frames);
+    limit = second.frames.limit ∙ first.frames.limit;
+  };
+}
+
+-- more writes are allowed than were done
+pub can_undo-more : (n most more : ℕ) (old new : SpaceState) (before after : UndoLog) → most ≤ more → CanUndo n most old new before after → CanUndo n more old new before after
+can_undo-more n most more old new before after within done = record {
+  children = done.children;
+  undone = done.undone;
+  undo_log = done.undo_log;
+  counts = done.counts;
+  images = omega (arith, done.images);
+  frames = record { pages = done.frames.pages; frames = omega (arith, done.frames.frames); limit = done.frames.limit };
 }
 
 -- no change
-pub can_undo-none : (n : ℕ) (old new : SpaceState) (earlier : List Earlier) → new ≡ old → IsUndoLog n old earlier → CanUndo n old new earlier earlier
-can_undo-none n old new earlier same log = record {
+pub can_undo-none : (n most : ℕ) (old new : SpaceState) (before after : UndoLog) → new ≡ old → after ≡ before → IsUndoLog n new after → CanUndo n most old new before after
+can_undo-none n most old new before after same same_log log = record {
   children = record { tables = ap (λ s. s.children) same; bytes = λ child. ap (λ s. child_bytes s child) same };
-  undone = ap (λ s. undone (owner_bytes s) earlier) same;
-  undo_log = subst (λ (s : SpaceState). IsUndoLog n s earlier) (sym same) log;
+  undone = ap (λ s. undone (owner_bytes s) after) same ∙ ap (undone (owner_bytes old)) same_log;
+  undo_log = log;
+  counts = ap (λ (l : UndoLog). l.counts) same_log;
+  images = omega (arith, ap (λ (l : UndoLog). length l.images) same_log);
+  frames = record { pages = ap page_counts same; frames = omega (arith, ap (λ (s : SpaceState). free_of s.frames) same); limit = ap (λ (s : SpaceState). s.frames.max) same };
 }
 
--- a write into a page that was kept
-pub can_undo-written : (n : ℕ) (old new : SpaceState) (earlier : List Earlier) (segment page : ℕ) → HasPage old segment page → has_earlier segment page earlier ≡ true → WritesPage (owner_bytes old) (owner_bytes new) segment page → SameForChildren old new
-    → ((s p : ℕ) → HasPage old s p → IsOwn old s p → IsOwn new s p) → IsUndoLog n old earlier → CanUndo n old new earlier earlier
-can_undo-written n old new earlier segment page has is_kept written children own log =
-    let there : segment < length (owner_bytes old) = omega (arith, has.0, length-map old.owner (map (page_of old.frames))) in
-    record {
-      children = children;
-      undone = ap (λ bytes. undone bytes earlier) written.1 ∙ undone-written (owner_bytes old) segment page there written.0 earlier is_kept;
-      undo_log = undo_log-still n old new earlier (subst (λ (bytes : List (List (List ℕ))). SameShape (owner_bytes old) bytes) (sym written.1) (SameShape-with_page (owner_bytes old) segment page written.0 there)) own log;
-    }
+-- one write
+pub can_undo-written : (n : ℕ) (old new : SpaceState) (before after : UndoLog) (image : Image) (segment page : ℕ) → SameForChildren old new → MakesOwn old new segment page → after ≡ with_image before image → undone (owner_bytes new) after ≡ undone (owner_bytes old) before → IsUndoLog n new after → CanUndo n 1 old new before after
+can_undo-written n old new before after image segment page children made is_log same log = record {
+  children = children;
+  undone = same;
+  undo_log = log;
+  counts = ap (λ (l : UndoLog). l.counts) is_log;
+  images = omega (arith, ap (λ (l : UndoLog). length l.images) is_log, length_push before.images image);
+  frames = takes-made_own old new segment page made;
+}
+
+-- where the owner's table and the frames stay, each page that was the owner's own is so still
+pub KeepsOwn-same_frames : (old new : SpaceState) → new.owner ≡ old.owner → new.frames.frames ≡ old.frames.frames → KeepsOwn old new
+KeepsOwn-same_frames old new table frames = record {
+  own = λ segment page there here own. same_own segment page own;
+  private = λ segment page there here private. record { own = same_own segment page private.own; not_lent = same_lent segment page private.not_lent };
+}
+  where
+    same_frame : (segment page : ℕ) → frame_no new segment page ≡ frame_no old segment page
+    same_frame segment page = ap (λ (owner : List (List ℕ)). frame_no (record new { owner = owner }) segment page) table
+
+    same_own : (segment page : ℕ) → IsOwn old segment page → IsOwn new segment page
+    same_own segment page own = ap (count_of new.frames) (same_frame segment page) ∙ ap (λ (all : List Frame). count_of (record old.frames { frames = all }) (frame_no old segment page)) frames ∙ own
+
+    same_lent : (segment page : ℕ) → lent_at old.frames (frame_no old segment page) ≡ false → lent_at new.frames (frame_no new segment page) ≡ false
+    same_lent segment page not_lent = ap (lent_at new.frames) (same_frame segment page) ∙ ap (λ (all : List Frame). lent_at (record old.frames { frames = all }) (frame_no old segment page)) frames ∙ not_lent

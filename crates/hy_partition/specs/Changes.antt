@@ -1,5 +1,5 @@
 -- What a slice does to the pages.
-use Rattle.std.specs.Prelude.{◌≡◌, ℕ, zero, suc, List, Option, None, Some}
+use Rattle.std.specs.Prelude.{◌≡◌, ℕ, ◌+◌, ◌≤◌, zero, suc, length, Option, None, Some}
 use Rattle.hy_schema.specs.declared.command.Payment.{Payment}
 use Rattle.hy_schema.specs.declared.command.Command.{Command}
 use Rattle.hy_schema.specs.declared.command.Command.TheVariants as commands
@@ -7,15 +7,27 @@ use Rattle.hy_schema.specs.declared.command.Reply.{Reply}
 use Rattle.hy_schema.specs.Finding.{with_changed}
 use Rattle.hy_schema.specs.Tables.{Tables}
 use Rattle.hy_schema.specs.Transactions.{customer_paid, is_payer, payer, payment_reply}
+use Rattle.hy_frames.specs.FrameTable.{free_of}
 use Rattle.hy_space.specs.Space.{SpaceState, SameForChildren, owner_bytes}
-use Rattle.hy_partition.specs.Undone.{Earlier, undone}
-use Rattle.hy_partition.specs.Soundness.{IsUndoLog, half_paid}
+use Rattle.hy_undo.specs.UndoLog.{UndoLog, undone, page_counts}
+use Rattle.hy_undo.specs.PrivatePages.{IsUndoLog}
+use Rattle.hy_partition.specs.Soundness.{half_paid}
 
--- no child sees a change, undoing gives what it gave, and the earlier pages are an undo log still
-pub record CanUndo (n : ℕ) (old new : SpaceState) (before after : List Earlier) : Type 0 where
+-- no page comes or goes, at most so many frames are taken, and the limit of frames stays
+pub record TakesFrames (most : ℕ) (old new : SpaceState) : Type 0 where
+  pub pages : page_counts new ≡ page_counts old
+  pub frames : free_of old.frames ≤ free_of new.frames + most
+  pub limit : new.frames.max ≡ old.frames.max
+
+-- at most so many writes: no child sees a change, undoing gives what it gave, the undo log is one still and has as many
+-- images more at most, and as many frames are taken at most
+pub record CanUndo (n most : ℕ) (old new : SpaceState) (before after : UndoLog) : Type 0 where
   pub children : SameForChildren old new
   pub undone : undone (owner_bytes new) after ≡ undone (owner_bytes old) before
   pub undo_log : IsUndoLog n new after
+  pub counts : after.counts ≡ before.counts
+  pub images : length after.images ≤ length before.images + most
+  pub frames : TakesFrames most old new
 
 -- the rows after the second slice of a payment, which is for the customer
 abbrev pub customer_changed : Payment → Tables → Tables

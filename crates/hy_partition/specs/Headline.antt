@@ -1,10 +1,12 @@
 -- The theorem that the database stands on. Whenever nobody holds a partition: each frame's count is the number of page
 -- tables that map it; every open snapshot spells the warehouse's rows after a whole number of its kept commits, replayed
--- one by one; and the live pages with the running transaction undone spell the replay of all kept commits.
-use Rattle.std.specs.Prelude.{ℕ, ◌≤◌, length, take, MatchOption, IsNone, IsSomeAnd}
+-- one by one; the live pages with the running transaction undone spell the replay of all kept commits, and nothing is to
+-- be undone where nothing runs; and that replay meets the consistency conditions (TPC-C clause 3.3.2).
+use Rattle.std.specs.Prelude.{◌≡◌, ℕ, ◌≤◌, length, take, MatchOption, None, IsNone, IsSomeAnd}
 use Rattle.hy_schema.specs.Spelling.{Spells}
+use Rattle.hy_schema.specs.Conditions.{MeetsConditions}
 use Rattle.hy_space.specs.Space.{CountsAreExact, NoFrameTwice, owner_bytes, child_bytes}
-use Rattle.hy_partition.specs.Undone.{undone}
+use Rattle.hy_undo.specs.UndoLog.{undone, empty_log}
 use Rattle.hy_partition.specs.Partition.{PartitionState, rows_after, rows_now, commits_of}
 
 -- each frame's count is the number of page tables that map it, and no table maps a frame twice
@@ -22,4 +24,6 @@ SpellsBeginning n p child =
 pub record Headline (n : ℕ) (p : PartitionState) : Type 0 where
   pub frame_counts_are_exact : FrameCountsAreExact p
   pub open_snapshots_spell_a_beginning : (child : ℕ) → SpellsBeginning n p child
-  pub live_pages_undone_spell_all : Spells n (undone (owner_bytes p.space) p.earlier) (rows_now p)
+  pub live_pages_undone_spell_all : Spells n (undone (owner_bytes p.space) p.undo) (rows_now p)
+  pub nothing_to_undo_where_nothing_runs : p.running ≡ None → p.undo ≡ empty_log p.space
+  pub replay_meets_the_conditions : MeetsConditions (rows_now p)

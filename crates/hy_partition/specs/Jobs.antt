@@ -12,6 +12,10 @@ pub record RunningJob : Type 0 where
 abbrev pub slice_count : Command → ℕ
 slice_count (commands.Payment payment) = 2
 
+-- to how many places of the pages one slice writes at most
+abbrev pub most_writes : ℕ
+most_writes = 2
+
 -- whether the next slice is the last one
 abbrev pub is_last : RunningJob → Bool
 is_last job = job.slices + 1 == slice_count job.command

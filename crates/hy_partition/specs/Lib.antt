@@ -1,7 +1,6 @@
 pub mod Rows
 pub mod Snapshots
 pub mod Shortages
-pub mod Undone
 pub mod Growth
 pub mod Jobs
 pub mod Partition

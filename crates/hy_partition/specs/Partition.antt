@@ -5,7 +5,7 @@ use Rattle.hy_schema.specs.declared.command.Reply.{Reply}
 use Rattle.hy_schema.specs.Tables.{Tables}
 use Rattle.hy_schema.specs.Replay.{replay}
 use Rattle.hy_space.specs.Space.{SpaceState}
-use Rattle.hy_partition.specs.Undone.{Earlier}
+use Rattle.hy_undo.specs.UndoLog.{UndoLog}
 use Rattle.hy_partition.specs.Jobs.{RunningJob}
 
 -- the value of a partition
@@ -16,9 +16,9 @@ pub record PartitionState : Type 0 where
   -- the commits since then, in order, and how many there may be
   pub kept : List Commit
   pub max_kept : ℕ
-  -- the job that runs, the pages that it wrote as they were at its begin, and the reply that wasn't taken
+  -- the job that runs, what it overwrote, and the reply that wasn't taken
   pub running : Option RunningJob
-  pub earlier : List Earlier
+  pub undo : UndoLog
   pub finished : Option Reply
   -- the live pages with those of the open snapshots, and for each open snapshot its number of commits
   pub space : SpaceState

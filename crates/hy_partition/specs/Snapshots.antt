@@ -1,5 +1,6 @@
 -- Snapshots.
-use Rattle.std.specs.Prelude.{ℕ, ◌≤◌, List}
+use Rattle.std.specs.Prelude.{ℕ, List}
+use Rattle.hy_frames.specs.FrameTable.{IsPageSize}
 use Rattle.hy_schema.specs.Spelling.{HasTables}
 
 -- the warehouse, the child of its page tables, the number of commits, and the bytes of the pages by segment
@@ -11,6 +12,5 @@ pub record SnapshotState : Type 0 where
 
 -- a snapshot has its tables, on pages of n bytes
 pub record IsWhole (n : ℕ) (bytes : List (List (List ℕ))) : Type 0 where
-  pub smallest : 256 ≤ n
-  pub largest : n ≤ 65536
+  pub size : IsPageSize n
   pub tables : HasTables n bytes

@@ -1,7 +1,7 @@
 //! The pages that a partition begins with.
 
 ghost use Rattle.std.specs.Prelude.{◌≡◌, ℕ, ◌+◌, ◌<◌, ◌≤◌, ◌++◌, ◌∷◌, [], List, length, filter, take, Err, IfOk, OnOk, None};
-ghost use Rattle.hy_frames.specs.FrameTable.{free_of};
+ghost use Rattle.hy_frames.specs.FrameTable.{free_of, IsPageSize};
 ghost use Rattle.hy_schema.specs.Spelling.{HasTables, Spells, rows_of, slot_page, tables_of, used_slots};
 ghost use Rattle.hy_schema.specs.Tables.{of_warehouse};
 ghost use Rattle.hy_space.specs.Space.{owner_bytes};
@@ -63,8 +63,7 @@ pub(crate) fn pages_with<const N: usize>(
     rows: &LoadedRows,
     max_frames: u64,
 ) -> Result<Space<N>, Shortage>
-    requires smallest { 256 ≤ N }
-    requires largest { N ≤ 65536 }
+    requires size { IsPageSize N }
     requires some { 1 ≤ max_frames }
     requires limit { max_frames ≤ 10000000 }
     ensures spells { IfOk result (λ space. Spells N (owner_bytes space) rows.now) }
@@ -81,8 +80,7 @@ pub(crate) fn pages_with<const N: usize>(
 
 /// Pages that spell tables without rows.
 fn empty_tables<const N: usize>(alloc: Global, max_frames: u64) -> Result<Space<N>, Shortage>
-    requires smallest { 256 ≤ N }
-    requires largest { N ≤ 65536 }
+    requires size { IsPageSize N }
     requires some { 1 ≤ max_frames }
     requires limit { max_frames ≤ 10000000 }
     ensures tables { IfOk result (λ space. HasTables N (owner_bytes space)) }

@@ -1,7 +1,6 @@
 //! One warehouse: transactions in slices, snapshots of what was committed, and the list of commits.
 #![tactic(auto)]
 
-mod earlier;
 mod fill;
 mod job;
 mod keyed;

@@ -1,18 +1,19 @@
 //! The partition of one warehouse.
 
-ghost use Rattle.std.specs.Prelude.{◌≡◌, ◌≢◌, ℕ, ◌+◌, ◌<◌, ◌≤◌, vec_capacity, slice_index_or, ◌↔◌, ◌⊎◌, IsTrue, IsSome, IsSomeAnd, List, length, Option, Some, None, Ok, Err, IfOk, IfErr, IsOk, IsOkAnd, OnOk, OnErr, MatchOption, MatchResult};
-ghost use Rattle.hy_frames.specs.FrameTable.{free_of, shared_of, IsLimitFor};
+ghost use Rattle.std.specs.Prelude.{◌≡◌, ◌≢◌, ℕ, ◌+◌, ◌<◌, ◌≤◌, vec_capacity, slice_index_or, ◌↔◌, ◌⊎◌, IsTrue, IsSome, IsSomeAnd, List, length, take, Option, Some, None, Ok, Err, IfOk, IfErr, IsOk, IsOkAnd, OnOk, OnErr, MatchOption, MatchResult};
+ghost use Rattle.hy_frames.specs.FrameTable.{free_of, shared_of, IsLimitFor, IsPageSize};
 ghost use Rattle.hy_schema.specs.declared.refusal.Refusal.{Refusal};
 ghost use Rattle.hy_schema.specs.Tables.{of_warehouse};
 ghost use Rattle.hy_space.specs.Space.{SameForChildren};
 ghost use Rattle.hy_partition.specs.Headline.{Headline};
-ghost use Rattle.hy_partition.specs.Partition.{PartitionState, rows_now};
-ghost use Rattle.hy_partition.specs.Jobs.{is_last};
+ghost use Rattle.hy_partition.specs.Partition.{PartitionState, commits_of, rows_after, rows_now};
+ghost use Rattle.hy_partition.specs.Jobs.{is_last, slice_count};
 ghost use Rattle.hy_partition.specs.Rows.{row_count};
-ghost use Rattle.hy_partition.specs.Soundness.{IsUndoLog};
-ghost use Rattle.hy_partition.specs.Steps.{begin_refusal, Accepts, Begins, Closes, Forks, IsOpen, KeepsJob, Refuses, StepsTo};
+ghost use Rattle.hy_undo.specs.Touched.{touched};
+ghost use Rattle.hy_undo.specs.PrivatePages.{IsUndoLog};
+ghost use Rattle.hy_schema.specs.Spelling.{Spells};
+ghost use Rattle.hy_partition.specs.Steps.{begin_refusal, Accepts, Begins, Closes, Forks, IsOpen, KeepsJob, Refuses, StaysUnforked, StepsTo};
 
-use crate::earlier::EarlierPages;
 use crate::fill::{LoadedRows, pages_with, rows_of_warehouse};
 use crate::job::{Done, Job, Progress, Running};
 use crate::refusals::refusal_for_shortage;
@@ -20,6 +21,7 @@ use crate::slices::{refusal_for, run_slice};
 use crate::snapshot::Snapshot;
 use hy_schema::{Commit, Load, Refusal, Reply};
 use hy_space::Space;
+use hy_undo::Undo;
 use std::alloc::Global;
 use std::marker::Model;
 
@@ -31,7 +33,7 @@ pub struct Partition<const N: usize> {
     kept: Vec<Commit>,
     max_kept: u64,
     running: Option<Running>,
-    earlier: EarlierPages<N>,
+    undo: Undo<N>,
     finished: Option<Done>,
     space: Space<N>,
     snapshots: Vec<Option<u64>>,
@@ -62,8 +64,7 @@ impl<const N: usize> Partition<N> {
         max_frames: u64,
         max_kept: u64,
     ) -> Result<Partition<N>, Refusal>
-        requires smallest { 256 ≤ N }
-        requires largest { N ≤ 65536 }
+        requires size { IsPageSize N }
         requires some_frames { 1 ≤ max_frames }
         requires frames { max_frames ≤ 10000000 }
         requires some_kept { 1 ≤ max_kept }
@@ -78,17 +79,20 @@ impl<const N: usize> Partition<N> {
             return Err(Refusal::NoMemory);
         };
         match pages_with(alloc, &loaded, max_frames) {
-            Ok(space) => Ok(Partition {
-                warehouse,
-                loaded,
-                kept: Vec::new(alloc),
-                max_kept,
-                running: None,
-                earlier: EarlierPages::new(alloc),
-                finished: None,
-                space,
-                snapshots: Vec::new(alloc),
-            }),
+            Ok(space) => match Undo::new(alloc, &space) {
+                Ok(undo) => Ok(Partition {
+                    warehouse,
+                    loaded,
+                    kept: Vec::new(alloc),
+                    max_kept,
+                    running: None,
+                    undo,
+                    finished: None,
+                    space,
+                    snapshots: Vec::new(alloc),
+                }),
+                Err(_) => Err(Refusal::NoMemory),
+            },
             Err(shortage) => Err(refusal_for_shortage(shortage)),
         }
     }
@@ -134,20 +138,20 @@ impl<const N: usize> Partition<N> {
         let Some(running) = self.running else {
             return Err(Refusal::NotRunning);
         };
-        match run_slice(&mut self.space, &mut self.earlier, &running) {
+        match run_slice(&mut self.space, &mut self.undo, &running) {
             Ok(None) => {
                 self.running = Some(running.next());
                 Ok(Progress::More)
             }
             Ok(Some(reply)) => {
                 self.kept.push_reserved(Commit::Local(running.command()));
-                self.earlier.clear();
+                self.undo.commit(&self.space);
                 self.running = None;
                 self.finished = Some(Done::new(reply));
                 Ok(Progress::Finished)
             }
             Err(shortage) => {
-                self.earlier.roll_back(&mut self.space);
+                self.undo.roll_back(&mut self.space);
                 self.running = None;
                 self.finished = Some(Done::new(Reply::Refused(refusal_for_shortage(shortage))));
                 Ok(Progress::Finished)
@@ -157,7 +161,7 @@ impl<const N: usize> Partition<N> {
 
     /// Steps until nothing runs.
     pub fn finish_running(&mut self)
-        ensures { MatchOption self.old.running (self.new ≡ self.old) (λ job. Accepts job.command self.old self.new ⊎ Refuses self.old self.new) }
+        ensures { MatchOption self.old.running (self.new ≡ self.old) (λ job. Accepts job.command self.old self.new ⊎ Refuses (slice_count job.command) self.old self.new) }
     {
         while self.running.is_some() {
             let _progress = self.step();
@@ -172,25 +176,26 @@ impl<const N: usize> Partition<N> {
         self.finished.take()
     }
 
-    /// A snapshot of the rows after all kept commits. No page is copied and no frame taken. E9 while a job runs; else E1.
-    pub fn fork(&mut self, alloc: Global) -> Result<Snapshot<N>, Refusal>
+    /// A snapshot of the rows after all kept commits. Where a job runs, the snapshot has it undone, and takes a frame for
+    /// each page that the job has touched. E2 exactly where fewer frames are free than that; else E1.
+    pub fn fork(&mut self) -> Result<Snapshot<N>, Refusal>
         ensures forks { IfOk result (Forks N self.old self.new) }
-        ensures idle { OnOk result (self.old.running ≡ None) }
-        ensures busy { IsSome self.old.running → result ≡ Err Refusal.Busy }
-        ensures refused { IfErr result (λ refusal. (IsSome self.old.running × (refusal ≡ Refusal.Busy)) ⊎ (refusal ≡ Refusal.NoMemory)) }
-        ensures err { OnErr result (self.new ≡ self.old) }
+        ensures no_frame { result ≡ Err Refusal.NoFrame ↔ (free_of self.old.space.frames < touched self.old.undo) }
+        ensures refused { IfErr result (λ refusal. (refusal ≡ Refusal.NoFrame) ⊎ (refusal ≡ Refusal.NoMemory)) }
+        ensures err { OnErr result (StaysUnforked self.old self.new) }
     {
-        if self.running.is_some() {
-            return Err(Refusal::Busy);
-        }
         self.space.sound();
-        let Ok(pages) = self.space.holds_of_owner() else {
-            return Err(Refusal::NoMemory);
-        };
+        if self.space.free() < self.undo.touched() {
+            return Err(Refusal::NoFrame);
+        }
         if self.snapshots.reserve(1).is_err() {
             return Err(Refusal::NoMemory);
         }
-        let Ok(child) = self.space.fork() else {
+        let Ok(child) = self.undo.fork(&mut self.space) else {
+            return Err(Refusal::NoMemory);
+        };
+        let Ok(pages) = self.space.holds(child) else {
+            self.space.close(child);
             return Err(Refusal::NoMemory);
         };
         let commits = self.kept.len() as u64;
@@ -198,10 +203,21 @@ impl<const N: usize> Partition<N> {
         Ok(Snapshot::new(self.warehouse, child, commits, pages))
     }
 
+    /// That an open snapshot's bytes, and so the rows that it lists, are those of the first `commits()` kept commits.
+    pub fn spells(&self, snapshot: &Snapshot<N>)
+        requires { IsOpen self.now snapshot.now }
+        ensures within { snapshot.now.commits ≤ length self.now.kept }
+        ensures spells { Spells N snapshot.now.bytes
+            (rows_after self.now (take snapshot.now.commits self.now.kept)) }
+    {
+        let _kept = &self.kept;
+        let _commits = snapshot.commits();
+    }
+
     /// Closes a snapshot of this partition: the frames that only it had are free again. E11 where the snapshot is another
     /// warehouse's, which comes back. Takes no memory.
     pub fn close(&mut self, snapshot: Snapshot<N>) -> Result<(), (Snapshot<N>, Refusal)>
-        requires { snapshot.warehouse ≡ self.old.warehouse → IsOpen self.old snapshot }
+        requires { snapshot.warehouse ≡ self.old.warehouse → commits_of self.old snapshot.child ≡ Some snapshot.commits }
         ensures mine { IsOk result ↔ (snapshot.entry.warehouse ≡ self.old.warehouse) }
         ensures closes { OnOk result (Closes self.old self.new snapshot.entry.child) }
         ensures refused { IfErr result (λ refused. (refused.0 ≡ snapshot.entry) × (refused.1 ≡ Refusal.NotMine)) }
@@ -240,12 +256,13 @@ impl<const N: usize> Partition<N> {
         self.kept.as_slice()
     }
 
-    /// How many pages the job that runs has written. They are pages that no snapshot shares, and none counts twice.
+    /// How many pages that were there at its begin the job that runs has written. No snapshot shares one of them.
     pub fn touched(&self) -> u64
-        ensures touched { result ≡ length self.now.earlier }
-        ensures undo_log { IsUndoLog N self.now.space self.now.earlier }
+        ensures touched { result ≡ touched self.now.undo }
+        ensures undo_log { IsUndoLog N self.now.space self.now.undo }
     {
-        self.earlier.len()
+        let _space = &self.space;
+        self.undo.touched()
     }
 
     /// How many frames are free.

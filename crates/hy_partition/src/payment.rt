@@ -11,73 +11,74 @@ ghost use Rattle.hy_partition.specs.Changes.{CanUndo, customer_changed};
 ghost use Rattle.hy_partition.specs.Growth.{IsGrown, IsGrownCustomer, IsGrownMoney};
 ghost use Rattle.hy_partition.specs.Rows.{ChangesRow, KeepsOtherSegments, owner_pages};
 ghost use Rattle.hy_partition.specs.Shortages.{IsOutOfFrames};
-ghost use Rattle.hy_partition.specs.Soundness.{IsUndoLog, half_paid};
+ghost use Rattle.hy_partition.specs.Soundness.{half_paid};
+ghost use Rattle.hy_undo.specs.PrivatePages.{IsUndoLog};
 
-use crate::earlier::EarlierPages;
 use crate::keyed::{CustomerKey, DistrictKey};
-use crate::places::{find_row, place_in, put_row};
+use crate::places::{find_row, place_in};
 use hy_frames::Shortage;
-use hy_schema::{Customer, District, Payment, Refusal, Reply, Row, Warehouse, Who};
+use hy_schema::{Customer, District, Payment, Refusal, Reply, Row, SlotBytes, Warehouse, Who};
 use hy_space::Space;
+use hy_undo::Undo;
 
 /// The first slice: W_YTD and D_YTD rise by the amount.
 pub(crate) fn pay_warehouse_and_district<const N: usize>(
     space: &mut Space<N>,
-    earlier: &mut EarlierPages<N>,
+    undo: &mut Undo<N>,
     payment: &Payment,
 ) -> Result<(), Shortage>
     requires tables { HasTables N (owner_bytes space.old) }
-    requires undo_log { IsUndoLog N space.old earlier.old }
+    requires undo_log { IsUndoLog N space.old undo.old }
     requires grown { IsGrown 50000000000000 (tables_of N (owner_bytes space.old)) }
     requires amount { payment.now.amount ≤ 500000 }
     ensures tables { OnOk result (HasTables N (owner_bytes space.new)) }
     ensures rows { OnOk result (tables_of N (owner_bytes space.new) ≡ half_paid payment.now (tables_of N (owner_bytes space.old))) }
-    ensures can_undo { CanUndo N space.old space.new earlier.old earlier.new }
+    ensures can_undo { CanUndo N 2 space.old space.new undo.old undo.new }
     ensures no_frame { result ≡ Err Shortage.NoFrame → IsOutOfFrames space.new }
 {
-    pay_warehouse(space, earlier, payment)?;
-    pay_district(space, earlier, payment)
+    pay_warehouse(space, undo, payment)?;
+    pay_district(space, undo, payment)
 }
 
 /// W_YTD rises by the amount.
 fn pay_warehouse<const N: usize>(
     space: &mut Space<N>,
-    earlier: &mut EarlierPages<N>,
+    undo: &mut Undo<N>,
     payment: &Payment,
 ) -> Result<(), Shortage>
     requires tables { HasTables N (owner_bytes space.old) }
-    requires undo_log { IsUndoLog N space.old earlier.old }
+    requires undo_log { IsUndoLog N space.old undo.old }
     requires grown { IsGrown 50000000000000 (tables_of N (owner_bytes space.old)) }
     requires amount { payment.now.amount ≤ 500000 }
     ensures tables { OnOk result (HasTables N (owner_bytes space.new)) }
     ensures rows { OnOk result (tables_of N (owner_bytes space.new) ≡ record (tables_of N (owner_bytes space.old)) {
       warehouses = with_changed (is_warehouse payment.now.warehouse) (warehouse_paid payment.now.amount) (tables_of N (owner_bytes space.old)).warehouses;
     }) }
-    ensures can_undo { CanUndo N space.old space.new earlier.old earlier.new }
+    ensures can_undo { CanUndo N 1 space.old space.new undo.old undo.new }
     ensures no_frame { result ≡ Err Shortage.NoFrame → IsOutOfFrames space.new }
 {
     let Some(found) = find_row::<Warehouse, N>(space, &payment.warehouse) else {
         return Ok(());
     };
     let row = warehouse_after(&found.row, payment.amount);
-    change(space, earlier, found.slot, &row)
+    change(space, undo, found.slot, &row)
 }
 
 /// D_YTD rises by the amount.
 fn pay_district<const N: usize>(
     space: &mut Space<N>,
-    earlier: &mut EarlierPages<N>,
+    undo: &mut Undo<N>,
     payment: &Payment,
 ) -> Result<(), Shortage>
     requires tables { HasTables N (owner_bytes space.old) }
-    requires undo_log { IsUndoLog N space.old earlier.old }
+    requires undo_log { IsUndoLog N space.old undo.old }
     requires grown { AllByRecursion (λ row. IsGrownMoney 50000000000000 row.ytd) (tables_of N (owner_bytes space.old)).districts }
     requires amount { payment.now.amount ≤ 500000 }
     ensures tables { OnOk result (HasTables N (owner_bytes space.new)) }
     ensures rows { OnOk result (tables_of N (owner_bytes space.new) ≡ record (tables_of N (owner_bytes space.old)) {
       districts = with_changed (is_district payment.now.warehouse payment.now.district) (district_paid payment.now.amount) (tables_of N (owner_bytes space.old)).districts;
     }) }
-    ensures can_undo { CanUndo N space.old space.new earlier.old earlier.new }
+    ensures can_undo { CanUndo N 1 space.old space.new undo.old undo.new }
     ensures no_frame { result ≡ Err Shortage.NoFrame → IsOutOfFrames space.new }
 {
     let key = DistrictKey {
@@ -88,24 +89,24 @@ fn pay_district<const N: usize>(
         return Ok(());
     };
     let row = district_after(&found.row, payment.amount);
-    change(space, earlier, found.slot, &row)
+    change(space, undo, found.slot, &row)
 }
 
 /// The second slice: the customer's balance falls by the amount, what was paid rises by it, and the number of payments by
 /// one. The reply has the customer's number, and the balance in cents.
 pub(crate) fn pay_customer<const N: usize>(
     space: &mut Space<N>,
-    earlier: &mut EarlierPages<N>,
+    undo: &mut Undo<N>,
     payment: &Payment,
 ) -> Result<Reply, Shortage>
     requires tables { HasTables N (owner_bytes space.old) }
-    requires undo_log { IsUndoLog N space.old earlier.old }
+    requires undo_log { IsUndoLog N space.old undo.old }
     requires grown { AllByRecursion (IsGrownCustomer 50000000000000) (tables_of N (owner_bytes space.old)).customers }
     requires amount { payment.now.amount ≤ 500000 }
     ensures tables { OnOk result (HasTables N (owner_bytes space.new)) }
     ensures rows { OnOk result (tables_of N (owner_bytes space.new) ≡ customer_changed payment.now (tables_of N (owner_bytes space.old))) }
     ensures reply { IfOk result (λ reply. reply ≡ payment_reply payment.now (payer payment.now (tables_of N (owner_bytes space.old)))) }
-    ensures can_undo { CanUndo N space.old space.new earlier.old earlier.new }
+    ensures can_undo { CanUndo N 1 space.old space.new undo.old undo.new }
     ensures no_frame { result ≡ Err Shortage.NoFrame → IsOutOfFrames space.new }
 {
     let key = payer_key(payment);
@@ -113,7 +114,7 @@ pub(crate) fn pay_customer<const N: usize>(
         return Ok(Reply::Refused(Refusal::NoSuchCustomer));
     };
     let row = customer_after(&found.row, payment.amount);
-    change(space, earlier, found.slot, &row)?;
+    change(space, undo, found.slot, &row)?;
     Ok(reply_for(&row))
 }
 
@@ -197,23 +198,31 @@ fn lowered(amount: i64, cents: u64) -> i64
     amount - cents as i64
 }
 
-/// Keeps the page of a slot as it was, and writes a row into the slot.
+/// Writes a row into a used slot, in the place of the row there, and keeps what it overwrites.
 fn change<R: Row, const N: usize>(
     space: &mut Space<N>,
-    earlier: &mut EarlierPages<N>,
+    undo: &mut Undo<N>,
     slot: u64,
     row: &R,
 ) -> Result<(), Shortage>
     requires tables { HasTables N (owner_bytes space.old) }
-    requires undo_log { IsUndoLog N space.old earlier.old }
+    requires undo_log { IsUndoLog N space.old undo.old }
     requires used { slot < used_slots (owner_pages space.old R.SEGMENT) }
     ensures tables { OnOk result (HasTables N (owner_bytes space.new)) }
     ensures rows { OnOk result (ChangesRow N R.BYTES R.row_of_bytes (owner_pages space.old R.SEGMENT) (owner_pages space.new R.SEGMENT) slot row.now) }
     ensures others { OnOk result (KeepsOtherSegments (owner_bytes space.old) (owner_bytes space.new) R.SEGMENT) }
-    ensures can_undo { CanUndo N space.old space.new earlier.old earlier.new }
+    ensures can_undo { CanUndo N 1 space.old space.new undo.old undo.new }
     ensures no_frame { result ≡ Err Shortage.NoFrame → IsOutOfFrames space.new }
 {
+    space.sound();
     let place = place_in::<R, N>(space, slot);
-    earlier.first_touch(space, R::SEGMENT, place.page as u32)?;
-    put_row(space, slot, row)
+    let mut bytes = SlotBytes::new();
+    row.encode(&mut bytes);
+    undo.write(
+        space,
+        R::SEGMENT,
+        place.page as u32,
+        place.offset + 1,
+        bytes.as_slice(),
+    )
 }

@@ -111,32 +111,3 @@ pub(crate) fn find_row<R: Keyed, const N: usize>(space: &Space<N>, key: &R::Key)
     }
     None
 }
-
-/// Writes a row into a used slot, in the place of the row there.
-pub(crate) fn put_row<R: Row, const N: usize>(
-    space: &mut Space<N>,
-    slot: u64,
-    row: &R,
-) -> Result<(), Shortage>
-    requires tables { HasTables N (owner_bytes space.old) }
-    requires used { slot < used_slots (owner_pages space.old R.SEGMENT) }
-    ensures tables { OnOk result (HasTables N (owner_bytes space.new)) }
-    ensures rows { OnOk result (ChangesRow N R.BYTES R.row_of_bytes (owner_pages space.old R.SEGMENT) (owner_pages space.new R.SEGMENT) slot row.now) }
-    ensures others { OnOk result (KeepsOtherSegments (owner_bytes space.old) (owner_bytes space.new) R.SEGMENT) }
-    ensures page { OnOk result (WritesPage (owner_bytes space.old) (owner_bytes space.new) R.SEGMENT (slot_page N R.BYTES slot)) }
-    ensures children { OnOk result (SameForChildren space.old space.new) }
-    ensures own { OnOk result (MakesOwn space.old space.new R.SEGMENT (slot_page N R.BYTES slot)) }
-    ensures no_frame { result ≡ Err Shortage.NoFrame → IsOutOfFrames space.old }
-    ensures err { OnErr result (space.new ≡ space.old) }
-{
-    space.sound();
-    let place = place_in::<R, N>(space, slot);
-    let mut bytes = SlotBytes::new();
-    row.encode(&mut bytes);
-    space.write(
-        R::SEGMENT,
-        place.page as u32,
-        place.offset + 1,
-        bytes.as_slice(),
-    )
-}

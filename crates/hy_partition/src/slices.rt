@@ -9,38 +9,39 @@ ghost use Rattle.hy_space.specs.Space.{owner_bytes};
 ghost use Rattle.hy_partition.specs.Changes.{CanUndo, DoesSlice};
 ghost use Rattle.hy_partition.specs.Growth.{IsGrown, IsGrownCustomer};
 ghost use Rattle.hy_partition.specs.Shortages.{IsOutOfFrames};
-ghost use Rattle.hy_partition.specs.Soundness.{IsUndoLog};
+ghost use Rattle.hy_partition.specs.Jobs.{most_writes};
+ghost use Rattle.hy_undo.specs.PrivatePages.{IsUndoLog};
 
-use crate::earlier::EarlierPages;
 use crate::job::Running;
 use crate::payment::{pay_customer, pay_warehouse_and_district, payer_key};
 use crate::places::find_row;
 use hy_frames::Shortage;
 use hy_schema::{Command, Customer, Payment, Refusal, Reply};
 use hy_space::Space;
+use hy_undo::Undo;
 
 /// Does the next slice of a job. The last one gives the reply.
 pub(crate) fn run_slice<const N: usize>(
     space: &mut Space<N>,
-    earlier: &mut EarlierPages<N>,
+    undo: &mut Undo<N>,
     running: &Running,
 ) -> Result<Option<Reply>, Shortage>
     requires tables { HasTables N (owner_bytes space.old) }
-    requires undo_log { IsUndoLog N space.old earlier.old }
+    requires undo_log { IsUndoLog N space.old undo.old }
     requires grown { running.now.slices ≡ 0 → IsGrown 50000000000000 (tables_of N (owner_bytes space.old)) }
     requires customers { AllByRecursion (IsGrownCustomer 50000000000000) (tables_of N (owner_bytes space.old)).customers }
     requires in_range { is_in_range running.now.command ≡ true }
     ensures tables { OnOk result (HasTables N (owner_bytes space.new)) }
     ensures slice { IfOk result (DoesSlice running.now.command running.now.slices (tables_of N (owner_bytes space.old)) (tables_of N (owner_bytes space.new))) }
-    ensures can_undo { CanUndo N space.old space.new earlier.old earlier.new }
+    ensures can_undo { CanUndo N most_writes space.old space.new undo.old undo.new }
     ensures no_frame { result ≡ Err Shortage.NoFrame → IsOutOfFrames space.new }
 {
     let Command::Payment(payment) = running.command();
     if running.slices() == 0 {
-        pay_warehouse_and_district(space, earlier, &payment)?;
+        pay_warehouse_and_district(space, undo, &payment)?;
         Ok(None)
     } else {
-        let reply = pay_customer(space, earlier, &payment)?;
+        let reply = pay_customer(space, undo, &payment)?;
         Ok(Some(reply))
     }
 }

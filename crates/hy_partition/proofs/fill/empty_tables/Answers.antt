@@ -15,7 +15,7 @@ after g c =
     ∙ ap (λ (bytes : List (List (List ℕ))). with_new_page bytes 0 zeros) (ap (table_bytes c.in-Ok.space.frames) c.in-Ok.ensures.owner)))
 
 pub returns-clause-tables : goal.returns-clause-tables
-returns-clause-tables g c = subst (λ (bytes : List (List (List ℕ))). HasTables g.row.N bytes) (sym (after g c)) (tables-zero g.row.N c.requires.smallest)
+returns-clause-tables g c = subst (λ (bytes : List (List (List ℕ))). HasTables g.row.N bytes) (sym (after g c)) (tables-zero g.row.N c.requires.size.smallest)
 
 pub returns-clause-empty : goal.returns-clause-empty
-returns-clause-empty g c = ap (tables_of g.row.N) (after g c) ∙ tables_of-zero g.row.N c.requires.smallest
+returns-clause-empty g c = ap (tables_of g.row.N) (after g c) ∙ tables_of-zero g.row.N c.requires.size.smallest

@@ -15,19 +15,19 @@ after g c = c.in_ok-grow.ensures.bytes ∙ ap (λ (s : ℕ). with_new_page (owne
 
 pub returns-in_ok-grow-clause-tables : goal.returns-in_ok-grow-clause-tables
 returns-in_ok-grow-clause-tables g c = subst (λ (bytes : List (List (List ℕ))). HasTables g.row.N bytes) (sym (after g c))
-    (tables-page_added g.row.N g.R.Row.SEGMENT (owner_bytes c.args.space.now) (replicate g.row.N 0) c.sound.ensures.smallest (segment_there g.R.Row.SEGMENT g.R.Row.BYTES g.met.R.Row.is_table) c.requires)
+    (tables-page_added g.row.N g.R.Row.SEGMENT (owner_bytes c.args.space.now) (replicate g.row.N 0) c.sound.ensures.size.smallest (segment_there g.R.Row.SEGMENT g.R.Row.BYTES g.met.R.Row.is_table) c.requires)
 
 pub returns-in_ok-grow-clause-rows : goal.returns-in_ok-grow-clause-rows
 returns-in_ok-grow-clause-rows g c =
     ap (λ (bytes : List (List (List ℕ))). rows_of g.row.N g.R.Row.BYTES g.R.Row.row_of_bytes (list_at bytes g.R.Row.SEGMENT)) (after g c)
-    ∙ rows-page_added g.row.N g.R.Row.SEGMENT (owner_bytes c.args.space.now) (replicate g.row.N 0) c.sound.ensures.smallest (segment_there g.R.Row.SEGMENT g.R.Row.BYTES g.met.R.Row.is_table) c.requires g.R.Row.BYTES g.R.Row.row_of_bytes g.met.R.Row.is_table
+    ∙ rows-page_added g.row.N g.R.Row.SEGMENT (owner_bytes c.args.space.now) (replicate g.row.N 0) c.sound.ensures.size.smallest (segment_there g.R.Row.SEGMENT g.R.Row.BYTES g.met.R.Row.is_table) c.requires g.R.Row.BYTES g.R.Row.row_of_bytes g.met.R.Row.is_table
 
 pub returns-else-place-from-clause-place : goal.returns-else-place-from-clause-place
 returns-else-place-from-clause-place g c =
     let pages : List (List ℕ) = list_at (owner_bytes c.args.space.now) g.R.Row.SEGMENT in
     let table = g.met.R.Row.is_table in
     let count : c.from.result ≡ length pages = c.from.ensures ∙ c.pages.ensures ∙ ap (page_count c.args.space.now) c.SEGMENT.ensures
-    ∙ sym (length-segment g.row.N g.R.Row.SEGMENT g.R.Row.BYTES c.args.space.now c.sound.ensures.smallest table c.requires) in
+    ∙ sym (length-segment g.row.N g.R.Row.SEGMENT g.R.Row.BYTES c.args.space.now c.sound.ensures.size.smallest table c.requires) in
     let place : c.place_of-place.result.page ≡ slot_page g.row.N g.R.Row.BYTES (used_slots pages) = c.place_of-place.ensures.page
     ∙ ap (λ (w : ℕ). slot_page g.row.N w c.used_of-used.result) c.BYTES.ensures ∙ ap (slot_page g.row.N g.R.Row.BYTES) c.used_of-used.ensures.value in
     let within = next_slot_page g.row.N g.R.Row.BYTES pages (c.requires.slots g.R.Row.SEGMENT g.R.Row.BYTES table) in

@@ -1,13 +1,35 @@
-use Rattle.std.proofs.Common.{None, ap, get_or-set_other}
+use Rattle.std.proofs.Common.{ℕ, None, refl, ap, subst, get_or-set_other}
+use Rattle.std.specs.Prelude.{slice_set}
 use Rattle.std.specs.Option.{option_map}
 use Rattle.hy_space.specs.Space.{table_bytes}
+use Rattle.hy_undo.proofs.PrivatePageLaws.{IsUndoLog-kept, KeepsPages-unseen}
+use Rattle.hy_partition.specs.Partition.{PartitionState}
+use Rattle.hy_partition.specs.Steps.{Closes}
 use Rattle.hy_partition.specs.Views.{partition_of}
 use Rattle.hy_partition.proofs.SoundLaws.{sound-closed, emptied}
 use Rattle.hy_partition.proofs.partition.Partition.close.Goals as goal
 
 pub invariant_of-self : goal.invariant_of-self
 invariant_of-self g c =
-    sound-closed g.row.N _ (partition_of c.self.inside) c.self.invariant c.close.new.self _ c.spend-child.result c.close.ensures.owner c.close.ensures.others c.close.ensures.own
+    let p : PartitionState = partition_of c.self.inside in
+    let pages = KeepsPages-unseen p.space c.close.new.self c.close.ensures.owner.bytes c.close.ensures.kept in
+    sound-closed g.row.N _ p c.self.invariant c.close.new.self _ c.spend-child.result c.close.ensures.owner c.close.ensures.others
+    (IsUndoLog-kept g.row.N p.space c.close.new.self p.undo pages c.self.invariant.undo_log)
     (ap (option_map (table_bytes c.close.new.self.frames)) c.close.ensures.closed)
     (emptied c.self.inside.snapshots.items c.spend-child.result)
     (λ other apart. get_or-set_other c.self.inside.snapshots.items c.spend-child.result other None None apart)
+
+pub returns-clause-closes : goal.returns-clause-closes
+returns-clause-closes g c =
+    let p : PartitionState = partition_of c.self.inside in
+    let child = c.spend-child.result in
+    let after : PartitionState = record p { space = c.close.new.self; snapshots = slice_set c.self.inside.snapshots.items child None } in
+    let closes : Closes p after child = record {
+      bytes = ap (option_map (table_bytes c.close.new.self.frames)) c.close.ensures.closed;
+      commits = emptied c.self.inside.snapshots.items child;
+      users = c.close.ensures.users;
+      job = record { warehouse = refl; loaded = refl; kept = refl; max_kept = refl; running = refl; undo = refl; finished = refl; owner = c.close.ensures.owner };
+      others = record { bytes = c.close.ensures.others; commits = λ other apart. get_or-set_other c.self.inside.snapshots.items child other None None apart };
+    } in
+    subst (λ (old : PartitionState). Closes old after c.args.snapshot.child) c.self.view_is
+    (subst (λ (number : ℕ). Closes p after number) c.spend-child.ensures closes)

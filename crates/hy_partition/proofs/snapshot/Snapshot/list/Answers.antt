@@ -13,7 +13,7 @@ rows_on_pages-requires g c =
       search rules,
       (
         subst P (sym pages) (c.segment.ensures.whole.tables.slots g.R.Row.SEGMENT g.R.Row.BYTES g.met.R.Row.is_table),
-        (c.segment.ensures.whole.smallest, c.segment.ensures.whole.largest),
+        (c.segment.ensures.whole.size.smallest, c.segment.ensures.whole.size.largest),
       ),
     )
 

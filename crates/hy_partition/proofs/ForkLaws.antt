@@ -1,0 +1,128 @@
+-- A fork: the snapshot that it gives, and what is left where it was refused after its child was opened.
+use Rattle.std.proofs.Common.{◌≡◌, ◌≢◌, ℕ, ◌+◌, inl, inr, List, [], length, Option, Some, None, refl, sym, ap, ◌∙◌, subst, arith}
+use Rattle.std.specs.Prelude.{slice_index_or}
+use Rattle.std.specs.Option.{option_map}
+use Rattle.std.proofs.lemmas.Bool.{cases_eq}
+use Rattle.std.proofs.lemmas.List.{append-nil}
+use Rattle.hy_frames.specs.FrameTable.{count_of, free_of}
+use Rattle.hy_schema.specs.Spelling.{HasTables, Spells}
+use Rattle.hy_space.specs.Space.{SpaceState, SameForOthers, SameForOwner, KeepsOwn, IsLeastFree, IsUnchanged, DropsUsers, child_bytes, child_table, child_times, owner_bytes, table_bytes}
+use Rattle.hy_space.proofs.TableLaws.{same_bytes, same_child_bytes}
+use Rattle.hy_undo.specs.UndoLog.{undone}
+use Rattle.hy_undo.specs.Touched.{touched}
+use Rattle.hy_undo.specs.PrivatePages.{IsUndoLog}
+use Rattle.hy_undo.proofs.PrivatePageLaws.{IsUndoLog-kept, KeepsPages-unseen}
+use Rattle.hy_partition.specs.Partition.{PartitionState, commits_of, rows_now}
+use Rattle.hy_partition.specs.Snapshots.{SnapshotState}
+use Rattle.hy_partition.specs.Soundness.{IsSound}
+use Rattle.hy_partition.specs.Steps.{Forks, KeepsOthers, StaysUnforked}
+use Rattle.hy_partition.proofs.SoundLaws.{sound-forked, sound-snapshots, snapshot_fresh}
+use Rattle.hy_partition.proofs.StepLaws.{spells-kept_more}
+
+-- what holds of a space in which pages may be lent now
+unchanged_bytes : (old new : SpaceState) → IsUnchanged old new → owner_bytes new ≡ owner_bytes old
+unchanged_bytes old new same = ap (table_bytes new.frames) same.owner ∙ same_bytes old.frames new.frames old.owner (λ f more. same.pages f)
+
+unchanged_child : (old new : SpaceState) → IsUnchanged old new → (child : ℕ) → child_table new child ≡ child_table old child
+unchanged_child old new same child = ap (λ (all : List (Option (List (List ℕ)))). slice_index_or all child None) same.children
+
+unchanged_child_bytes : (old new : SpaceState) → IsUnchanged old new → (child : ℕ) → child_bytes new child ≡ child_bytes old child
+unchanged_child_bytes old new same child =
+    ap (option_map (table_bytes new.frames)) (unchanged_child old new same child)
+    ∙ same_child_bytes old.frames new.frames (child_table old child) (λ f more. same.pages f)
+
+-- with pages of n bytes: the child was opened with the running transaction undone in it, and its pages may have got holds
+module _ (n places : ℕ) (p : PartitionState) (sound : IsSound n places p) (mid held : SpaceState) (child : ℕ)
+    (least : IsLeastFree p.space child) (bytes : child_bytes mid child ≡ Some (undone (owner_bytes p.space) p.undo)) (others : SameForOthers p.space mid child) (owner : SameForOwner p.space mid)
+    (log : IsUndoLog n mid p.undo) (lent : IsUnchanged mid held) (kept : KeepsOwn mid held) where
+  held_owner : SameForOwner p.space held
+  held_owner = record { table = lent.owner ∙ owner.table; bytes = unchanged_bytes mid held lent ∙ owner.bytes }
+
+  held_others : SameForOthers p.space held child
+  held_others = record {
+    tables = λ other apart. unchanged_child mid held lent other ∙ others.tables other apart;
+    bytes = λ other apart. unchanged_child_bytes mid held lent other ∙ others.bytes other apart;
+  }
+
+  held_log : IsUndoLog n held p.undo
+  held_log = IsUndoLog-kept n mid held p.undo (KeepsPages-unseen mid held (unchanged_bytes mid held lent) kept) log
+
+  held_bytes : child_bytes held child ≡ Some (undone (owner_bytes p.space) p.undo)
+  held_bytes = unchanged_child_bytes mid held lent child ∙ bytes
+
+  -- the pages of the child have the tables
+  pub whole : (seen : List (List (List ℕ))) → child_bytes mid child ≡ Some seen → HasTables n seen
+  whole seen is = subst (λ (pages : List (List (List ℕ))). HasTables n pages) (some_same (sym bytes ∙ is)) sound.live.whole
+    where
+      some_same : {one other : List (List (List ℕ))} → Some one ≡ Some other → one ≡ other
+      some_same same = cc
+
+  -- a snapshot stands at the child's place
+  pub sound-opened : (snapshots : List (Option ℕ)) → slice_index_or snapshots child None ≡ Some (length p.kept)
+      → ((other : ℕ) → other ≢ child → slice_index_or snapshots other None ≡ commits_of p other) → IsSound n places (record p { space = held; snapshots = snapshots })
+  sound-opened snapshots commits others_commits =
+      sound-forked n places p sound held snapshots child held_owner held_others held_log held_bytes commits others_commits
+
+  pub forks : (snapshots : List (Option ℕ)) (snapshot : SnapshotState) → slice_index_or snapshots child None ≡ Some (length p.kept)
+      → ((other : ℕ) → other ≢ child → slice_index_or snapshots other None ≡ commits_of p other)
+      → free_of mid.frames + touched p.undo ≡ free_of p.space.frames → mid.frames.max ≡ p.space.frames.max
+      → snapshot.warehouse ≡ p.warehouse → snapshot.child ≡ child → snapshot.commits ≡ length p.kept → child_bytes mid child ≡ Some snapshot.bytes
+      → Forks n p (record p { space = held; snapshots = snapshots }) snapshot
+  forks snapshots snapshot commits others_commits free limit warehouse at count seen =
+      let seen_is : snapshot.bytes ≡ undone (owner_bytes p.space) p.undo = some_same (sym seen ∙ bytes) in
+      let after : PartitionState = record p { space = held; snapshots = snapshots } in
+      record {
+        warehouse = warehouse;
+        child = subst (λ (c : ℕ). IsLeastFree p.space c) (sym at) least;
+        fresh = ap (commits_of p) at ∙ snapshot_fresh n places p sound child least.closed;
+        commits = count;
+        bytes = seen_is;
+        spells = subst (λ (pages : List (List (List ℕ))). Spells n pages (rows_now p)) (sym seen_is) sound.live;
+        open_bytes = ap (child_bytes held) at ∙ unchanged_child_bytes mid held lent child ∙ seen;
+        open_commits = ap (commits_of after) at ∙ commits ∙ ap Some (sym count);
+        free = omega (arith, free, lent.free);
+        max_frames = lent.limit ∙ limit;
+        job = record { warehouse = refl; loaded = refl; kept = refl; max_kept = refl; running = refl; undo = refl; finished = refl; owner = held_owner };
+        others = subst (λ (c : ℕ). KeepsOthers p after c) (sym at) (record { bytes = held_others; commits = others_commits });
+      }
+    where
+      some_same : {one other : List (List (List ℕ))} → Some one ≡ Some other → one ≡ other
+      some_same same = cc
+
+  -- the child was closed again
+  module _ (closed : SpaceState) (gone : child_table closed child ≡ None) (still : SameForOthers held closed child) (owner_still : SameForOwner held closed) (kept_still : KeepsOwn held closed) where
+    closed_owner : SameForOwner p.space closed
+    closed_owner = record { table = owner_still.table ∙ held_owner.table; bytes = owner_still.bytes ∙ held_owner.bytes }
+
+    closed_table : (other : ℕ) → child_table closed other ≡ child_table p.space other
+    closed_table other = elim (cases_eq other child) [
+      | inl same ↦ ap (child_table closed) same ∙ gone ∙ sym least.closed ∙ ap (child_table p.space) (sym same)
+      | inr apart ↦ still.tables other apart ∙ held_others.tables other apart
+    ]
+
+    closed_bytes : (other : ℕ) → child_bytes closed other ≡ child_bytes p.space other
+    closed_bytes other = elim (cases_eq other child) [
+      | inl same ↦
+          ap (child_bytes closed) same ∙ ap (option_map (table_bytes closed.frames)) gone
+          ∙ sym (ap (option_map (table_bytes p.space.frames)) least.closed) ∙ ap (child_bytes p.space) (sym same)
+      | inr apart ↦ still.bytes other apart ∙ held_others.bytes other apart
+    ]
+
+    pub sound-unforked : (snapshots : List (Option ℕ)) → snapshots ≡ p.snapshots → IsSound n places (record p { space = closed; snapshots = snapshots })
+    sound-unforked snapshots same =
+        let after : PartitionState = record p { space = closed } in
+        subst (λ (all : List (Option ℕ)). IsSound n places (record p { space = closed; snapshots = all })) (sym same)
+        (sound-snapshots n places p sound closed p.snapshots closed_owner
+        (IsUndoLog-kept n held closed p.undo (KeepsPages-unseen held closed owner_still.bytes kept_still) held_log)
+        (λ other. spells-kept_more n p after refl refl [] (sym (append-nil p.kept)) other refl (closed_bytes other) (sound.snapshots other)))
+
+    pub stays_unforked : (snapshots : List (Option ℕ)) → snapshots ≡ p.snapshots → ((f : ℕ) → count_of mid.frames f ≡ count_of p.space.frames f + child_times f (child_table mid child)) → mid.frames.max ≡ p.space.frames.max
+        → DropsUsers held.frames closed.frames (λ f. child_times f (child_table held child)) → StaysUnforked p (record p { space = closed; snapshots = snapshots })
+    stays_unforked snapshots same users limit drops = record {
+      job = record { warehouse = refl; loaded = refl; kept = refl; max_kept = refl; running = refl; undo = refl; finished = refl; owner = closed_owner };
+      snapshots = λ other. ap (λ (all : List (Option ℕ)). slice_index_or all other None) same;
+      tables = closed_table;
+      bytes = closed_bytes;
+      counts = λ f. omega (arith, users f, lent.counts f, drops.counts f, ap (child_times f) (unchanged_child mid held lent child));
+      max_frames = drops.limit ∙ lent.limit ∙ limit;
+    }
