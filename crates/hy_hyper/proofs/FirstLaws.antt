@@ -1,5 +1,5 @@
 -- Why the payment of `first` isn't done.
-use Rattle.std.proofs.Common.{◌≡◌, ◌⊎◌, inl, inr, ℕ, List, [], length, Option, Some, None, ◌||◌, ◌==◌, cond, is_some, refl, sym, ap, ◌∙◌, subst}
+use Rattle.std.proofs.Common.{◌≡◌, ◌⊎◌, inl, inr, ℕ, ℤ, List, [], ◌∷◌, ◌++◌, length, Option, Some, None, ◌||◌, ◌==◌, cond, is_some, refl, sym, ap, ◌∙◌, subst}
 use Rattle.std.specs.Option.{option_or}
 use Rattle.hy_schema.specs.declared.command.Command.{Command}
 use Rattle.hy_schema.specs.declared.command.Commit.{Commit}
@@ -10,11 +10,12 @@ use Rattle.hy_schema.specs.declared.refusal.LoadFault.{LoadFault}
 use Rattle.hy_schema.specs.Loads.{HasFault, IsLoad}
 use Rattle.hy_schema.specs.Replay.{replay}
 use Rattle.hy_schema.specs.Tables.{Tables, of_warehouse}
-use Rattle.hy_schema.specs.Transactions.{refusal_of}
+use Rattle.hy_schema.specs.declared.command.Commit.TheVariants as commits
+use Rattle.hy_schema.specs.Transactions.{act, refusal_of}
 use Rattle.hy_partition.specs.Jobs.{RunningJob}
-use Rattle.hy_partition.specs.Partition.{PartitionState}
+use Rattle.hy_partition.specs.Partition.{PartitionState, rows_now}
 use Rattle.hy_partition.specs.Steps.{Begins, HasSnapshot, begin_refusal}
-use Rattle.hy_hyper.specs.First.{IsFirstRefusal, IsPayRefusal, first_command, first_payment}
+use Rattle.hy_hyper.specs.First.{IsFirstRefusal, IsPaid, IsPayRefusal, IsYtdAfter, first_command, first_payment, ytds_of}
 use Rattle.hy_schema.proofs.FaultLaws.{load-no_fault}
 use Rattle.hy_schema.proofs.FreshLoad.{fresh-is_load}
 use Rattle.hy_hyper.specs.Generated.{generated}
@@ -40,6 +41,25 @@ begin_refusal-begun p command b =
     ∙ ap (λ x. refusal_by command None None 1 (of_warehouse 1 (generated 3)) x p.max_kept) b.kept
     ∙ ap (λ x. refusal_by command None None 1 (of_warehouse 1 (generated 3)) [] x) b.max_kept
     ∙ or_none (refusal_of 1 command (of_warehouse 1 (generated 3)))
+
+-- the rows after the payment, from those of the partition
+pub ytd_after : (amount : ℕ) (p new : PartitionState) (ytd : ℤ) → Begins (generated 3) 1 100_000 1_000_000 p → IsPaid (first_payment amount) p new → ytds_of (rows_now new) ≡ ytd ∷ [] → IsYtdAfter amount ytd
+ytd_after amount p new ytd b paid is = (sym refusals_same ∙ paid.accepted, sym (ap ytds_of rows_same) ∙ is)
+  where
+    command : Command
+    command = first_command amount
+
+    refusals_same : refusal_of p.warehouse command (rows_now p) ≡ refusal_of 1 command (of_warehouse 1 (generated 3))
+    refusals_same =
+        ap (λ w. refusal_of w command (replay w p.loaded p.kept)) b.warehouse
+        ∙ ap (λ rows. refusal_of 1 command (replay 1 rows p.kept)) b.loaded
+        ∙ ap (λ kept. refusal_of 1 command (replay 1 (of_warehouse 1 (generated 3)) kept)) b.kept
+
+    rows_same : rows_now new ≡ (act 1 command (of_warehouse 1 (generated 3))).tables
+    rows_same =
+        ap (λ w. replay w new.loaded new.kept) (paid.warehouse ∙ b.warehouse)
+        ∙ ap (λ rows. replay 1 rows new.kept) (paid.loaded ∙ b.loaded)
+        ∙ ap (replay 1 (of_warehouse 1 (generated 3))) (paid.kept ∙ ap (λ kept. kept ++ commits.Local command ∷ []) b.kept)
 
 pub first_refusal : (amount : ℕ) (p : PartitionState) (refusal : Refusal) → Begins (generated 3) 1 100_000 1_000_000 p → IsPayRefusal p (first_payment amount) refusal → IsFirstRefusal amount refusal
 first_refusal amount p refusal begins why = elim why [

@@ -14,6 +14,7 @@ use Rattle.hy_partition.specs.Steps.{HasSnapshot, begin_refusal}
 use Rattle.hy_schema.specs.Spelling.{tables_of}
 use Rattle.hy_partition.specs.Partition.{PartitionState, rows_now}
 use Rattle.hy_partition.specs.Snapshots.{SnapshotState}
+use Rattle.hy_undo.specs.UndoLog.{empty_log}
 use Rattle.hy_hyper.specs.Generated.{generated}
 
 -- customer 1 of district 1 pays an amount there, at moment 1
@@ -53,6 +54,7 @@ pub record IsPaid (payment : Payment) (old new : PartitionState) : Type 0 where
   pub warehouse : new.warehouse ≡ old.warehouse
   pub loaded : new.loaded ≡ old.loaded
   pub idle : new.running ≡ None
+  pub undo : new.undo ≡ empty_log new.space
   pub kept : new.kept ≡ old.kept ++ commits.Local (commands.Payment payment) ∷ []
 
 -- the payment is accepted, and W_YTD of the one warehouse is this after it

@@ -1,7 +1,11 @@
+//! The command `first`: one payment on a generated warehouse.
+
 ghost use Rattle.std.specs.Prelude.{◌≡◌, ◌⊎◌, ◌∷◌, [], length, IfErr, IfOk, IsSomeAnd, OnOk};
 ghost use Rattle.hy_schema.specs.declared.refusal.Refusal.{Refusal};
 ghost use Rattle.hy_partition.specs.Steps.{Accepts, Refuses};
-ghost use Rattle.hy_hyper.specs.First.{HasTwoSlices, IsFirstRefusal, IsPaid, IsPayRefusal, IsYtdAfter, first_payment, ytds};
+ghost use Rattle.hy_hyper.specs.First.{HasTwoSlices, IsFirstRefusal, IsPaid, IsPayRefusal, IsYtdAfter, first_payment, ytds, ytds_of};
+ghost use Rattle.hy_partition.specs.Partition.{rows_now};
+ghost use Rattle.hy_undo.specs.UndoLog.{empty_log};
 
 use crate::generator::generate;
 use hy_partition::{Job, Partition, Progress, Snapshot};
@@ -33,15 +37,8 @@ pub fn first(alloc: Global, amount: u64) -> Result<i64, Refusal>
     let mut partition = Partition::<PAGE_BYTES>::new(
         alloc, &load, WAREHOUSE, MAX_FRAMES, MAX_KEPT,
     )?;
-    if let Err(refusal) = pay(&mut partition, payment(amount)) {
-        return Err(refusal);
-    }
-    let snapshot = partition.fork(alloc)?;
-    let ytd = ytd_of(alloc, &snapshot);
-    match partition.close(snapshot) {
-        Ok(()) => ytd,
-        Err(_) => unreachable!(),
-    }
+    pay(&mut partition, payment(amount))?;
+    ytd_now(alloc, &mut partition)
 }
 
 /// Runs a payment by begin, step, step.
@@ -67,13 +64,28 @@ fn pay(partition: &mut Partition<PAGE_BYTES>, payment: Payment) -> Result<(), Re
 fn run_slices(partition: &mut Partition<PAGE_BYTES>)
     requires { IsSomeAnd partition.old.running HasTwoSlices }
     ensures { IsSomeAnd partition.old.running (λ job. Accepts job.command partition.old partition.new
-        ⊎ Refuses partition.old partition.new) }
+        ⊎ Refuses 2 partition.old partition.new) }
 {
     match partition.step() {
         Ok(Progress::More) => {
             let _progress = partition.step();
         }
         Ok(Progress::Finished) => {}
+        Err(_) => unreachable!(),
+    }
+}
+
+/// W_YTD of the one warehouse after all that is kept, as a snapshot has it.
+fn ytd_now(alloc: Global, partition: &mut Partition<PAGE_BYTES>) -> Result<i64, Refusal>
+    requires nothing_to_undo { partition.old.undo ≡ empty_log partition.old.space }
+    requires one { length (ytds_of (rows_now partition.old)) ≡ 1 }
+    ensures ytd { IfOk result (λ ytd. ytds_of (rows_now partition.old) ≡ ytd ∷ []) }
+    ensures refused { IfErr result (λ refusal. refusal ≡ Refusal.NoMemory) }
+{
+    let snapshot = partition.fork()?;
+    let ytd = ytd_of(alloc, &snapshot);
+    match partition.close(snapshot) {
+        Ok(()) => ytd,
         Err(_) => unreachable!(),
     }
 }

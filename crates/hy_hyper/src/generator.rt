@@ -1,3 +1,5 @@
+//! The generated load of one warehouse.
+
 ghost use Rattle.std.specs.Prelude.{◌≡◌, ◌⊎◌, ◌++◌, ◌∷◌, [], IfOk, OnOk, MatchResult};
 ghost use Rattle.std.specs.Fmt.{decimal};
 ghost use Rattle.hy_schema.specs.Texts.{IsText};

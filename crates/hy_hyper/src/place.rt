@@ -1,16 +1,29 @@
+//! Where files stand.
+
+ghost use Rattle.std.specs.Prelude.{◌≡◌, Option, None, IfOk, OnOk};
+ghost use Rattle.hy_hyper.specs.Files.{FilesByPath, HasFile, KeepsOthers};
+
 use std::alloc::Global;
 use std::{fs, io, rt};
 
 /// Where files stand, named by their paths.
 pub trait Place {
-    /// The bytes of a file. An `Err` where it can't be read, or for want of memory.
-    fn read(&mut self, alloc: Global, path: &str) -> io::Result<Vec<u8>>;
+    // The files, where they are known.
+    ghost files: { Self → Option FilesByPath };
 
-    /// Makes these the bytes of a file. An `Err` where it can't be written.
-    fn write(&mut self, path: &str, bytes: &[u8]) -> io::Result<()>;
+    /// The bytes of a file. An `Err` where it can't be read, or for want of memory.
+    fn read(&mut self, alloc: Global, path: &str) -> io::Result<Vec<u8>>
+        ensures bytes { IfOk result (λ bytes. HasFile (files self.old) path.now bytes.items) }
+        ensures files { files self.new ≡ files self.old };
+
+    /// Makes these the bytes of a file, which is a new one where there is none at the path. An `Err` where it can't be
+    /// written: the file may then have other bytes, or be gone.
+    fn write(&mut self, path: &str, bytes: &[u8]) -> io::Result<()>
+        ensures bytes { OnOk result (HasFile (files self.new) path.now bytes.now) }
+        ensures others { KeepsOthers (files self.old) (files self.new) path.now };
 }
 
-/// The files of the system.
+/// The files of the system. No clause knows what they have.
 #[derive(Drop)]
 pub struct Files<'a, R> {
     runtime: &'a R,
@@ -24,6 +37,8 @@ impl<'a, R: rt::Files + AllocGlobal> Files<'a, R> {
 }
 
 impl<R: rt::Files + AllocGlobal> Place for Files<'_, R> {
+    ghost files = { λ _. None };
+
     fn read(&mut self, _alloc: Global, path: &str) -> io::Result<Vec<u8>> {
         fs::read(self.runtime, path)
     }

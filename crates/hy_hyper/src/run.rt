@@ -1,31 +1,25 @@
-ghost use Rattle.std.specs.Prelude.{◌≡◌, ◌≤◌, IfErr, OnOk};
+//! The program, from its words to the way in which it ended.
+
+ghost use Rattle.std.specs.Prelude.{◌≡◌, ◌⊎◌, IfErr, OnOk};
+ghost use Rattle.hy_hyper.specs.declared.ending.Ending.{Ending};
 ghost use Rattle.hy_hyper.specs.declared.run.RunFault.TheVariants as fault;
 ghost use Rattle.hy_hyper.specs.CommandLine.{AreTaken, texts_of};
-ghost use Rattle.hy_hyper.specs.Runs.{Completes, IsFaultOf, Prints};
+ghost use Rattle.hy_hyper.specs.Refusals.{Explains};
+ghost use Rattle.hy_hyper.specs.Runs.{AreAccepted, Completes, ExplainsRefusal, IsFaultOf, Prints};
 
+use crate::ending::Ending;
 use crate::first::first;
 use crate::place::Place;
+use crate::reason::Reason;
 use crate::words::{Line, LineFault, read_words};
 use hy_schema::Refusal;
 use std::alloc::Global;
 use std::io;
-use thiserror::Error;
-
-/// The status of a run that did what the words say.
-pub const DONE: u8 = 0;
-
-/// The status of a run that was refused, or whose writer failed.
-pub const REFUSED: u8 = 1;
-
-/// The status of words that are no command line.
-pub const NO_LINE: u8 = 2;
 
 /// Why a command line wasn't done.
-#[derive(Debug, Drop, Error)]
+#[derive(Debug, Drop)]
 enum RunFault {
-    #[error("refused {0}")]
     Refused(Refusal),
-    #[error("{0}")]
     Writer(io::Error),
 }
 
@@ -45,51 +39,74 @@ impl From<io::Error> for RunFault {
     }
 }
 
-/// The program: does what the words after its name say, and answers the exit status, `DONE`, `REFUSED` or `NO_LINE`.
-/// Files are read and written at `place`. What is found is written to `out`, and why it isn't done to `err`.
+/// The program: does what the words after its name say. Files are read and written at `place`. What is found is
+/// written to `out`, and why it isn't done to `err`.
 pub fn run_words<F: Place, O: io::Write, X: io::Write>(
     alloc: Global,
     words: &[&str],
     place: &mut F,
     out: &mut O,
     err: &mut X,
-) -> u8
-    ensures status { result ≤ NO_LINE }
-    ensures done { result ≡ DONE → Completes (texts_of words.entry.now) (O.contents out.old) (O.contents out.new) }
-    ensures at_fault { result ≡ NO_LINE → ¬ (AreTaken (texts_of words.entry.now)) }
-    ensures no_line { result ≡ NO_LINE → (place.new ≡ place.old) × (out.new ≡ out.old) }
-    ensures untaken { ¬ (AreTaken (texts_of words.entry.now)) → (place.new ≡ place.old) × (out.new ≡ out.old) }
+) -> Ending
+    // No command writes a file.
+    ensures files { F.files place.new ≡ F.files place.old }
+
+    ensures done { result ≡ Ending.Done →
+        Completes (texts_of words.entry.now) (O.contents out.old) (O.contents out.new) }
+    ensures done_without_words { result ≡ Ending.Done → err.new ≡ err.old }
+
+    ensures refused { result ≡ Ending.Refused →
+        ExplainsRefusal (texts_of words.entry.now) (X.contents err.old) (X.contents err.new) }
+    ensures refused_unprinted { result ≡ Ending.Refused → out.new ≡ out.old }
+
+    // What was refused printed nothing, even where that couldn't be explained.
+    ensures writer_failed { result ≡ Ending.WriterFailed →
+        (out.new ≡ out.old) ⊎ AreAccepted (texts_of words.entry.now) }
+
+    ensures at_fault { result ≡ Ending.NoLine → ¬ (AreTaken (texts_of words.entry.now)) }
+    ensures no_line { result ≡ Ending.NoLine → (place.new ≡ place.old) × (out.new ≡ out.old) }
+    ensures untaken { ¬ (AreTaken (texts_of words.entry.now)) →
+        (place.new ≡ place.old) × (out.new ≡ out.old) }
 {
     match read_words(alloc, words) {
         Ok(line) => match run_line(alloc, line, place, out) {
-            Ok(()) => DONE,
-            Err(fault) => refuse(fault, err),
+            Ok(()) => Ending::Done,
+            Err(RunFault::Refused(refusal)) => refuse(refusal, err),
+            Err(RunFault::Writer(error)) => {
+                let _ = writeln!(err, "{error}");
+                Ending::WriterFailed
+            }
         },
         Err(LineFault::Parser(error)) => match write!(err, "{error}") {
-            Ok(()) => NO_LINE,
-            Err(_) => REFUSED,
+            Ok(()) => Ending::NoLine,
+            Err(_) => Ending::WriterFailed,
         },
-        Err(LineFault::NoMemory) => refuse(RunFault::Refused(Refusal::NoMemory), err),
+        Err(LineFault::NoMemory) => refuse(Refusal::NoMemory, err),
     }
 }
 
-/// Writes why a command line wasn't done, where that can be written, and answers `REFUSED`.
-fn refuse<X: io::Write>(fault: RunFault, err: &mut X) -> u8
-    ensures { result ≡ REFUSED }
+/// Writes the line of a refusal.
+fn refuse<X: io::Write>(refusal: Refusal, err: &mut X) -> Ending
+    ensures refused { result ≡ Ending.Refused → Explains refusal (X.contents err.old) (X.contents err.new) }
+    ensures otherwise { (result ≡ Ending.Refused) ⊎ (result ≡ Ending.WriterFailed) }
 {
-    let _ = writeln!(err, "{fault}");
-    REFUSED
+    let reason = Reason(refusal);
+    match writeln!(err, "refused {reason}") {
+        Ok(()) => Ending::Refused,
+        Err(_) => Ending::WriterFailed,
+    }
 }
 
 /// Does what a command line says.
 fn run_line<F: Place, O: io::Write>(
     alloc: Global,
     line: Line,
-    _place: &mut F,
+    place: &mut F,
     out: &mut O,
 ) -> Result<(), RunFault>
+    ensures files { F.files place.new ≡ F.files place.old }
     ensures prints { OnOk result (Prints line (O.contents out.old) (O.contents out.new)) }
-    ensures refused { IfErr result (IsFaultOf line) }
+    ensures err { IfErr result (IsFaultOf line (out.new ≡ out.old)) }
 {
     match line {
         Line::First { amount } => {

@@ -1,6 +1,6 @@
 //! Snapshots beside payments, with small and with large pages.
 
-ghost use Rattle.std.specs.Prelude.{◌≤◌};
+ghost use Rattle.hy_frames.specs.FrameTable.{IsPageSize};
 ghost use Rattle.hy_partition.specs.Steps.{Closes, Forks};
 ghost use Rattle.hy_hyper.specs.Open.{Holds, KeepsOpen};
 
@@ -15,8 +15,7 @@ const FRAMES: u64 = 1000;
 
 /// The partition of a generated warehouse of three customers a district.
 fn begun<const N: usize>(rt: &(impl Abort + AllocGlobal)) -> Partition<N>
-    requires smallest { 256 ≤ N }
-    requires largest { N ≤ 65536 }
+    requires { IsPageSize N }
 {
     let load = generate(rt.alloc(), 3).expect(rt, "a load");
     Partition::new(rt.alloc(), &load, 1, FRAMES, 1000).expect(rt, "a partition")
@@ -57,6 +56,56 @@ fn pay<const N: usize>(partition: &mut Partition<N>, amount: u64) -> Result<Repl
     }
 }
 
+/// One slice of the job that runs.
+fn slice<const N: usize>(partition: &mut Partition<N>) -> Result<Progress, Refusal>
+    ensures { KeepsOpen partition.old partition.new }
+{
+    partition.step()
+}
+
+/// The reply that waits to be taken.
+fn answer<const N: usize>(partition: &mut Partition<N>) -> Result<Reply, Refusal>
+    ensures { KeepsOpen partition.old partition.new }
+{
+    match partition.take_done() {
+        Some(done) => Ok(done.open()),
+        None => Err(Refusal::NotRunning),
+    }
+}
+
+/// The last slice of the payment that runs, and its reply.
+fn pay_rest<const N: usize>(partition: &mut Partition<N>) -> Result<Reply, Refusal>
+    ensures { KeepsOpen partition.old partition.new }
+{
+    match slice(partition) {
+        Ok(Progress::Finished) => answer(partition),
+        _ => Err(Refusal::NotRunning),
+    }
+}
+
+/// The first slice of a payment.
+fn pay_half<const N: usize>(partition: &mut Partition<N>, amount: u64) -> Result<Progress, Refusal>
+    ensures { KeepsOpen partition.old partition.new }
+{
+    if let Err((_job, refusal)) = partition.begin(payment(amount)) {
+        return Err(refusal);
+    }
+    slice(partition)
+}
+
+/// A partition with the first slice of a payment of 100 cents done, and so many frames free.
+fn half_done<const N: usize>(rt: &(impl Abort + AllocGlobal), free: u64) -> Partition<N>
+    requires { IsPageSize N }
+{
+    let mut partition: Partition<N> = begun(rt);
+    assert_eq!(rt; pay_half(&mut partition, 100), Ok(Progress::More));
+    assert_eq!(rt; partition.touched(), 2);
+    let used = FRAMES.saturating_sub(partition.free());
+    assert!(rt; partition.set_max(used.saturating_add(free)).is_ok());
+    assert_eq!(rt; partition.free(), free);
+    partition
+}
+
 /// A snapshot of all that is kept.
 fn take<const N: usize>(
     rt: &(impl Abort + AllocGlobal),
@@ -64,7 +113,7 @@ fn take<const N: usize>(
 ) -> Snapshot<N>
     ensures { Forks N partition.old partition.new result }
 {
-    partition.fork(rt.alloc()).expect(rt, "a snapshot")
+    partition.fork().expect(rt, "a snapshot")
 }
 
 /// Gives an open snapshot back.
@@ -91,13 +140,13 @@ fn ytd<const N: usize>(rt: &(impl Abort + AllocGlobal), snapshot: &Snapshot<N>) 
 
 /// A snapshot before a payment and one behind it.
 fn stays<const N: usize>(rt: &(impl Abort + AllocGlobal)) -> Result<(), Fail>
-    requires smallest { 256 ≤ N }
-    requires largest { N ≤ 65536 }
+    requires { IsPageSize N }
 {
     let mut partition: Partition<N> = begun(rt);
     let first = take(rt, &mut partition);
     assert_eq!(rt; pay(&mut partition, 100), Ok(paid(-1100)));
     let second = take(rt, &mut partition);
+    partition.spells(&second);
     assert!(rt; ytd(rt, &first) == 30_000 && first.commits() == 0);
     assert!(rt; ytd(rt, &second) == 30_100 && second.commits() == 1);
     close(&mut partition, first);
@@ -108,8 +157,7 @@ fn stays<const N: usize>(rt: &(impl Abort + AllocGlobal)) -> Result<(), Fail>
 
 /// Three snapshots with payments between them, closed in another order than they were opened.
 fn closed_in_another_order<const N: usize>(rt: &(impl Abort + AllocGlobal)) -> Result<(), Fail>
-    requires smallest { 256 ≤ N }
-    requires largest { N ≤ 65536 }
+    requires { IsPageSize N }
 {
     let mut partition: Partition<N> = begun(rt);
     let free = partition.free();
@@ -129,8 +177,7 @@ fn closed_in_another_order<const N: usize>(rt: &(impl Abort + AllocGlobal)) -> R
 
 /// A payment that finds no free frame, beside a snapshot, and once the snapshot is closed.
 fn without_a_frame<const N: usize>(rt: &(impl Abort + AllocGlobal)) -> Result<(), Fail>
-    requires smallest { 256 ≤ N }
-    requires largest { N ≤ 65536 }
+    requires { IsPageSize N }
 {
     let mut partition: Partition<N> = begun(rt);
     let used = FRAMES.saturating_sub(partition.free());
@@ -155,8 +202,7 @@ fn without_a_frame<const N: usize>(rt: &(impl Abort + AllocGlobal)) -> Result<()
 
 /// Many snapshots, each with a payment beside it.
 fn many<const N: usize>(rt: &(impl Abort + AllocGlobal)) -> Result<(), Fail>
-    requires smallest { 256 ≤ N }
-    requires largest { N ≤ 65536 }
+    requires { IsPageSize N }
 {
     let mut partition: Partition<N> = begun(rt);
     let free = partition.free();
@@ -168,6 +214,79 @@ fn many<const N: usize>(rt: &(impl Abort + AllocGlobal)) -> Result<(), Fail>
     }
     assert!(rt; partition.free() == free && partition.shared() == 0);
     assert_eq!(rt; partition.kept().len(), 50);
+    Ok(())
+}
+
+/// Lowers the limit of the frames, of which there may be `FRAMES`, to those in use.
+fn without_free_frames<const N: usize>(
+    rt: &(impl Abort + AllocGlobal),
+    partition: &mut Partition<N>,
+)
+    ensures { KeepsOpen partition.old partition.new }
+{
+    let used = FRAMES.saturating_sub(partition.free());
+    assert!(rt; partition.set_max(used).is_ok() && partition.free() == 0);
+}
+
+/// Snapshots before, between and after the slices of a payment, closed in another order.
+fn between_slices<const N: usize>(rt: &(impl Abort + AllocGlobal)) -> Result<(), Fail>
+    requires { IsPageSize N }
+{
+    let mut partition: Partition<N> = begun(rt);
+    let free = partition.free();
+    let first = take(rt, &mut partition);
+    assert_eq!(rt; pay_half(&mut partition, 100), Ok(Progress::More));
+    let second = take(rt, &mut partition);
+    assert_eq!(rt; pay_rest(&mut partition), Ok(paid(-1100)));
+    let third = take(rt, &mut partition);
+    assert!(rt; second.commits() == 0 && third.commits() == 1);
+    close(&mut partition, second);
+    assert!(rt; ytd(rt, &first) == 30_000 && ytd(rt, &third) == 30_100);
+    close(&mut partition, third);
+    assert_eq!(rt; ytd(rt, &first), 30_000);
+    close(&mut partition, first);
+    assert!(rt; partition.shared() == 0 && partition.free() == free);
+    Ok(())
+}
+
+/// Snapshots between the slices of two payments, the later one closed first.
+fn between_two_payments<const N: usize>(rt: &(impl Abort + AllocGlobal)) -> Result<(), Fail>
+    requires { IsPageSize N }
+{
+    let mut partition: Partition<N> = begun(rt);
+    let free = partition.free();
+    assert_eq!(rt; pay_half(&mut partition, 100), Ok(Progress::More));
+    let first = take(rt, &mut partition);
+    assert_eq!(rt; pay_rest(&mut partition), Ok(paid(-1100)));
+    assert_eq!(rt; pay_half(&mut partition, 500), Ok(Progress::More));
+    let second = take(rt, &mut partition);
+    assert_eq!(rt; pay_rest(&mut partition), Ok(paid(-1600)));
+    assert!(rt; ytd(rt, &first) == 30_000 && ytd(rt, &second) == 30_100);
+    close(&mut partition, second);
+    assert_eq!(rt; ytd(rt, &first), 30_000);
+    close(&mut partition, first);
+    assert!(rt; partition.shared() == 0 && partition.free() == free);
+    Ok(())
+}
+
+/// A half-done payment beside a snapshot, and no frame free: the second slice is refused, and the first undone.
+fn refused_between_slices<const N: usize>(rt: &(impl Abort + AllocGlobal)) -> Result<(), Fail>
+    requires { IsPageSize N }
+{
+    let mut partition: Partition<N> = begun(rt);
+    assert_eq!(rt; pay_half(&mut partition, 100), Ok(Progress::More));
+    let first = take(rt, &mut partition);
+    without_free_frames(rt, &mut partition);
+    assert_eq!(rt;
+        pay_rest(&mut partition),
+        Ok(Reply::Refused(Refusal::NoFrame))
+    );
+    let second = take(rt, &mut partition);
+    assert!(rt; ytd(rt, &first) == 30_000 && ytd(rt, &second) == 30_000);
+    assert!(rt; partition.kept().is_empty() && partition.touched() == 0);
+    close(&mut partition, first);
+    close(&mut partition, second);
+    assert_eq!(rt; partition.shared(), 0);
     Ok(())
 }
 
@@ -193,6 +312,46 @@ fn a_write_without_a_frame(rt: HostRuntime) -> Result<(), Fail> {
 fn frames_come_back(rt: HostRuntime) -> Result<(), Fail> {
     many::<256>(&rt)?;
     many::<4096>(&rt)
+}
+
+#[test]
+fn forks_between_slices(rt: HostRuntime) -> Result<(), Fail> {
+    between_slices::<256>(&rt)?;
+    between_slices::<4096>(&rt)?;
+    between_two_payments::<256>(&rt)?;
+    between_two_payments::<4096>(&rt)
+}
+
+#[test]
+fn rollback_without_frames(rt: HostRuntime) -> Result<(), Fail> {
+    refused_between_slices::<256>(&rt)?;
+    refused_between_slices::<4096>(&rt)
+}
+
+#[test]
+fn thin_half_done(rt: HostRuntime) -> Result<(), Fail> {
+    let mut partition: Partition<4096> = half_done(&rt, 3);
+    let snapshot = take(&rt, &mut partition);
+    assert!(rt; ytd(&rt, &snapshot) == 30_000 && partition.free() == 1);
+    assert_eq!(rt; pay_rest(&mut partition), Ok(paid(-1100)));
+    assert_eq!(rt; partition.free(), 0);
+    close(&mut partition, snapshot);
+    let mut partition: Partition<4096> = half_done(&rt, 2);
+    let snapshot = take(&rt, &mut partition);
+    assert!(rt; ytd(&rt, &snapshot) == 30_000 && partition.free() == 0);
+    assert_eq!(rt;
+        pay_rest(&mut partition),
+        Ok(Reply::Refused(Refusal::NoFrame))
+    );
+    close(&mut partition, snapshot);
+    let mut partition: Partition<4096> = half_done(&rt, 1);
+    match partition.fork() {
+        Ok(_) => panic!(rt; "two pages in one frame"),
+        Err(refusal) => assert_eq!(rt; refusal, Refusal::NoFrame),
+    }
+    assert!(rt; partition.shared() == 0 && partition.free() == 1 && partition.touched() == 2);
+    assert_eq!(rt; pay_rest(&mut partition), Ok(paid(-1100)));
+    Ok(())
 }
 
 #[test]

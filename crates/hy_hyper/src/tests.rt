@@ -1,7 +1,14 @@
+//! Tests of the program.
+
+ghost use Rattle.std.specs.Prelude.{None, Some};
+
+use crate::ending::Ending;
 use crate::generator::generate;
 use crate::place::Place;
+use crate::reason::Reason;
 use crate::run::run_words;
 use crate::words::{Line, read_words};
+use hy_schema::{LoadFault, Refusal};
 use std::alloc::Global;
 use std::io;
 use std::test::Fail;
@@ -11,6 +18,8 @@ use std::test::Fail;
 struct Nowhere;
 
 impl Place for Nowhere {
+    ghost files = { λ _. Some (λ _. None) };
+
     fn read(&mut self, _alloc: Global, _path: &str) -> io::Result<Vec<u8>> {
         Err(io::Error::from(io::ErrorKind::NotFound))
     }
@@ -81,8 +90,8 @@ fn refuses_other_words(rt: HostRuntime) -> Result<(), Fail> {
     for (words, text) in cases {
         let mut out = Vec::new(alloc);
         let mut err = Vec::new(alloc);
-        let status = run_words(alloc, words, &mut Nowhere, &mut out, &mut err);
-        assert_eq!(rt; status, 2);
+        let ending = run_words(alloc, words, &mut Nowhere, &mut out, &mut err);
+        assert!(rt; ending == Ending::NoLine && ending.status() == 2);
         assert!(rt; out.is_empty());
         assert!(rt; err.as_slice().starts_with(text.as_bytes()), "not {text}");
     }
@@ -100,8 +109,8 @@ fn prints_the_total(rt: HostRuntime) -> Result<(), Fail> {
     for (words, text) in cases {
         let mut out = Vec::new(alloc);
         let mut err = Vec::new(alloc);
-        let status = run_words(alloc, words, &mut Nowhere, &mut out, &mut err);
-        assert_eq!(rt; status, 0);
+        let ending = run_words(alloc, words, &mut Nowhere, &mut out, &mut err);
+        assert!(rt; ending == Ending::Done && ending.status() == 0);
         assert!(rt; out.as_slice() == text && err.is_empty());
     }
     Ok(())
@@ -114,9 +123,40 @@ fn prints_a_refusal(rt: HostRuntime) -> Result<(), Fail> {
         let mut out = Vec::new(alloc);
         let mut err = Vec::new(alloc);
         let words = ["first", "--amount", amount];
-        let status = run_words(alloc, &words, &mut Nowhere, &mut out, &mut err);
-        assert_eq!(rt; status, 1);
+        let ending = run_words(alloc, &words, &mut Nowhere, &mut out, &mut err);
+        assert!(rt; ending == Ending::Refused && ending.status() == 1);
         assert!(rt; out.is_empty() && err.as_slice() == b"refused E8 OutOfRange\n".as_slice());
+    }
+    Ok(())
+}
+
+#[test]
+fn reasons_are_the_texts_of_refusals(rt: HostRuntime) -> Result<(), Fail> {
+    let alloc = rt.alloc();
+    let refusals = [
+        Refusal::NoMemory,
+        Refusal::NoFrame,
+        Refusal::HistoryFull,
+        Refusal::NoSuchWarehouse,
+        Refusal::NoSuchDistrict,
+        Refusal::NoSuchCustomer,
+        Refusal::NoSuchItem,
+        Refusal::OutOfRange,
+        Refusal::Busy,
+        Refusal::NotRunning,
+        Refusal::NotMine,
+        Refusal::BadLoad(LoadFault::Condition(12)),
+        Refusal::BadQuery(3),
+        Refusal::LogFailed,
+        Refusal::LogMalformed(4),
+        Refusal::Closed,
+        Refusal::QueueFull,
+    ];
+    for refusal in refusals {
+        let reason = Reason(refusal);
+        let printed = format!(in alloc; "{reason}").expect(&rt, "a text");
+        let text = format!(in alloc; "{refusal}").expect(&rt, "a text");
+        assert_eq!(rt; printed.as_str(), text.as_str());
     }
     Ok(())
 }
@@ -127,15 +167,18 @@ fn answers_1_where_a_writer_fails(rt: HostRuntime) -> Result<(), Fail> {
     let mut text = Vec::new(alloc);
     assert_eq!(rt;
         run_words(alloc, &["first"], &mut Nowhere, &mut Broken, &mut text),
-        1
+        Ending::WriterFailed
     );
     assert!(rt; !text.is_empty());
-    let mut text = Vec::new(alloc);
-    assert_eq!(rt;
-        run_words(alloc, &["--help"], &mut Nowhere, &mut text, &mut Broken),
-        1
-    );
-    assert!(rt; text.is_empty());
+    for words in [["--help"].as_slice(), &["first", "--amount", "99"]] {
+        let mut text = Vec::new(alloc);
+        assert_eq!(rt;
+            run_words(alloc, words, &mut Nowhere, &mut text, &mut Broken),
+            Ending::WriterFailed
+        );
+        assert!(rt; text.is_empty());
+    }
+    assert_eq!(rt; Ending::WriterFailed.status(), 1);
     Ok(())
 }
 

@@ -1,3 +1,5 @@
+//! Reads a command line.
+
 ghost use Rattle.std.specs.Prelude.{◌≡◌, IfOk, IfErr, IfSome, MatchResult, true, false};
 ghost use Rattle.clap.specs.Faults.{fault_of};
 ghost use Rattle.clap.specs.Words.{HasKind, app_of, found_of, has_subcommand, rows_of, subcommand_of, subcommand_rows_of};
@@ -31,11 +33,22 @@ pub enum LineFault {
     NoMemory,
 }
 
+impl From<clap::Error> for LineFault {
+    ghost from_gives = { IsBehind };
+
+    fn from(error: clap::Error) -> LineFault {
+        match error.kind() {
+            ErrorKind::OutOfMemory => LineFault::NoMemory,
+            _ => LineFault::Parser(error),
+        }
+    }
+}
+
 /// Reads the words after the program's name.
 pub fn read_words<'a>(alloc: Global, words: &'a [&'a str]) -> Result<Line, LineFault>
     ensures { MatchResult result (Says (texts_of words.entry.now)) (HasFault (texts_of words.entry.now)) }
 {
-    let matches = parse(alloc, words).map_err(fault_behind)?;
+    let matches = parse(alloc, words)?;
     let Some((name, given)) = matches.subcommand() else {
         unreachable!()
     };
@@ -51,21 +64,13 @@ pub fn read_words<'a>(alloc: Global, words: &'a [&'a str]) -> Result<Line, LineF
 /// What the parser finds in the words.
 fn parse<'a>(alloc: Global, words: &'a [&'a str]) -> Result<ArgMatches<'a>, clap::Error>
     ensures ok { IfOk result (λ matches. AreTaken (texts_of words.entry.now)
-        × (subcommand_rows_of matches ≡ subcommand_of program_app (texts_of words.entry.now)) × (has_subcommand matches ≡ true)) }
-    ensures number { IfOk result (λ matches. IfSome (subcommand_rows_of matches) (λ command. HasNumber command.1)) }
+        × (subcommand_rows_of matches ≡ subcommand_of program_app (texts_of words.entry.now))
+        × (has_subcommand matches ≡ true)) }
+    ensures number { IfOk result (λ matches.
+        IfSome (subcommand_rows_of matches) (λ command. HasNumber command.1)) }
     ensures err { IfErr result (HasKind (fault_of program_app (texts_of words.entry.now))) }
 {
     program(alloc)?.try_get_matches_from(words)
-}
-
-/// The fault behind an error of the parser.
-fn fault_behind(error: clap::Error) -> LineFault
-    ensures { IsBehind error result }
-{
-    match error.kind() {
-        ErrorKind::OutOfMemory => LineFault::NoMemory,
-        _ => LineFault::Parser(error),
-    }
 }
 
 /// The amount that is given to `first`.

@@ -1,19 +1,42 @@
 use Rattle.std.proofs.Common.{rules, ◌≡◌, ℤ, Result, Err, IfErr, sym, subst}
+use Rattle.std.proofs.lemmas.Result.{IfOk-weaker}
 use Rattle.hy_schema.specs.declared.refusal.Refusal.{Refusal}
 use Rattle.hy_schema.specs.declared.command.Payment.{Payment}
 use Rattle.hy_schema.specs.Tables.{Tables}
 use Rattle.hy_partition.specs.Steps.{Begins}
-use Rattle.hy_hyper.specs.First.{IsFirstRefusal, IsPayRefusal}
-use Rattle.hy_hyper.proofs.FirstLaws.{first_refusal, generated_refusal}
+use Rattle.hy_hyper.specs.First.{IsFirstRefusal, IsPaid, IsPayRefusal}
+use Rattle.hy_hyper.proofs.FirstLaws.{first_refusal, generated_refusal, ytd_after}
 use Rattle.hy_hyper.proofs.first.first.Goals as goal
 
-pub returns-in-Err-clause-refused : goal.returns-in-Err-clause-refused
-returns-in-Err-clause-refused c =
-    let begins = subst (λ (load : Tables). Begins load 1 100_000 1_000_000 c.in_ok-partition.partition) c.in_ok-load.ensures c.in_ok-partition.ensures.begins in
-    let why = subst (λ (payment : Payment). IsPayRefusal c.in_ok-partition.partition payment c.in-Err.refusal) c.payment.ensures c.in-Err.ensures.refused in
-    first_refusal c.args.amount c.in_ok-partition.partition c.in-Err.refusal begins why
+-- what refuses the payment refuses `first`
+pub returns-in_err-pay-clause-refused : goal.returns-in_err-pay-clause-refused
+returns-in_err-pay-clause-refused c =
+    let partition = c.in_ok-partition.partition in
+    let refusal = c.in_err-pay.field-0.0 in
+    let begins =
+    subst (λ (load : Tables). Begins load 1 100_000 1_000_000 partition)
+    c.in_ok-load.ensures c.in_ok-partition.ensures.begins in
+    let why =
+    subst (λ (payment : Payment). IsPayRefusal partition payment refusal)
+    c.payment.ensures c.in_err-pay.ensures.refused in
+    let is : c.from_residual-in_err-pay.result ≡ Err refusal = search rules in
+    subst (λ (r : Result ℤ Refusal). IfErr r (IsFirstRefusal c.args.amount)) (sym is)
+    (first_refusal c.args.amount partition refusal begins why)
 
 pub returns-in_err-load-clause-refused : goal.returns-in_err-load-clause-refused
 returns-in_err-load-clause-refused c =
     let is : c.from_residual.result ≡ Err c.in_err-load.field-0.0 = search rules in
-    subst (λ (r : Result ℤ Refusal). IfErr r (IsFirstRefusal c.args.amount)) (sym is) (generated_refusal c.args.amount c.in_err-load.field-0.0 c.in_err-load.ensures)
+    subst (λ (r : Result ℤ Refusal). IfErr r (IsFirstRefusal c.args.amount)) (sym is)
+    (generated_refusal c.args.amount c.in_err-load.field-0.0 c.in_err-load.ensures)
+
+-- what the snapshot shows is W_YTD after the payment
+pub returns-clause-ytd : goal.returns-clause-ytd
+returns-clause-ytd c =
+    let partition = c.in_ok-partition.partition in
+    let begins =
+    subst (λ (load : Tables). Begins load 1 100_000 1_000_000 partition)
+    c.in_ok-load.ensures c.in_ok-partition.ensures.begins in
+    let paid =
+    subst (λ (payment : Payment). IsPaid payment partition c.pay.new.partition)
+    c.payment.ensures c.in_ok-pay.ensures.paid in
+    IfOk-weaker c.ytd_now.result _ _ (λ ytd is. ytd_after c.args.amount partition c.pay.new.partition ytd begins paid is) c.ytd_now.ensures.ytd

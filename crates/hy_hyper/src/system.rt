@@ -1,0 +1,39 @@
+//! The program on the system that it runs on.
+
+use crate::ending::Ending;
+use crate::place::Files;
+use crate::reason::Reason;
+use crate::run::run_words;
+use hy_schema::Refusal;
+use std::io::{self, Write};
+
+/// Runs the program on its words, with the files and streams of the system.
+pub fn run_on_system(rt: &HostRuntime) -> Ending {
+    match run_arguments(rt) {
+        Ok(ending) => ending,
+        Err(error) => {
+            let reason = Reason(Refusal::NoMemory);
+            let _ = match error.kind() {
+                io::ErrorKind::OutOfMemory => writeln!(rt.stderr(), "refused {reason}"),
+                _ => writeln!(rt.stderr(), "{error}"),
+            };
+            Ending::Refused
+        }
+    }
+}
+
+/// Runs the program on the words after its name, where these can be read.
+fn run_arguments(rt: &HostRuntime) -> io::Result<Ending> {
+    let alloc = rt.alloc();
+    let words: Vec<String> = std::env::args(rt)?.skip(1).collect(alloc)?;
+    let texts: Vec<&str> = words.iter().map(|word| word.as_str()).collect(alloc)?;
+    let mut files = Files::new(rt);
+    let ending = run_words(
+        alloc,
+        texts.as_slice(),
+        &mut files,
+        &mut rt.stdout(),
+        &mut rt.stderr(),
+    );
+    Ok(ending)
+}
