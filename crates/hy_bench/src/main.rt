@@ -1,0 +1,45 @@
+//! Does one piece of work of the crates below many times over, so that a clock outside can time it. The words: the work,
+//! how many rounds of it, and up to two sizes.
+#![tactic(auto)]
+
+mod payment_rounds;
+mod space_rounds;
+
+use std::alloc::Global;
+use std::process::ExitCode;
+
+fn main(rt: HostRuntime) -> ExitCode {
+    match run(&rt) {
+        Some(seen) => {
+            let _ = println!(rt; "{seen}");
+            ExitCode::from(0)
+        }
+        None => ExitCode::from(1),
+    }
+}
+
+/// What the rounds left to see, or nothing where the words are no work or memory ran out.
+fn run(rt: &HostRuntime) -> Option<u64> {
+    let alloc = rt.alloc();
+    let words = std::env::args(rt)
+        .ok()?
+        .skip(1)
+        .collect::<Vec<String>>(alloc)
+        .ok()?;
+    let work = words.get(0)?.as_str();
+    let rounds = number(&words, 1);
+    let size = number(&words, 2);
+    let writes = number(&words, 3);
+    match work {
+        "pay" => payment_rounds::run(alloc, rounds, size),
+        _ => space_rounds::run(alloc, work, rounds, size, writes),
+    }
+}
+
+/// The number that a word spells, and 0 where there is no such word.
+fn number(words: &[String], at: usize) -> u64 {
+    match words.get(at) {
+        Some(word) => word.as_str().parse::<u64>().unwrap_or(0),
+        None => 0,
+    }
+}
