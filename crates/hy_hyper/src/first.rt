@@ -63,7 +63,7 @@ fn pay(partition: &mut Partition<PAGE_BYTES>, payment: Payment) -> Result<(), Re
 /// Runs a job of two slices: the first, and the second where the first isn't refused.
 fn run_slices(partition: &mut Partition<PAGE_BYTES>)
     requires { IsSomeAnd partition.old.running HasTwoSlices }
-    ensures { IsSomeAnd partition.old.running (λ job. Accepts job.command partition.old partition.new
+    ensures { IsSomeAnd partition.old.running (λ job. Accepts 2 job.command partition.old partition.new
         ⊎ Refuses 2 partition.old partition.new) }
 {
     match partition.step() {

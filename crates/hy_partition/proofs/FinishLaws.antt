@@ -16,7 +16,7 @@ use Rattle.hy_partition.specs.Jobs.{RunningJob, slice_count, most_writes}
 use Rattle.hy_partition.specs.Partition.{PartitionState, rows_now}
 use Rattle.hy_partition.specs.Soundness.{IsSound}
 use Rattle.hy_partition.specs.Steps.{Accepts, Ends, KeepsRest, Refuses, StepsTo}
-use Rattle.hy_undo.specs.UndoLog.{undone}
+use Rattle.hy_undo.specs.UndoLog.{page_counts, undone}
 use Rattle.hy_partition.specs.declared.job.Progress.{Progress}
 use Rattle.hy_partition.specs.declared.job.Progress.TheVariants as progress
 use Rattle.hy_partition.proofs.SoundLaws.{runs}
@@ -26,12 +26,13 @@ pub record IsUnderWay (old now : PartitionState) (first job : RunningJob) : Type
   pub command : job.command ≡ first.command
   pub kept : now.kept ≡ old.kept
   pub bytes : undone (owner_bytes now.space) now.undo ≡ undone (owner_bytes old.space) old.undo
+  pub pages : page_counts now.space ≡ page_counts old.space
   pub frames : free_of old.space.frames + most_writes * first.slices ≤ free_of now.space.frames + most_writes * job.slices
   pub rest : KeepsRest old now
 
 -- what some steps have reached of the job that ran at first
 abbrev pub Reached : PartitionState → PartitionState → Type 0
-Reached old now = MatchOption old.running (now ≡ old) (λ first. MatchOption now.running (Accepts first.command old now ⊎ Refuses (slice_count first.command) old now) (IsUnderWay old now first))
+Reached old now = MatchOption old.running (now ≡ old) (λ first. MatchOption now.running (Accepts (slice_count first.command) first.command old now ⊎ Refuses (slice_count first.command) old now) (IsUnderWay old now first))
 
 keeps_rest-then : (old now new : PartitionState) → KeepsRest old now → KeepsRest now new → KeepsRest old new
 keeps_rest-then old now new first second = record {
@@ -49,13 +50,14 @@ ends-then old now new reply first ends = record { running = ends.running; undo =
 pub reached-start : (p : PartitionState) → Reached p p
 reached-start p = at p.running refl
   where
-    at : (running : Option RunningJob) → p.running ≡ running → MatchOption running (p ≡ p) (λ first. MatchOption p.running (Accepts first.command p p ⊎ Refuses (slice_count first.command) p p) (IsUnderWay p p first))
+    at : (running : Option RunningJob) → p.running ≡ running → MatchOption running (p ≡ p) (λ first. MatchOption p.running (Accepts (slice_count first.command) first.command p p ⊎ Refuses (slice_count first.command) p p) (IsUnderWay p p first))
     at None is = refl
     at (Some first) is =
-        subst (λ (running : Option RunningJob). MatchOption running (Accepts first.command p p ⊎ Refuses (slice_count first.command) p p) (IsUnderWay p p first)) (sym is) (record {
+        subst (λ (running : Option RunningJob). MatchOption running (Accepts (slice_count first.command) first.command p p ⊎ Refuses (slice_count first.command) p p) (IsUnderWay p p first)) (sym is) (record {
           command = refl;
           kept = refl;
           bytes = refl;
+          pages = refl;
           frames = omega arith;
           rest = record { warehouse = refl; loaded = refl; max_kept = refl; snapshots = refl; max_frames = refl; children = record { tables = refl; bytes = λ child. refl } };
         })
@@ -63,8 +65,17 @@ reached-start p = at p.running refl
 same_rows : (old now : PartitionState) → KeepsRest old now → now.kept ≡ old.kept → rows_now now ≡ rows_now old
 same_rows old now rest kept = ap (λ w. replay w now.loaded now.kept) rest.warehouse ∙ ap (λ l. replay old.warehouse l now.kept) rest.loaded ∙ ap (replay old.warehouse old.loaded) kept
 
-accepts-then : (old now new : PartitionState) (first job : RunningJob) → IsUnderWay old now first job → Accepts job.command now new → Accepts first.command old new
-accepts-then old now new first job way accepts = record {
+-- each command has two slices at least
+two_slices : (command : Command) → 2 ≤ slice_count command
+two_slices (commands.Payment payment) = omega arith
+
+accepts-then : (old now new : PartitionState) (first job : RunningJob) → job.slices ≤ 1 → IsUnderWay old now first job → Accepts 1 job.command now new → Accepts (slice_count first.command) first.command old new
+accepts-then old now new first job few way accepts = record {
+  frames = record {
+    pages = accepts.frames.pages ∙ way.pages;
+    frames = omega (arith, few, way.frames, accepts.frames.frames, two_slices first.command);
+    limit = accepts.frames.limit ∙ way.rest.max_frames;
+  };
   accepted =
       sym (ap (λ w. refusal_of w job.command (rows_now now)) way.rest.warehouse ∙ ap (λ command. refusal_of old.warehouse command (rows_now now)) way.command ∙ ap (refusal_of old.warehouse first.command) (same_rows old now way.rest way.kept))
       ∙ accepts.accepted;
@@ -75,12 +86,9 @@ accepts-then old now new first job way accepts = record {
       (ends-then old now new _ way.rest accepts.ends);
 }
 
--- each command has two slices at least
-two_slices : (command : Command) → 2 ≤ slice_count command
-two_slices (commands.Payment payment) = omega arith
-
 refuses-then : (old now new : PartitionState) (first job : RunningJob) → job.slices ≤ 1 → IsUnderWay old now first job → Refuses 1 now new → Refuses (slice_count first.command) old new
 refuses-then old now new first job few way refuses = record {
+  frames = omega (arith, few, way.frames, refuses.frames, two_slices first.command);
   kept = refuses.kept ∙ way.kept;
   bytes = refuses.bytes ∙ way.bytes;
   reason = elim refuses.reason [
@@ -97,24 +105,25 @@ refuses-then old now new first job few way refuses = record {
 
 -- one step more
 module _ (old now new : PartitionState) (first job : RunningJob) (few : job.slices ≤ 1) (way : IsUnderWay old now first job) where
-  ended : new.running ≡ None → Accepts first.command old new ⊎ Refuses (slice_count first.command) old new → MatchOption new.running (Accepts first.command old new ⊎ Refuses (slice_count first.command) old new) (IsUnderWay old new first)
-  ended none how = subst (λ (running : Option RunningJob). MatchOption running (Accepts first.command old new ⊎ Refuses (slice_count first.command) old new) (IsUnderWay old new first)) (sym none) how
+  ended : new.running ≡ None → Accepts (slice_count first.command) first.command old new ⊎ Refuses (slice_count first.command) old new → MatchOption new.running (Accepts (slice_count first.command) first.command old new ⊎ Refuses (slice_count first.command) old new) (IsUnderWay old new first)
+  ended none how = subst (λ (running : Option RunningJob). MatchOption running (Accepts (slice_count first.command) first.command old new ⊎ Refuses (slice_count first.command) old new) (IsUnderWay old new first)) (sym none) how
 
   refused_running : Refuses 1 now new → new.running ≡ None
   refused_running refuses = elim refuses.reason [ inl memory ↦ memory.running | inr frame ↦ frame.0.running ]
 
-  stepped : (reached : Progress) → StepsTo job now new reached → MatchOption new.running (Accepts first.command old new ⊎ Refuses (slice_count first.command) old new) (IsUnderWay old new first)
+  stepped : (reached : Progress) → StepsTo job now new reached → MatchOption new.running (Accepts (slice_count first.command) first.command old new ⊎ Refuses (slice_count first.command) old new) (IsUnderWay old new first)
   stepped progress.More steps =
       let more = steps.1 in
-      subst (λ (running : Option RunningJob). MatchOption running (Accepts first.command old new ⊎ Refuses (slice_count first.command) old new) (IsUnderWay old new first)) (sym more.running) (record {
+      subst (λ (running : Option RunningJob). MatchOption running (Accepts (slice_count first.command) first.command old new ⊎ Refuses (slice_count first.command) old new) (IsUnderWay old new first)) (sym more.running) (record {
         command = way.command;
         kept = more.kept ∙ way.kept;
         bytes = more.bytes ∙ way.bytes;
+        pages = more.frames.pages ∙ way.pages;
         frames = omega (arith, way.frames, more.frames.frames);
         rest = keeps_rest-then old now new way.rest more.rest;
       })
   stepped progress.Finished steps = elim steps [
-    | inl last ↦ ended last.1.ends.running (inl (accepts-then old now new first job way last.1))
+    | inl last ↦ ended last.1.ends.running (inl (accepts-then old now new first job few way last.1))
     | inr refuses ↦ ended (refused_running refuses) (inr (refuses-then old now new first job few way refuses))
   ]
 
@@ -123,25 +132,25 @@ pub reached-step : (old now new : PartitionState) (outcome : Result Progress Ref
 reached-step old now new outcome running few reached step = at old.running now.running refl refl reached step
   where
     at : (before current : Option RunningJob) → old.running ≡ before → now.running ≡ current
-        → MatchOption before (now ≡ old) (λ first. MatchOption current (Accepts first.command old now ⊎ Refuses (slice_count first.command) old now) (IsUnderWay old now first))
+        → MatchOption before (now ≡ old) (λ first. MatchOption current (Accepts (slice_count first.command) first.command old now ⊎ Refuses (slice_count first.command) old now) (IsUnderWay old now first))
         → MatchOption current ((outcome ≡ Err refusals.NotRunning) × (new ≡ now)) (λ job. IsOkAnd outcome (StepsTo job now new))
-        → MatchOption before (new ≡ old) (λ first. MatchOption new.running (Accepts first.command old new ⊎ Refuses (slice_count first.command) old new) (IsUnderWay old new first))
+        → MatchOption before (new ≡ old) (λ first. MatchOption new.running (Accepts (slice_count first.command) first.command old new ⊎ Refuses (slice_count first.command) old new) (IsUnderWay old new first))
     at None current before_is current_is same step = let none : now.running ≡ None = ap (λ p. p.running) same ∙ before_is in absurd (cc)
     at (Some first) None before_is current_is way step = absurd (cc)
     at (Some first) (Some job) before_is current_is way step = by outcome step
       where
-        by : (outcome : Result Progress Refusal) → IsOkAnd outcome (StepsTo job now new) → MatchOption new.running (Accepts first.command old new ⊎ Refuses (slice_count first.command) old new) (IsUnderWay old new first)
+        by : (outcome : Result Progress Refusal) → IsOkAnd outcome (StepsTo job now new) → MatchOption new.running (Accepts (slice_count first.command) first.command old new ⊎ Refuses (slice_count first.command) old new) (IsUnderWay old new first)
         by (Ok reached) steps = stepped old now new first job (few job current_is) way reached steps
         by (Err refusal) steps = absurd steps
 
 -- the steps have ended
-pub reached-end : (old now : PartitionState) → now.running ≡ None → Reached old now → MatchOption old.running (now ≡ old) (λ first. Accepts first.command old now ⊎ Refuses (slice_count first.command) old now)
+pub reached-end : (old now : PartitionState) → now.running ≡ None → Reached old now → MatchOption old.running (now ≡ old) (λ first. Accepts (slice_count first.command) first.command old now ⊎ Refuses (slice_count first.command) old now)
 reached-end old now none reached = at old.running reached
   where
-    at : (before : Option RunningJob) → MatchOption before (now ≡ old) (λ first. MatchOption now.running (Accepts first.command old now ⊎ Refuses (slice_count first.command) old now) (IsUnderWay old now first))
-        → MatchOption before (now ≡ old) (λ first. Accepts first.command old now ⊎ Refuses (slice_count first.command) old now)
+    at : (before : Option RunningJob) → MatchOption before (now ≡ old) (λ first. MatchOption now.running (Accepts (slice_count first.command) first.command old now ⊎ Refuses (slice_count first.command) old now) (IsUnderWay old now first))
+        → MatchOption before (now ≡ old) (λ first. Accepts (slice_count first.command) first.command old now ⊎ Refuses (slice_count first.command) old now)
     at None same = same
-    at (Some first) reached = subst (λ (running : Option RunningJob). MatchOption running (Accepts first.command old now ⊎ Refuses (slice_count first.command) old now) (IsUnderWay old now first)) none reached
+    at (Some first) reached = subst (λ (running : Option RunningJob). MatchOption running (Accepts (slice_count first.command) first.command old now ⊎ Refuses (slice_count first.command) old now) (IsUnderWay old now first)) none reached
 
 -- how many steps are left at most
 abbrev pub steps_left : Option RunningJob → ℕ

@@ -123,10 +123,10 @@ steps-more n p job space undo next next_is slice can_undo = (
 
 -- a slice that is refused ends the job, and the pages are put back
 pub steps-refused : (n : ℕ) (p : PartitionState) (job : RunningJob) (mid space : SpaceState) (before undo : UndoLog) (reply : Reply)
-    → CanUndo n most_writes p.space mid p.undo before → undo ≡ empty_log space → owner_bytes space ≡ undone (owner_bytes mid) before → SameForChildren mid space → space.frames.max ≡ mid.frames.max
+    → CanUndo n most_writes p.space mid p.undo before → undo ≡ empty_log space → owner_bytes space ≡ undone (owner_bytes mid) before → SameForChildren mid space → free_of mid.frames ≤ free_of space.frames → space.frames.max ≡ mid.frames.max
     → (reply ≡ replies.Refused refusals.NoMemory) ⊎ ((reply ≡ replies.Refused refusals.NoFrame) × LacksFrames 1 p)
     → StepsTo job p (record p { running = None; undo = undo; finished = Some reply; space = space }) progress.Finished
-steps-refused n p job mid space before undo reply can_undo none bytes children limit why =
+steps-refused n p job mid space before undo reply can_undo none bytes children free limit why =
     let rest : KeepsRest p (record p { running = None; undo = undo; finished = Some reply; space = space }) = record {
       warehouse = refl;
       loaded = refl;
@@ -138,6 +138,7 @@ steps-refused n p job mid space before undo reply can_undo none bytes children l
     inr (record {
       kept = refl;
       bytes = bytes ∙ can_undo.undone;
+      frames = omega (arith, can_undo.frames.frames, free);
       reason = elim why [
         | inl memory ↦ inl (record { running = refl; undo = none; finished = ap Some memory; rest = rest })
         | inr frame ↦ inr (record { running = refl; undo = none; finished = ap Some frame.0; rest = rest }, frame.1)

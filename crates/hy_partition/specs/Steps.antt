@@ -59,11 +59,13 @@ pub record Ends (old new : PartitionState) (reply : Reply) : Type 0 where
   pub finished : new.finished ≡ Some reply
   pub rest : KeepsRest old new
 
--- the command was accepted: it is kept, once and behind all others, and the reply is the warehouse's to it
-pub record Accepts (command : Command) (old new : PartitionState) : Type 0 where
+-- within so many slices the command was accepted: it is kept, once and behind all others, the reply is the warehouse's to
+-- it, and a frame was taken for no more pages than these slices write
+pub record Accepts (slices : ℕ) (command : Command) (old new : PartitionState) : Type 0 where
   pub accepted : refusal_of old.warehouse command (rows_now old) ≡ None
   pub kept : new.kept ≡ old.kept ++ commits.Local command ∷ []
   pub ends : Ends old new (act old.warehouse command (rows_now old)).reply
+  pub frames : TakesFrames (most_writes * slices) old.space new.space
 
 -- some snapshot is open
 abbrev pub HasSnapshot : PartitionState → Type 0
@@ -75,17 +77,18 @@ pub record LacksFrames (slices : ℕ) (p : PartitionState) : Type 0 where
   pub open_snapshot : HasSnapshot p
 
 -- within so many slices the command was refused for want of memory, or of a frame where too few were free and a snapshot
--- was open: what is kept stays, and the pages are as they were when the job began
+-- was open: what is kept stays, the pages are as they were when the job began, and as many frames were taken at most
 pub record Refuses (slices : ℕ) (old new : PartitionState) : Type 0 where
   pub kept : new.kept ≡ old.kept
   pub bytes : owner_bytes new.space ≡ undone (owner_bytes old.space) old.undo
+  pub frames : free_of old.space.frames ≤ free_of new.space.frames + most_writes * slices
   pub reason : Ends old new (replies.Refused refusals.NoMemory)
       ⊎ (Ends old new (replies.Refused refusals.NoFrame) × LacksFrames slices old)
 
 -- what one step of a job does: the last slice finishes it, and so does a refusal
 abbrev pub StepsTo : RunningJob → PartitionState → PartitionState → Progress → Type 0
 StepsTo job old new progress.More = (is_last job ≡ false) × Continues job old new
-StepsTo job old new progress.Finished = ((is_last job ≡ true) × Accepts job.command old new) ⊎ Refuses 1 old new
+StepsTo job old new progress.Finished = ((is_last job ≡ true) × Accepts 1 job.command old new) ⊎ Refuses 1 old new
 
 -- what no snapshot changes: the warehouse with its job
 pub record KeepsJob (old new : PartitionState) : Type 0 where

@@ -161,7 +161,7 @@ impl<const N: usize> Partition<N> {
 
     /// Steps until nothing runs.
     pub fn finish_running(&mut self)
-        ensures { MatchOption self.old.running (self.new ≡ self.old) (λ job. Accepts job.command self.old self.new ⊎ Refuses (slice_count job.command) self.old self.new) }
+        ensures { MatchOption self.old.running (self.new ≡ self.old) (λ job. Accepts (slice_count job.command) job.command self.old self.new ⊎ Refuses (slice_count job.command) self.old self.new) }
     {
         while self.running.is_some() {
             let _progress = self.step();

@@ -45,7 +45,7 @@ returns-in-Err g c =
     let why = refused_why c.in-Err.shortage c.new-in-Err.result (LacksFrames 1 p) (c.new-in-Err.ensures ∙ ap replies.Refused c.refusal_for_shortage.ensures)
     (λ full. lacks_frames g.row.N _ p c.run_slice.new.space c.self.invariant c.run_slice.ensures.can_undo.children (c.run_slice.ensures.no_frame (c.in-Err.is ∙ ap Err full)) c.run_slice.ensures.can_undo.frames.frames) in
     step-running c.args.self.now p _ job progress.Finished (Ok progress.Finished) refl c.self.view_is c.in-Some.is
-    (steps-refused g.row.N p job c.run_slice.new.space c.roll_back.new.space c.run_slice.new.undo c.roll_back.new.self c.new-in-Err.result c.run_slice.ensures.can_undo c.roll_back.ensures.log c.roll_back.ensures.bytes c.roll_back.ensures.children c.roll_back.ensures.limit why)
+    (steps-refused g.row.N p job c.run_slice.new.space c.roll_back.new.space c.run_slice.new.undo c.roll_back.new.self c.new-in-Err.result c.run_slice.ensures.can_undo c.roll_back.ensures.log c.roll_back.ensures.bytes c.roll_back.ensures.children c.roll_back.ensures.free c.roll_back.ensures.limit why)
 
 pub invariant_of-self-in-Err : goal.invariant_of-self-in-Err
 invariant_of-self-in-Err g c =
