@@ -10,7 +10,7 @@ const SIZE: usize = 4096;
 /// Payments of the first customer of the first district, in a warehouse with so many customers in each district.
 pub fn run(alloc: Global, rounds: u64, customers: u64) -> Option<u64> {
     let load = load_with(alloc, (customers % 3001) as u16).ok()?;
-    if load.warehouses().is_empty() {
+    if load.list::<Warehouse>().is_empty() {
         return None;
     }
     let mut partition: Partition<SIZE> = Partition::new(

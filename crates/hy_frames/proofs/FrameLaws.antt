@@ -3,8 +3,8 @@ use Rattle.std.proofs.Common.{◌≡◌, ◌≢◌, ℕ, ◌+◌, ◌-◌, ◌<�
 use Rattle.std.proofs.lemmas.List.{get_or-set_same, get_or-set_other, get_or_past, get_or_default, get_or_append_left, length_push, get_or_push}
 use Rattle.std.proofs.lemmas.List.Sums.{sum_by-set, sum_by_push}
 use Rattle.std.proofs.lemmas.Bool.{cases_lt, cases_eq, lt-ltb, le-ltb, eq-eqb, ne_eqb}
-use Rattle.hy_frames.specs.FrameTable.{Frame, FrameTable, empty_frame, count_of, page_of, in_use, shared_of, Sets, IsSoundTable}
-use Rattle.hy_frames.specs.Slots.{occurrences, unused_at, IsSoundSlots, IsPut}
+use Rattle.hy_frames.specs.FrameTable.{Frame, FrameTable, empty_frame, count_of, page_of, in_use, shared_of, Sets, IsSoundTable, occurrences}
+use Rattle.hy_frames.specs.inside.Slots.{unused_at, IsSoundSlots, IsPut}
 
 -- 1 where a count is above a limit, else 0
 abbrev pub above : ℕ → ℕ → ℕ

@@ -1,5 +1,5 @@
 -- A table of frames: numbered places for pages, each with a count of its users.
-use Rattle.std.specs.Prelude.{◌≡◌, ◌≢◌, ℕ, ◌-◌, ◌≤◌, Bool, false, List, [], length, slice_index_or, count_by, nat_lt, replicate, Option, Some, None}
+use Rattle.std.specs.Prelude.{◌≡◌, ◌≢◌, ℕ, ◌+◌, ◌-◌, ◌==◌, ◌≤◌, Bool, false, List, [], length, slice_index_or, count_by, nat_lt}
 
 -- how many use a page, its bytes, and whether holds may have it too
 pub record Frame : Type 0 where
@@ -54,19 +54,25 @@ pub record Sets (old new : FrameTable) (f : ℕ) (frame : Frame) : Type 0 where
   pub others : (g : ℕ) → g ≢ f → frame_at new g ≡ frame_at old g
   pub limit : new.max ≡ old.max
 
+-- a frame that nobody used gets one user and a page, and nothing else changes
+pub record Takes (old new : FrameTable) (f : ℕ) (bytes : List ℕ) : Type 0 where
+  pub unused : count_of old f ≡ 0
+  pub set : Sets old new f (record { count = 1; bytes = bytes; lent = false })
+  pub free : free_of new + 1 ≡ free_of old
+  pub shared : shared_of new ≡ shared_of old
+
 -- a limit that a table can have: at least one frame, at most ten million, and no fewer than are in use
 abbrev pub IsLimitFor : FrameTable → ℕ → Type 0
 IsLimitFor table limit = (1 ≤ limit) × (limit ≤ max_frames) × (in_use table ≤ limit)
-
--- the bytes in the frame of a number, or a page of zeros
-abbrev pub bytes_or_zeros : ℕ → List Frame → Option ℕ → List ℕ
-bytes_or_zeros page_size frames (Some f) = (slice_index_or frames f empty_frame).bytes
-bytes_or_zeros page_size frames None = replicate page_size 0
 
 -- a page has 256 to 65,536 bytes
 pub record IsPageSize (page_size : ℕ) : Type 0 where
   pub smallest : 256 ≤ page_size
   pub largest : page_size ≤ 65536
+
+-- how often a number stands in a list
+abbrev pub occurrences : ℕ → List ℕ → ℕ
+occurrences n numbers = count_by (λ number. number == n) numbers
 
 -- what always holds of a table of frames with pages of `page_size` bytes
 pub record IsSoundTable (page_size : ℕ) (table : FrameTable) : Type 0 where

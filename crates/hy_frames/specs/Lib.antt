@@ -1,3 +1,2 @@
 pub mod FrameTable
-pub mod Slots
-pub mod Memories
+pub mod inside

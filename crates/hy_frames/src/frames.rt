@@ -2,9 +2,9 @@
 
 ghost use Rattle.std.specs.Prelude.{◌≡◌, ◌≢◌, ℕ, ◌+◌, ◌-◌, ◌^◌, ◌<◌, ◌≤◌, ◌↔◌, [], slice_index_or, length, IsTrue, replicate, true, false, vec_capacity, IfOk, IsOk, OnOk, OnErr, IsErrOf, Err};
 ghost use Rattle.hy_page.specs.Bytes.{overwritten};
-ghost use Rattle.hy_frames.specs.FrameTable.{FrameTable, max_frames, empty_frame, frame_at, count_of, page_of, lent_at, in_use, free_of, shared_of, Sets, IsLimitFor, IsPageSize, bytes_or_zeros, IsSoundTable};
+ghost use Rattle.hy_frames.specs.FrameTable.{FrameTable, max_frames, empty_frame, frame_at, count_of, page_of, lent_at, in_use, free_of, shared_of, Sets, Takes, IsLimitFor, IsPageSize, IsSoundTable, occurrences};
 ghost use Rattle.std.specs.Option.{ForSome};
-ghost use Rattle.hy_frames.specs.Slots.{IsPut, HasRoom, occurrences};
+ghost use Rattle.hy_frames.specs.inside.Slots.{IsPut, HasRoom, bytes_or_zeros};
 
 use super::errors::{OutOfRange, Shortage};
 use super::frame_no::FrameNo;
@@ -33,7 +33,7 @@ pub struct Frames<const N: usize> {
 impl<const N: usize> Model for Frames<N> {
     ghost use Rattle.std.specs.Prelude.{vec_capacity, length};
     ghost use Rattle.hy_frames.specs.FrameTable.{FrameTable};
-    ghost use Rattle.hy_frames.specs.Slots.{IsSoundSlots};
+    ghost use Rattle.hy_frames.specs.inside.Slots.{IsSoundSlots};
 
     ghost Value = { FrameTable };
 
@@ -66,14 +66,9 @@ impl<const N: usize> Frames<N> {
 
     /// Takes a frame with one user for a page of zeros.
     pub fn take_zero(&mut self) -> Result<FrameNo, Shortage>
-        ensures unused { IfOk result (λ f. count_of self.old f ≡ 0) }
-        ensures set { IfOk result
-            (λ f. Sets self.old self.new f (record { count = 1; bytes = replicate N 0; lent = false })) }
-        ensures free { OnOk result (free_of self.new + 1 ≡ free_of self.old) }
-        ensures shared { OnOk result (shared_of self.new ≡ shared_of self.old) }
+        ensures takes { IfOk result (λ f. Takes self.old self.new f (replicate N 0)) }
+        ensures full { IsErrOf result Shortage.NoFrame ↔ (free_of self.old ≡ 0) }
         ensures err { OnErr result (self.new ≡ self.old) }
-        ensures full { free_of self.old ≡ 0 → IsErrOf result Shortage.NoFrame }
-        ensures full_only_then { result ≡ Err Shortage.NoFrame → free_of self.old ≡ 0 }
     {
         self.take(None)
     }
@@ -81,14 +76,9 @@ impl<const N: usize> Frames<N> {
     /// Takes a frame with one user for a copy of the page in a frame in use.
     pub fn take_copy(&mut self, of: FrameNo) -> Result<FrameNo, Shortage>
         requires { 0 < count_of self.old of }
-        ensures unused { IfOk result (λ f. count_of self.old f ≡ 0) }
-        ensures set { IfOk result
-            (λ f. Sets self.old self.new f (record { count = 1; bytes = page_of self.old of; lent = false })) }
-        ensures free { OnOk result (free_of self.new + 1 ≡ free_of self.old) }
-        ensures shared { OnOk result (shared_of self.new ≡ shared_of self.old) }
+        ensures takes { IfOk result (λ f. Takes self.old self.new f (page_of self.old of)) }
+        ensures full { IsErrOf result Shortage.NoFrame ↔ (free_of self.old ≡ 0) }
         ensures err { OnErr result (self.new ≡ self.old) }
-        ensures full { free_of self.old ≡ 0 → IsErrOf result Shortage.NoFrame }
-        ensures full_only_then { result ≡ Err Shortage.NoFrame → free_of self.old ≡ 0 }
     {
         self.take(Some(of))
     }
@@ -97,14 +87,9 @@ impl<const N: usize> Frames<N> {
     /// once, to where they stay.
     fn take(&mut self, of: Option<FrameNo>) -> Result<FrameNo, Shortage>
         requires { ForSome of (λ f. 0 < count_of self.old f) }
-        ensures unused { IfOk result (λ f. count_of self.old f ≡ 0) }
-        ensures set { IfOk result (λ f. Sets self.old self.new f
-            (record { count = 1; bytes = bytes_or_zeros N self.old.frames of; lent = false })) }
-        ensures free { OnOk result (free_of self.new + 1 ≡ free_of self.old) }
-        ensures shared { OnOk result (shared_of self.new ≡ shared_of self.old) }
+        ensures takes { IfOk result (λ f. Takes self.old self.new f (bytes_or_zeros N self.old.frames of)) }
+        ensures full { IsErrOf result Shortage.NoFrame ↔ (free_of self.old ≡ 0) }
         ensures err { OnErr result (self.new ≡ self.old) }
-        ensures full { free_of self.old ≡ 0 → IsErrOf result Shortage.NoFrame }
-        ensures full_only_then { result ≡ Err Shortage.NoFrame → free_of self.old ≡ 0 }
     {
         if self.free() == 0 {
             return Err(Shortage::NoFrame);
@@ -205,6 +190,8 @@ impl<const N: usize> Frames<N> {
     pub fn hold(&mut self, f: FrameNo) -> Result<Hold<N>, AllocError>
         requires { 0 < count_of self.old f }
         ensures hold { IfOk result (λ hold. hold ≡ page_of self.old f) }
+        ensures lent { OnOk result (lent_at self.new f ≡ true) }
+        ensures still_lent { lent_at self.old f ≡ true → lent_at self.new f ≡ true }
         ensures set { Sets self.old self.new f (record (frame_at self.old f) { lent = lent_at self.new f }) }
         ensures free { free_of self.new ≡ free_of self.old }
         ensures shared { shared_of self.new ≡ shared_of self.old }

@@ -35,7 +35,7 @@ impl<const N: usize> Model for Slot<N> {
 
     ghost Value = { Frame };
 
-    ghost use Rattle.hy_frames.specs.Memories.{bytes_in, is_lent, HasPage};
+    ghost use Rattle.hy_frames.specs.inside.Memories.{bytes_in, is_lent, HasPage};
 
     ghost view = { λ slot. record { count = slot.count; bytes = bytes_in slot.memory; lent = is_lent slot.memory } };
 
@@ -132,6 +132,8 @@ impl<const N: usize> Slot<N> {
         requires used { 0 < self.old.count }
         requires small { N ≤ 65536 }
         ensures hold { IfOk result (λ hold. hold ≡ self.old.bytes) }
+        ensures lent { OnOk result (self.new.lent ≡ true) }
+        ensures still_lent { self.old.lent ≡ true → self.new.lent ≡ true }
         ensures kept { self.new ≡ record self.old { lent = self.new.lent } }
     {
         if let Memory::Lent(hold) = &self.memory {

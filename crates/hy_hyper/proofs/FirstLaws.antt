@@ -3,7 +3,6 @@ use Rattle.std.proofs.Common.{◌≡◌, ◌⊎◌, inl, inr, ℕ, ℤ, List, []
 use Rattle.std.specs.Option.{option_or}
 use Rattle.hy_schema.specs.declared.command.Command.{Command}
 use Rattle.hy_schema.specs.declared.command.Commit.{Commit}
-use Rattle.hy_schema.specs.declared.command.Reply.{Reply}
 use Rattle.hy_schema.specs.declared.refusal.Refusal.{Refusal}
 use Rattle.hy_schema.specs.declared.refusal.Refusal.TheVariants as refusals
 use Rattle.hy_schema.specs.declared.refusal.LoadFault.{LoadFault}
@@ -12,7 +11,7 @@ use Rattle.hy_schema.specs.Replay.{replay}
 use Rattle.hy_schema.specs.Tables.{Tables, of_warehouse}
 use Rattle.hy_schema.specs.declared.command.Commit.TheVariants as commits
 use Rattle.hy_schema.specs.Transactions.{act, refusal_of}
-use Rattle.hy_partition.specs.Jobs.{RunningJob}
+use Rattle.hy_partition.specs.Jobs.{DoneState, RunningJob}
 use Rattle.hy_partition.specs.Partition.{PartitionState, rows_now}
 use Rattle.hy_partition.specs.Steps.{Begins, HasSnapshot, begin_refusal}
 use Rattle.hy_hyper.specs.First.{IsFirstRefusal, IsPaid, IsPayRefusal, IsYtdAfter, first_command, first_payment, ytds_of}
@@ -22,7 +21,7 @@ use Rattle.hy_hyper.specs.Generated.{generated}
 use Rattle.hy_hyper.specs.WorkedRows.{generated-fresh}
 
 -- the refusal of a command by the parts of a partition
-abbrev refusal_by : Command → Option RunningJob → Option Reply → ℕ → Tables → List Commit → ℕ → Option Refusal
+abbrev refusal_by : Command → Option RunningJob → Option DoneState → ℕ → Tables → List Commit → ℕ → Option Refusal
 refusal_by command running finished warehouse loaded kept max_kept =
     cond (is_some running || is_some finished) (Some refusals.Busy)
     (option_or (refusal_of warehouse command (replay warehouse loaded kept)) (cond (length kept == max_kept) (Some refusals.HistoryFull) None))
@@ -31,8 +30,12 @@ or_none : (refusal : Option Refusal) → option_or refusal None ≡ refusal
 or_none None = refl
 or_none (Some refusal) = refl
 
+-- how many frames and commits the program's partition may have
+abbrev pub HasBegun : Tables → PartitionState → Type 0
+HasBegun load p = Begins load 1 100_000 1_000_000 p
+
 -- a partition that has just begun refuses only what the warehouse does
-begin_refusal-begun : (p : PartitionState) (command : Command) → Begins (generated 3) 1 100_000 1_000_000 p → begin_refusal p command ≡ refusal_of 1 command (generated 3)
+begin_refusal-begun : (p : PartitionState) (command : Command) → HasBegun (generated 3) p → begin_refusal p command ≡ refusal_of 1 command (generated 3)
 begin_refusal-begun p command b =
     ap (λ x. refusal_by command x p.finished p.warehouse p.loaded p.kept p.max_kept) b.running
     ∙ ap (λ x. refusal_by command None x p.warehouse p.loaded p.kept p.max_kept) b.finished
@@ -43,7 +46,7 @@ begin_refusal-begun p command b =
     ∙ or_none (refusal_of 1 command (of_warehouse 1 (generated 3)))
 
 -- the rows after the payment, from those of the partition
-pub ytd_after : (amount : ℕ) (p new : PartitionState) (ytd : ℤ) → Begins (generated 3) 1 100_000 1_000_000 p → IsPaid (first_payment amount) p new → ytds_of (rows_now new) ≡ ytd ∷ [] → IsYtdAfter amount ytd
+pub ytd_after : (amount : ℕ) (p new : PartitionState) (ytd : ℤ) → HasBegun (generated 3) p → IsPaid (first_payment amount) p new → ytds_of (rows_now new) ≡ ytd ∷ [] → IsYtdAfter amount ytd
 ytd_after amount p new ytd b paid is = (sym refusals_same ∙ paid.accepted, sym (ap ytds_of rows_same) ∙ is)
   where
     command : Command
@@ -61,16 +64,16 @@ ytd_after amount p new ytd b paid is = (sym refusals_same ∙ paid.accepted, sym
         ∙ ap (λ rows. replay 1 rows new.kept) (paid.loaded ∙ b.loaded)
         ∙ ap (replay 1 (of_warehouse 1 (generated 3))) (paid.kept ∙ ap (λ kept. kept ++ commits.Local command ∷ []) b.kept)
 
-pub first_refusal : (amount : ℕ) (p : PartitionState) (refusal : Refusal) → Begins (generated 3) 1 100_000 1_000_000 p → IsPayRefusal p (first_payment amount) refusal → IsFirstRefusal amount refusal
+pub first_refusal : (amount : ℕ) (p : PartitionState) (refusal : Refusal) → HasBegun (generated 3) p → IsPayRefusal p (first_payment amount) refusal → IsFirstRefusal amount refusal
 first_refusal amount p refusal begins why = elim why [
   | inl refused ↦ inl (sym (begin_refusal-begun p (first_command amount) begins) ∙ refused)
   | inr short ↦ elim short [
-    | inl memory ↦ inr memory
+    | inl memory ↦ inr (inl memory)
     | inr frame ↦ absurd (no_snapshot p begins frame.1)
   ]
 ]
   where
-    no_snapshot : (p : PartitionState) → Begins (generated 3) 1 100_000 1_000_000 p → HasSnapshot p → ⊥
+    no_snapshot : (p : PartitionState) → HasBegun (generated 3) p → HasSnapshot p → ⊥
     no_snapshot p begins some = let none = begins.snapshots some.0 in let is = some.1 in absurd (cc)
 
 -- the generated rows are a load, so that a refusal to generate them is for want of memory
@@ -79,6 +82,6 @@ generated-is_load = subst (λ (tables : Tables). IsLoad tables) (sym generated-f
 
 pub generated_refusal : (amount : ℕ) (refusal : Refusal) → (refusal ≡ refusals.NoMemory) ⊎ ((fault : LoadFault) × (refusal ≡ refusals.BadLoad fault) × HasFault (generated 3) fault) → IsFirstRefusal amount refusal
 generated_refusal amount refusal why = elim why [
-  | inl memory ↦ inr memory
+  | inl memory ↦ inr (inl memory)
   | inr bad ↦ absurd (load-no_fault (generated 3) bad.0 generated-is_load bad.2)
 ]

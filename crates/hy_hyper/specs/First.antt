@@ -9,7 +9,8 @@ use Rattle.hy_schema.specs.declared.command.Commit.TheVariants as commits
 use Rattle.hy_schema.specs.Tables.{Tables}
 use Rattle.hy_schema.specs.declared.refusal.Refusal.{Refusal}
 use Rattle.hy_schema.specs.declared.refusal.Refusal.TheVariants as refusals
-use Rattle.hy_partition.specs.Jobs.{RunningJob, slice_count}
+use Rattle.hy_partition.specs.Jobs.{RunningJob}
+use Rattle.hy_partition.specs.Slices.{slice_count}
 use Rattle.hy_partition.specs.Steps.{HasSnapshot, begin_refusal}
 use Rattle.hy_schema.specs.Spelling.{tables_of}
 use Rattle.hy_partition.specs.Partition.{PartitionState, rows_now}
@@ -61,10 +62,10 @@ pub record IsPaid (payment : Payment) (old new : PartitionState) : Type 0 where
 abbrev pub IsYtdAfter : ℕ → ℤ → Type 0
 IsYtdAfter amount ytd = (refusal_of 1 (first_command amount) (generated 3) ≡ None) × (ytds_after amount ≡ ytd ∷ [])
 
--- why the payment of `first` isn't done: the warehouse refuses it, or memory runs out
+-- why the payment of `first` isn't done: the warehouse refuses it, or memory or the frames run out
 abbrev pub IsFirstRefusal : ℕ → Refusal → Type 0
 IsFirstRefusal amount refusal =
-    (refusal_of 1 (first_command amount) (generated 3) ≡ Some refusal) ⊎ (refusal ≡ refusals.NoMemory)
+    (refusal_of 1 (first_command amount) (generated 3) ≡ Some refusal) ⊎ (refusal ≡ refusals.NoMemory) ⊎ (refusal ≡ refusals.NoFrame)
 
 -- why a payment isn't done: it isn't begun, or memory runs out, or the frames do beside an open snapshot
 abbrev pub IsPayRefusal : PartitionState → Payment → Refusal → Type 0

@@ -5,6 +5,7 @@ ghost use Rattle.hy_schema.specs.declared.refusal.Refusal.{Refusal};
 ghost use Rattle.hy_partition.specs.Steps.{Accepts, Refuses};
 ghost use Rattle.hy_hyper.specs.First.{HasTwoSlices, IsFirstRefusal, IsPaid, IsPayRefusal, IsYtdAfter, first_payment, ytds, ytds_of};
 ghost use Rattle.hy_partition.specs.Partition.{rows_now};
+ghost use Rattle.hy_partition.specs.Slices.{all_writes};
 ghost use Rattle.hy_undo.specs.UndoLog.{empty_log};
 
 use crate::generator::generate;
@@ -28,7 +29,7 @@ const WAREHOUSE: u8 = 1;
 const CUSTOMERS: u16 = 3;
 
 /// W_YTD of a generated warehouse after a payment of an amount in cents, in cents, as a snapshot behind the payment has
-/// it. E8 where the amount is out of range, and E1 where memory is refused.
+/// it. E8 where the amount is out of range, E2 where the frames are too few for the rows, and E1 where memory is refused.
 pub fn first(alloc: Global, amount: u64) -> Result<i64, Refusal>
     ensures ytd { IfOk result (IsYtdAfter amount) }
     ensures refused { IfErr result (IsFirstRefusal amount) }
@@ -38,7 +39,7 @@ pub fn first(alloc: Global, amount: u64) -> Result<i64, Refusal>
         alloc, &load, WAREHOUSE, MAX_FRAMES, MAX_KEPT,
     )?;
     pay(&mut partition, payment(amount))?;
-    ytd_now(alloc, &mut partition)
+    ytd_now(&mut partition)
 }
 
 /// Runs a payment by begin, step, step.
@@ -63,8 +64,8 @@ fn pay(partition: &mut Partition<PAGE_BYTES>, payment: Payment) -> Result<(), Re
 /// Runs a job of two slices: the first, and the second where the first isn't refused.
 fn run_slices(partition: &mut Partition<PAGE_BYTES>)
     requires { IsSomeAnd partition.old.running HasTwoSlices }
-    ensures { IsSomeAnd partition.old.running (λ job. Accepts 2 job.command partition.old partition.new
-        ⊎ Refuses 2 partition.old partition.new) }
+    ensures { IsSomeAnd partition.old.running (λ job. Accepts (all_writes job.command) job.command partition.old partition.new
+        ⊎ Refuses (all_writes job.command) partition.old partition.new) }
 {
     match partition.step() {
         Ok(Progress::More) => {
@@ -76,14 +77,14 @@ fn run_slices(partition: &mut Partition<PAGE_BYTES>)
 }
 
 /// W_YTD of the one warehouse after all that is kept, as a snapshot has it.
-fn ytd_now(alloc: Global, partition: &mut Partition<PAGE_BYTES>) -> Result<i64, Refusal>
+fn ytd_now(partition: &mut Partition<PAGE_BYTES>) -> Result<i64, Refusal>
     requires nothing_to_undo { partition.old.undo ≡ empty_log partition.old.space }
     requires one { length (ytds_of (rows_now partition.old)) ≡ 1 }
     ensures ytd { IfOk result (λ ytd. ytds_of (rows_now partition.old) ≡ ytd ∷ []) }
     ensures refused { IfErr result (λ refusal. refusal ≡ Refusal.NoMemory) }
 {
     let snapshot = partition.fork()?;
-    let ytd = ytd_of(alloc, &snapshot);
+    let ytd = ytd_of(&snapshot);
     match partition.close(snapshot) {
         Ok(()) => ytd,
         Err(_) => unreachable!(),
@@ -91,14 +92,12 @@ fn ytd_now(alloc: Global, partition: &mut Partition<PAGE_BYTES>) -> Result<i64, 
 }
 
 /// W_YTD of the one warehouse of a snapshot.
-fn ytd_of(alloc: Global, snapshot: &Snapshot<PAGE_BYTES>) -> Result<i64, Refusal>
+fn ytd_of(snapshot: &Snapshot<PAGE_BYTES>) -> Result<i64, Refusal>
     requires { length (ytds snapshot.now) ≡ 1 }
     ensures ytd { IfOk result (λ ytd. ytds snapshot.now ≡ ytd ∷ []) }
     ensures refused { IfErr result (λ refusal. refusal ≡ Refusal.NoMemory) }
 {
-    let Ok(rows) = snapshot.list::<Warehouse>(alloc) else {
-        return Err(Refusal::NoMemory);
-    };
+    let rows = snapshot.list::<Warehouse>()?;
     match rows.as_slice() {
         [warehouse] => Ok(warehouse.ytd),
         _ => unreachable!(),

@@ -129,9 +129,7 @@ fn close<const N: usize>(partition: &mut Partition<N>, snapshot: Snapshot<N>)
 
 /// W_YTD as a snapshot has it.
 fn ytd<const N: usize>(rt: &(impl Abort + AllocGlobal), snapshot: &Snapshot<N>) -> i64 {
-    let rows = snapshot
-        .list::<Warehouse>(rt.alloc())
-        .expect(rt, "the rows");
+    let rows = snapshot.list::<Warehouse>().expect(rt, "the rows");
     match rows.as_slice() {
         [warehouse] => warehouse.ytd,
         _ => 0,

@@ -8,7 +8,7 @@ use crate::place::Place;
 use crate::reason::Reason;
 use crate::run::run_words;
 use crate::words::{Line, read_words};
-use hy_schema::{LoadFault, Refusal};
+use hy_schema::{Customer, District, LoadFault, Refusal, Warehouse};
 use std::alloc::Global;
 use std::io;
 use std::test::Fail;
@@ -185,22 +185,22 @@ fn answers_1_where_a_writer_fails(rt: HostRuntime) -> Result<(), Fail> {
 #[test]
 fn generates_a_warehouse(rt: HostRuntime) -> Result<(), Fail> {
     let load = generate(rt.alloc(), 3).expect(&rt, "a load");
-    assert_eq!(rt; load.warehouses().len(), 1);
-    for row in load.warehouses() {
+    assert_eq!(rt; load.list::<Warehouse>().len(), 1);
+    for row in load.list::<Warehouse>() {
         assert!(rt; row.name.as_bytes() == b"W1".as_slice() && row.tax == 500 && row.ytd == 30_000);
     }
-    for (place, row) in load.districts().iter().enumerate() {
+    for (place, row) in load.list::<District>().iter().enumerate() {
         assert!(rt; usize::from(row.id) == place + 1 && usize::from(row.tax) == 100 * (place + 1));
         assert!(rt; row.ytd == 3000 && row.next_order == 1);
     }
-    assert_eq!(rt; load.customers().len(), 30);
+    assert_eq!(rt; load.list::<Customer>().len(), 30);
     Ok(())
 }
 
 #[test]
 fn generates_names(rt: HostRuntime) -> Result<(), Fail> {
     let load = generate(rt.alloc(), 1001).expect(&rt, "a load");
-    let rows = load.customers();
+    let rows = load.list::<Customer>();
     assert_eq!(rt; rows.len(), 10_010);
     let cases: [(usize, &[u8], &[u8], &[u8], u16); 6] = [
         (0, b"F0001", b"BARBARBAR", b"GC", 100),

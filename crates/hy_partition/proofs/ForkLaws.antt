@@ -14,7 +14,7 @@ use Rattle.hy_undo.specs.PrivatePages.{IsUndoLog}
 use Rattle.hy_undo.proofs.PrivatePageLaws.{IsUndoLog-kept, KeepsPages-unseen}
 use Rattle.hy_partition.specs.Partition.{PartitionState, commits_of, rows_now}
 use Rattle.hy_partition.specs.Snapshots.{SnapshotState}
-use Rattle.hy_partition.specs.Soundness.{IsSound}
+use Rattle.hy_partition.specs.inside.Soundness.{IsSound}
 use Rattle.hy_partition.specs.Steps.{Forks, KeepsOthers, StaysUnforked}
 use Rattle.hy_partition.proofs.SoundLaws.{sound-forked, sound-snapshots, snapshot_fresh}
 use Rattle.hy_partition.proofs.StepLaws.{spells-kept_more}
@@ -32,7 +32,7 @@ unchanged_child_bytes old new same child =
     ∙ same_child_bytes old.frames new.frames (child_table old child) (λ f more. same.pages f)
 
 -- with pages of n bytes: the child was opened with the running transaction undone in it, and its pages may have got holds
-module _ (n places : ℕ) (p : PartitionState) (sound : IsSound n places p) (mid held : SpaceState) (child : ℕ)
+module _ (n places customer : ℕ) (p : PartitionState) (sound : IsSound n places customer p) (mid held : SpaceState) (child : ℕ)
     (least : IsLeastFree p.space child) (bytes : child_bytes mid child ≡ Some (undone (owner_bytes p.space) p.undo)) (others : SameForOthers p.space mid child) (owner : SameForOwner p.space mid)
     (log : IsUndoLog n mid p.undo) (lent : IsUnchanged mid held) (kept : KeepsOwn mid held) where
   held_owner : SameForOwner p.space held
@@ -59,9 +59,9 @@ module _ (n places : ℕ) (p : PartitionState) (sound : IsSound n places p) (mid
 
   -- a snapshot stands at the child's place
   pub sound-opened : (snapshots : List (Option ℕ)) → slice_index_or snapshots child None ≡ Some (length p.kept)
-      → ((other : ℕ) → other ≢ child → slice_index_or snapshots other None ≡ commits_of p other) → IsSound n places (record p { space = held; snapshots = snapshots })
+      → ((other : ℕ) → other ≢ child → slice_index_or snapshots other None ≡ commits_of p other) → IsSound n places customer (record p { space = held; snapshots = snapshots })
   sound-opened snapshots commits others_commits =
-      sound-forked n places p sound held snapshots child held_owner held_others held_log held_bytes commits others_commits
+      sound-forked n places customer p sound held snapshots child held_owner held_others held_log held_bytes commits others_commits
 
   pub forks : (snapshots : List (Option ℕ)) (snapshot : SnapshotState) → slice_index_or snapshots child None ≡ Some (length p.kept)
       → ((other : ℕ) → other ≢ child → slice_index_or snapshots other None ≡ commits_of p other)
@@ -74,7 +74,7 @@ module _ (n places : ℕ) (p : PartitionState) (sound : IsSound n places p) (mid
       record {
         warehouse = warehouse;
         child = subst (λ (c : ℕ). IsLeastFree p.space c) (sym at) least;
-        fresh = ap (commits_of p) at ∙ snapshot_fresh n places p sound child least.closed;
+        fresh = ap (commits_of p) at ∙ snapshot_fresh n places customer p sound child least.closed;
         commits = count;
         bytes = seen_is;
         spells = subst (λ (pages : List (List (List ℕ))). Spells n pages (rows_now p)) (sym seen_is) sound.live;
@@ -108,11 +108,11 @@ module _ (n places : ℕ) (p : PartitionState) (sound : IsSound n places p) (mid
       | inr apart ↦ still.bytes other apart ∙ held_others.bytes other apart
     ]
 
-    pub sound-unforked : (snapshots : List (Option ℕ)) → snapshots ≡ p.snapshots → IsSound n places (record p { space = closed; snapshots = snapshots })
+    pub sound-unforked : (snapshots : List (Option ℕ)) → snapshots ≡ p.snapshots → IsSound n places customer (record p { space = closed; snapshots = snapshots })
     sound-unforked snapshots same =
         let after : PartitionState = record p { space = closed } in
-        subst (λ (all : List (Option ℕ)). IsSound n places (record p { space = closed; snapshots = all })) (sym same)
-        (sound-snapshots n places p sound closed p.snapshots closed_owner
+        subst (λ (all : List (Option ℕ)). IsSound n places customer (record p { space = closed; snapshots = all })) (sym same)
+        (sound-snapshots n places customer p sound closed p.snapshots closed_owner
         (IsUndoLog-kept n held closed p.undo (KeepsPages-unseen held closed owner_still.bytes kept_still) held_log)
         (λ other. spells-kept_more n p after refl refl [] (sym (append-nil p.kept)) other refl (closed_bytes other) (sound.snapshots other)))
 

@@ -1,14 +1,11 @@
 -- Frames that writes take, and lack, by the children that are open.
-use Rattle.std.proofs.Common.{◌≡◌, ◌⊎◌, inl, inr, ℕ, suc, ◌+◌, ◌≤◌, true, List, [], ◌∷◌, Option, Some, None, cond, nat_lt, Result, OnOk, OnErr, refl, ap, ◌∙◌, arith}
+use Rattle.std.proofs.Common.{◌≡◌, ◌⊎◌, inl, inr, ℕ, suc, ◌+◌, ◌≤◌, true, List, [], ◌∷◌, Option, Some, None, cond, nat_lt, refl, ap, ◌∙◌, arith}
 use Rattle.std.specs.Prelude.{option_to_list, slice_index_or, IsSome}
 use Rattle.std.specs.List.{count_by, flat_map}
 use Rattle.std.proofs.lemmas.Bool.Decides.{nat_tests}
-use Rattle.hy_frames.specs.FrameTable.{free_of}
-use Rattle.hy_frames.specs.declared.errors.Shortage.{Shortage}
-use Rattle.hy_space.specs.Space.{SpaceState, HasPage, IsOwn, IsSound, LacksFrame, MakesOwn, frame_no, maps, times}
+use Rattle.hy_space.specs.Space.{SpaceState, HasPage, IsOwn, IsSound, LacksFrame, frame_no, maps, times}
 use Rattle.hy_space.proofs.TableLaws.{stands}
-use Rattle.hy_partition.specs.Shortages.{IsOutOfFrames}
-use Rattle.hy_partition.proofs.UndoLaws.{by_outcome}
+use Rattle.hy_partition.specs.inside.Shortages.{IsOutOfFrames}
 
 passes : (n : ℕ) → 1 ≤ n → nat_lt 0 n ≡ true
 passes n some = grind (arith, nat_tests)
@@ -36,14 +33,3 @@ out_of_frames size s segment page sound there lacks = elim (open_or_none s.child
   | inl open_child ↦ record { full = lacks.1; open_child = open_child }
   | inr none ↦ absurd (lacks.0 (own_alone size s segment page sound none there))
 ]
-
--- two writes take no frame where no child is open
-pub free-written : {T : Type 0} (size : ℕ) (old mid new : SpaceState) (segment page segment' page' : ℕ) (r : Result T Shortage) → IsSound size old → old.children ≡ [] → HasPage old segment page → HasPage old segment' page' → HasPage mid segment' page' → MakesOwn old mid segment page
-    → OnOk r (MakesOwn mid new segment' page') → OnErr r (new ≡ mid) → free_of new.frames ≡ free_of old.frames
-free-written size old mid new segment page segment' page' r sound none there there' there_mid first second unchanged =
-    let no_table : flat_map option_to_list old.children ≡ [] = ap (flat_map option_to_list) none in
-    let own = own_alone size old segment page sound no_table there in
-    let own' = first.kept.own segment' page' there' there_mid (own_alone size old segment' page' sound no_table there') in
-    by_outcome r second unchanged
-    (λ (done : MakesOwn mid new segment' page'). done.free own' ∙ first.free own)
-    (λ same. ap (λ s. free_of s.frames) same ∙ first.free own)

@@ -1,5 +1,6 @@
 pub mod SnapshotLaws
 pub mod GrowthLaws
+pub mod SliceLaws
 pub mod PlaceLaws
 pub mod PageChanges
 pub mod StepLaws

@@ -7,7 +7,7 @@ use Rattle.hy_schema.specs.declared.customer.Customer.{Customer}
 use Rattle.hy_schema.specs.Loads.{IsLoad, IsWarehouseAt, IsDistrictAt, IsCustomerAt}
 use Rattle.hy_schema.specs.Ranges.{IsLoadedMoney, IsCustomerInRange}
 use Rattle.hy_schema.specs.Tables.{Tables, of_warehouse}
-use Rattle.hy_partition.specs.Growth.{IsGrown, IsGrownCustomer, IsGrownMoney}
+use Rattle.hy_partition.specs.inside.Growth.{IsGrown, IsGrownCustomer, IsGrownMoney}
 
 -- what follows of each row at its place holds of all, and so of those that pass a test
 pub all_passing : {Row : Type 0} (right : ℕ → Row → Type 0) (P : Row → Type 0) (test : Row → Bool) (rows : List Row) → ((place : ℕ) (row : Row) → right place row → P row) → ((place : ℕ) → IfSome (slice_get rows place) (right place)) → AllByRecursion P (filter test rows)

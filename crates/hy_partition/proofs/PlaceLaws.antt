@@ -1,35 +1,41 @@
 -- Where rows lie in the pages of a space, and what a write into a row's slot does.
-use Rattle.std.proofs.Common.{◌≡◌, ℕ, ◌+◌, ◌-◌, ◌*◌, ◌/◌, ◌%◌, ◌^◌, ◌<◌, ◌≤◌, inl, inr, Bool, List, [], ◌∷◌, ◌++◌, length, map, get_or, sym, ap, ◌∙◌, subst, arith, get_or-set_other, get_or-set_same, length-set, length-append}
+use Rattle.std.proofs.Common.{◌≡◌, ℕ, zero, suc, true, Some, refl, nat_lt, ◌+◌, ◌-◌, ◌*◌, ◌/◌, ◌%◌, ◌^◌, ◌<◌, ◌≤◌, inl, inr, Bool, List, [], ◌∷◌, ◌++◌, length, map, get_or, sym, ap, ◌∙◌, subst, arith, get_or-set_other, get_or-set_same, length-set, length-append}
 use Rattle.std.proofs.lemmas.List.{length-map, get_or-map, get_or_append_left}
-use Rattle.std.proofs.lemmas.Bool.{cases_eq}
+use Rattle.std.specs.Prelude.{slice_get}
+use Rattle.std.specs.List.{list_all}
+use Rattle.std.proofs.lemmas.Bool.{and_parts, cases_eq}
+use Rattle.std.proofs.lemmas.Bool.Decides.{nat_tests}
 use Rattle.hy_page.specs.Bytes.{bytes_of, overwritten}
-use Rattle.hy_schema.specs.Spelling.{IsTable, HasSlots, HasTables, IsFirstMatch, list_at, rows_of, segments, slot_at, slot_offset, slot_page, slot_width, slots_per_page, used_slots}
-use Rattle.hy_schema.specs.Slots.{slot_written, slots_counted}
+use Rattle.hy_schema.specs.Spelling.{IsTable, HasSlots, HasTables, IsFirstMatch, list_at, row_widths, rows_of, segments, slot_at, slot_offset, slot_page, slot_width, slots_per_page, used_slots}
+use Rattle.hy_schema.specs.inside.Slots.{slot_written, slots_counted}
 use Rattle.hy_schema.specs.Finding.{with_changed}
 use Rattle.hy_schema.proofs.SlotPlaces.{slots_per_page-some, slot_page-below, rows_of-changed, rows_of-grown, rows_of-pushed, used_slots-pushed, used_slots-written, length-slot_written}
 use Rattle.hy_schema.specs.Rows.{number_at}
 use Rattle.std.proofs.Math.Nat.{mod-lt, div-add-mod, div-le_self, div-le_of_le-mul, mul-le-mul_left, mul-le-mul_right}
 use Rattle.hy_space.specs.Space.{SpaceState, HasPage, HasPagesOf, owner_bytes, page_at, with_page, with_new_page, page_count}
-use Rattle.hy_partition.specs.Rows.{KeepsOtherSegments}
+use Rattle.hy_partition.specs.inside.Rows.{KeepsOtherSegments}
 use Rattle.hy_frames.specs.FrameTable.{page_of}
-use Rattle.hy_partition.proofs.SnapshotLaws.{segment_there}
+use Rattle.hy_schema.specs.inside.Places.{segment_there}
 use Rattle.hy_partition.proofs.PageChanges.{segment-with_page, segment-with_page_other, length-with_page}
 
 -- a segment determines how many bytes the rows of its table have
 pub one_width : (segment one other : ℕ) → IsTable segment one → IsTable segment other → one ≡ other
-one_width segment one other is_one is_other =
-    elim is_one [
-      | inl a ↦ elim is_other [ inl b ↦ omega arith | inr others ↦ elim others [ inl b ↦ absurd (omega arith) | inr b ↦ absurd (omega arith) ] ]
-      | inr ones ↦ elim ones [
-        | inl a ↦ elim is_other [ inl b ↦ absurd (omega arith) | inr others ↦ elim others [ inl b ↦ omega arith | inr b ↦ absurd (omega arith) ] ]
-        | inr a ↦ elim is_other [ inl b ↦ absurd (omega arith) | inr others ↦ elim others [ inl b ↦ absurd (omega arith) | inr b ↦ omega arith ] ]
-      ]
-    ]
+one_width segment one other is_one is_other = some_same (sym is_one ∙ is_other)
+  where
+    some_same : {a b : ℕ} → Some a ≡ Some b → a ≡ b
+    some_same same = cc
+
+-- what a test says of all items holds of each
+passes_at : {Item : Type 0} (test : Item → Bool) (items : List Item) (place : ℕ) (item : Item) → list_all test items ≡ true → slice_get items place ≡ Some item → test item ≡ true
+passes_at test [] place item all is = absurd (cc)
+passes_at test (first ∷ items) zero item all is = let same : first ≡ item = cc in ap test (sym same) ∙ (and_parts _ _ all).0
+passes_at test (first ∷ items) (suc place) item all is = passes_at test items place item (and_parts _ _ all).1 is
 
 -- a slot of a table fits each page
 pub table_fits : (n segment width : ℕ) → 256 ≤ n → IsTable segment width → slot_width width ≤ n
 table_fits n segment width smallest table =
-    elim table [ inl a ↦ omega arith | inr others ↦ elim others [ inl b ↦ omega arith | inr c ↦ omega arith ] ]
+    let narrow : nat_lt width 256 ≡ true = passes_at (λ bytes. nat_lt bytes 256) row_widths segment width refl table in
+    grind (arith, nat_tests, narrow, smallest)
 
 -- a page among pages of n bytes has n bytes
 pub page_size : (n : ℕ) (bytes : List (List (List ℕ))) (segment page : ℕ) → HasPagesOf n bytes → segment < length bytes → page < length (list_at bytes segment) → length (page_at bytes segment page) ≡ n

@@ -1,34 +1,22 @@
 -- What a commit, a fork and a close do to the rows and the snapshots of a partition.
-use Rattle.std.proofs.Common.{◌≡◌, ℕ, ◌≤◌, List, [], ◌∷◌, ◌++◌, length, take, Option, Some, None, refl, sym, ap, ◌∙◌, subst, arith, length-append}
+use Rattle.std.proofs.Common.{◌≡◌, ℕ, ◌≤◌, List, [], ◌∷◌, ◌++◌, length, take, Option, Some, None, sym, ap, ◌∙◌, subst, arith, length-append}
 use Rattle.std.specs.Prelude.{IsNone, IsSomeAnd, MatchOption}
 use Rattle.std.proofs.lemmas.List.{take-append-le}
 use Rattle.std.proofs.lemmas.List.Sums.{fold-append}
 use Rattle.hy_schema.specs.declared.command.Command.{Command}
-use Rattle.hy_schema.specs.declared.command.Command.TheVariants as commands
-use Rattle.hy_schema.specs.declared.command.Payment.{Payment}
 use Rattle.hy_schema.specs.declared.command.Commit.{Commit}
 use Rattle.hy_schema.specs.declared.command.Commit.TheVariants as commits
 use Rattle.hy_schema.specs.Tables.{Tables}
 use Rattle.hy_schema.specs.Spelling.{Spells}
-use Rattle.hy_schema.specs.Transactions.{act, outcome_of, refusal_of}
+use Rattle.hy_schema.specs.Transactions.{act}
 use Rattle.hy_schema.specs.Replay.{replay, committed}
 use Rattle.hy_space.specs.Space.{child_bytes}
 use Rattle.hy_partition.specs.Partition.{PartitionState, rows_after, commits_of}
 use Rattle.hy_partition.specs.Headline.{SpellsBeginning}
-use Rattle.hy_partition.specs.Soundness.{after_slices, half_paid}
-use Rattle.hy_partition.specs.Changes.{customer_changed}
 
 -- the replay of one commit more
 pub replay-append : (warehouse : ℕ) (loaded : Tables) (kept : List Commit) (command : Command) → replay warehouse loaded (kept ++ commits.Local command ∷ []) ≡ (act warehouse command (replay warehouse loaded kept)).tables
 replay-append warehouse loaded kept command = fold-append (committed warehouse) loaded kept (commits.Local command ∷ [])
-
--- what an accepted payment does is what its two slices do
-pub act-accepted : (warehouse : ℕ) (payment : Payment) (tables : Tables) → refusal_of warehouse (commands.Payment payment) tables ≡ None → (act warehouse (commands.Payment payment) tables).tables ≡ customer_changed payment (half_paid payment tables)
-act-accepted warehouse payment tables accepted = ap (λ refusal. (outcome_of refusal (commands.Payment payment) tables).tables) accepted
-
--- no slice changes nothing
-pub after_slices-none : (command : Command) (tables : Tables) → after_slices command 0 tables ≡ tables
-after_slices-none (commands.Payment payment) tables = refl
 
 -- a snapshot with this number of commits and these bytes spells its beginning, in a list of so many commits
 abbrev SpellsAt : ℕ → Option ℕ → Option (List (List (List ℕ))) → ℕ → (ℕ → Tables) → Type 0

@@ -3,10 +3,11 @@ use Rattle.std.proofs.Common.{◌≡◌, ℕ, zero, suc, ◌+◌, ◌≤◌, fal
 use Rattle.std.proofs.lemmas.List.{length_push}
 use Rattle.std.proofs.lemmas.Bool.{cases_eq}
 use Rattle.hy_frames.specs.FrameTable.{Frame, count_of, lent_at, free_of}
-use Rattle.hy_space.specs.Space.{SpaceState, IsOwn, KeepsOwn, MakesOwn, SameForChildren, child_bytes, frame_no, owner_bytes, with_frame}
+use Rattle.hy_space.specs.Space.{SpaceState, IsOwn, KeepsOwn, MakesPrivate, SameForChildren, child_bytes, frame_no, owner_bytes, with_frame}
 use Rattle.hy_undo.specs.UndoLog.{Image, UndoLog, undone, with_image, page_counts}
 use Rattle.hy_undo.specs.PrivatePages.{IsUndoLog}
-use Rattle.hy_partition.specs.Changes.{CanUndo, TakesFrames}
+use Rattle.hy_partition.specs.Steps.{TakesFrames}
+use Rattle.hy_partition.specs.inside.Changes.{CanUndo}
 
 -- what holds whether a call answered Ok or Err
 pub by_outcome : {T E P Q X : Type 0} (r : Result T E) → OnOk r P → OnErr r Q → (P → X) → (Q → X) → X
@@ -29,7 +30,7 @@ pages-with_frame (row ∷ table) zero page frame = ap (λ n. n ∷ map length ta
 pages-with_frame (row ∷ table) (suc segment) page frame = ap (λ rest. length row ∷ rest) (pages-with_frame table segment page frame)
 
 -- a page that is made the owner's own takes one frame at most
-pub takes-made_own : (old new : SpaceState) (segment page : ℕ) → MakesOwn old new segment page → TakesFrames 1 old new
+pub takes-made_own : (old new : SpaceState) (segment page : ℕ) → MakesPrivate old new segment page → TakesFrames 1 old new
 takes-made_own old new segment page made = elim (cases_eq (count_of old.frames (frame_no old segment page)) 1) [
   | inl own ↦ record { pages = ap (map length) (made.table own); frames = omega (arith, made.free own); limit = made.limit }
   | inr shared ↦
@@ -82,7 +83,7 @@ can_undo-none n most old new before after same same_log log = record {
 }
 
 -- one write
-pub can_undo-written : (n : ℕ) (old new : SpaceState) (before after : UndoLog) (image : Image) (segment page : ℕ) → SameForChildren old new → MakesOwn old new segment page → after ≡ with_image before image → undone (owner_bytes new) after ≡ undone (owner_bytes old) before → IsUndoLog n new after → CanUndo n 1 old new before after
+pub can_undo-written : (n : ℕ) (old new : SpaceState) (before after : UndoLog) (image : Image) (segment page : ℕ) → SameForChildren old new → MakesPrivate old new segment page → after ≡ with_image before image → undone (owner_bytes new) after ≡ undone (owner_bytes old) before → IsUndoLog n new after → CanUndo n 1 old new before after
 can_undo-written n old new before after image segment page children made is_log same log = record {
   children = children;
   undone = same;

@@ -1,21 +1,17 @@
--- Jobs that run.
-use Rattle.std.specs.Prelude.{ℕ, ◌+◌, ◌==◌, Bool}
+-- Jobs on their way to a partition, those that run, and replies on their way back.
+use Rattle.std.specs.Prelude.{ℕ}
 use Rattle.hy_schema.specs.declared.command.Command.{Command}
-use Rattle.hy_schema.specs.declared.command.Command.TheVariants as commands
+use Rattle.hy_schema.specs.declared.command.Reply.{Reply}
+
+-- a command that is to be done once
+pub record JobState : Type 0 where
+  pub command : Command
 
 -- a command that runs, and how many of its slices are done
 pub record RunningJob : Type 0 where
   pub command : Command
   pub slices : ℕ
 
--- how many slices a command has
-abbrev pub slice_count : Command → ℕ
-slice_count (commands.Payment payment) = 2
-
--- to how many places of the pages one slice writes at most
-abbrev pub most_writes : ℕ
-most_writes = 2
-
--- whether the next slice is the last one
-abbrev pub is_last : RunningJob → Bool
-is_last job = job.slices + 1 == slice_count job.command
+-- the reply to a job that ended
+pub record DoneState : Type 0 where
+  pub reply : Reply

@@ -1,11 +1,9 @@
-pub mod Rows
-pub mod Snapshots
-pub mod Shortages
-pub mod Growth
+pub mod Limits
 pub mod Jobs
+pub mod Slices
+pub mod Snapshots
 pub mod Partition
 pub mod Headline
-pub mod Soundness
 pub mod Steps
-pub mod Changes
-pub mod Views
+pub mod WorkedRows
+pub mod inside

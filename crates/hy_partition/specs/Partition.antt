@@ -1,12 +1,11 @@
 -- One warehouse: the rows that it began from, what was kept since, the job that runs, the pages and the snapshots.
 use Rattle.std.specs.Prelude.{ℕ, List, Option, None, slice_index_or}
 use Rattle.hy_schema.specs.declared.command.Commit.{Commit}
-use Rattle.hy_schema.specs.declared.command.Reply.{Reply}
 use Rattle.hy_schema.specs.Tables.{Tables}
 use Rattle.hy_schema.specs.Replay.{replay}
 use Rattle.hy_space.specs.Space.{SpaceState}
 use Rattle.hy_undo.specs.UndoLog.{UndoLog}
-use Rattle.hy_partition.specs.Jobs.{RunningJob}
+use Rattle.hy_partition.specs.Jobs.{DoneState, RunningJob}
 
 -- the value of a partition
 pub record PartitionState : Type 0 where
@@ -19,7 +18,7 @@ pub record PartitionState : Type 0 where
   -- the job that runs, what it overwrote, and the reply that wasn't taken
   pub running : Option RunningJob
   pub undo : UndoLog
-  pub finished : Option Reply
+  pub finished : Option DoneState
   -- the live pages with those of the open snapshots, and for each open snapshot its number of commits
   pub space : SpaceState
   pub snapshots : List (Option ℕ)

@@ -1,5 +1,5 @@
 -- What the calls on a partition do to it.
-use Rattle.std.specs.Prelude.{◌≡◌, ◌≢◌, ℕ, ◌+◌, ◌*◌, ◌≤◌, ◌||◌, ◌==◌, ◌⊎◌, if◌then◌else◌, Bool, true, false, is_some, IsSome, [], ◌∷◌, ◌++◌, length, Option, None, Some}
+use Rattle.std.specs.Prelude.{◌≡◌, ◌≢◌, ℕ, ◌+◌, ◌≤◌, ◌||◌, ◌==◌, ◌⊎◌, if◌then◌else◌, Bool, true, false, is_some, IsSome, [], ◌∷◌, ◌++◌, length, Option, None, Some}
 use Rattle.std.specs.Option.{option_or}
 use Rattle.hy_schema.specs.declared.command.Command.{Command}
 use Rattle.hy_schema.specs.declared.command.Commit.TheVariants as commits
@@ -11,16 +11,21 @@ use Rattle.hy_schema.specs.Tables.{Tables, of_warehouse}
 use Rattle.hy_schema.specs.Transactions.{act, refusal_of}
 use Rattle.hy_schema.specs.Spelling.{Spells}
 use Rattle.hy_frames.specs.FrameTable.{count_of, free_of}
-use Rattle.hy_space.specs.Space.{SameForChildren, SameForOwner, SameForOthers, IsLeastFree, DropsUsers, owner_bytes, child_bytes, child_table, child_times}
+use Rattle.hy_space.specs.Space.{SpaceState, SameForChildren, SameForOwner, SameForOthers, IsLeastFree, DropsUsers, owner_bytes, child_bytes, child_table, child_times}
 use Rattle.hy_partition.specs.declared.job.Progress.{Progress}
 use Rattle.hy_partition.specs.declared.job.Progress.TheVariants as progress
-use Rattle.hy_undo.specs.UndoLog.{undone, empty_log}
+use Rattle.hy_undo.specs.UndoLog.{undone, empty_log, page_counts}
 use Rattle.hy_undo.specs.Touched.{touched}
 use Rattle.hy_partition.specs.Partition.{PartitionState, rows_now, commits_of}
-use Rattle.hy_partition.specs.Jobs.{RunningJob, is_last, most_writes}
-use Rattle.hy_partition.specs.Rows.{row_count}
+use Rattle.hy_partition.specs.Jobs.{RunningJob}
+use Rattle.hy_partition.specs.Slices.{is_last, writes}
 use Rattle.hy_partition.specs.Snapshots.{SnapshotState}
-use Rattle.hy_partition.specs.Changes.{TakesFrames}
+
+-- no page comes or goes, at most so many frames are taken, and the limit of frames stays
+pub record TakesFrames (most : ℕ) (old new : SpaceState) : Type 0 where
+  pub pages : page_counts new ≡ page_counts old
+  pub frames : free_of old.frames ≤ free_of new.frames + most
+  pub limit : new.frames.max ≡ old.frames.max
 
 -- a job runs, or its reply wasn't taken
 abbrev pub is_busy : PartitionState → Bool
@@ -42,53 +47,55 @@ pub record KeepsRest (old new : PartitionState) : Type 0 where
   pub children : SameForChildren old.space new.space
   pub max_frames : new.space.frames.max ≡ old.space.frames.max
 
--- a slice was done, and more are to come: what is kept and what undoing gives stay, and a frame was taken for no more
--- pages than a slice writes
+-- a slice was done, and more are to come: what is kept and what undoing gives stay, a record was kept for each write of the
+-- slice at most, and a frame was taken for each at most
 pub record Continues (job : RunningJob) (old new : PartitionState) : Type 0 where
   pub running : new.running ≡ Some (record job { slices = job.slices + 1 })
   pub finished : new.finished ≡ old.finished
   pub kept : new.kept ≡ old.kept
   pub bytes : undone (owner_bytes new.space) new.undo ≡ undone (owner_bytes old.space) old.undo
-  pub frames : TakesFrames most_writes old.space new.space
+  pub records : length new.undo.images ≤ length old.undo.images + writes job.command job.slices
+  pub frames : TakesFrames (writes job.command job.slices) old.space new.space
   pub rest : KeepsRest old new
 
 -- the job ended with a reply, which waits to be taken
 pub record Ends (old new : PartitionState) (reply : Reply) : Type 0 where
   pub running : new.running ≡ None
   pub undo : new.undo ≡ empty_log new.space
-  pub finished : new.finished ≡ Some reply
+  pub finished : new.finished ≡ Some (record { reply = reply })
   pub rest : KeepsRest old new
 
--- within so many slices the command was accepted: it is kept, once and behind all others, the reply is the warehouse's to
--- it, and a frame was taken for no more pages than these slices write
-pub record Accepts (slices : ℕ) (command : Command) (old new : PartitionState) : Type 0 where
+-- with so many writes the command was accepted: it is kept, once and behind all others, the reply is the warehouse's to it,
+-- and a frame was taken for each write at most
+pub record Accepts (most : ℕ) (command : Command) (old new : PartitionState) : Type 0 where
   pub accepted : refusal_of old.warehouse command (rows_now old) ≡ None
   pub kept : new.kept ≡ old.kept ++ commits.Local command ∷ []
   pub ends : Ends old new (act old.warehouse command (rows_now old)).reply
-  pub frames : TakesFrames (most_writes * slices) old.space new.space
+  pub frames : TakesFrames most old.space new.space
 
 -- some snapshot is open
 abbrev pub HasSnapshot : PartitionState → Type 0
 HasSnapshot p = (child : ℕ) × IsSome (commits_of p child)
 
--- no more frames are free than so many slices can write pages, and some snapshot is open
-pub record LacksFrames (slices : ℕ) (p : PartitionState) : Type 0 where
-  pub few : free_of p.space.frames ≤ most_writes * slices
+-- no more frames are free than so many writes may take, and some snapshot is open
+pub record LacksFrames (most : ℕ) (p : PartitionState) : Type 0 where
+  pub few : free_of p.space.frames ≤ most
   pub open_snapshot : HasSnapshot p
 
--- within so many slices the command was refused for want of memory, or of a frame where too few were free and a snapshot
--- was open: what is kept stays, the pages are as they were when the job began, and as many frames were taken at most
-pub record Refuses (slices : ℕ) (old new : PartitionState) : Type 0 where
+-- with so many writes the command was refused for want of memory, or of a frame where too few were free and a snapshot was
+-- open: what is kept stays, the pages are as they were when the job began, and a frame was taken for each write at most
+pub record Refuses (most : ℕ) (old new : PartitionState) : Type 0 where
   pub kept : new.kept ≡ old.kept
   pub bytes : owner_bytes new.space ≡ undone (owner_bytes old.space) old.undo
-  pub frames : free_of old.space.frames ≤ free_of new.space.frames + most_writes * slices
+  pub frames : free_of old.space.frames ≤ free_of new.space.frames + most
   pub reason : Ends old new (replies.Refused refusals.NoMemory)
-      ⊎ (Ends old new (replies.Refused refusals.NoFrame) × LacksFrames slices old)
+      ⊎ (Ends old new (replies.Refused refusals.NoFrame) × LacksFrames most old)
 
 -- what one step of a job does: the last slice finishes it, and so does a refusal
 abbrev pub StepsTo : RunningJob → PartitionState → PartitionState → Progress → Type 0
 StepsTo job old new progress.More = (is_last job ≡ false) × Continues job old new
-StepsTo job old new progress.Finished = ((is_last job ≡ true) × Accepts 1 job.command old new) ⊎ Refuses 1 old new
+StepsTo job old new progress.Finished =
+    ((is_last job ≡ true) × Accepts (writes job.command job.slices) job.command old new) ⊎ Refuses (writes job.command job.slices) old new
 
 -- what no snapshot changes: the warehouse with its job
 pub record KeepsJob (old new : PartitionState) : Type 0 where
@@ -144,8 +151,7 @@ pub record Closes (old new : PartitionState) (child : ℕ) : Type 0 where
   pub job : KeepsJob old new
   pub others : KeepsOthers old new child
 
--- a partition with the rows of one warehouse of a load, with nothing kept and no snapshot. No more
--- frames were taken than it has rows, and three
+-- a partition with the rows of one warehouse of a load, with nothing kept and no snapshot
 pub record Begins (load : Tables) (number frames commits : ℕ) (p : PartitionState) : Type 0 where
   pub warehouse : p.warehouse ≡ number
   pub loaded : p.loaded ≡ of_warehouse number load
@@ -155,5 +161,4 @@ pub record Begins (load : Tables) (number frames commits : ℕ) (p : PartitionSt
   pub undo : p.undo ≡ empty_log p.space
   pub finished : p.finished ≡ None
   pub max_frames : p.space.frames.max ≡ frames
-  pub free_frames : frames ≤ free_of p.space.frames + 3 + row_count p.loaded
   pub snapshots : (child : ℕ) → commits_of p child ≡ None

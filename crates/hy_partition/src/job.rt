@@ -1,7 +1,8 @@
 //! Jobs: commands that are handed to a partition, and their replies.
 
-ghost use Rattle.std.specs.Prelude.{◌≡◌, ◌+◌, ◌≤◌};
+ghost use Rattle.std.specs.Prelude.{◌≡◌, ◌+◌, ◌<◌};
 ghost use Rattle.hy_schema.specs.declared.command.Reply.TheVariants as replies;
+ghost use Rattle.hy_partition.specs.Slices.{slice_count};
 
 use hy_schema::{Command, Refusal, Reply};
 use std::marker::Model;
@@ -14,31 +15,31 @@ pub struct Job {
 
 // Clauses see the command.
 impl Model for Job {
-    ghost use Rattle.hy_schema.specs.declared.command.Command.{Command};
+    ghost use Rattle.hy_partition.specs.Jobs.{JobState};
 
-    ghost Value = { Command };
+    ghost Value = { JobState };
 
-    ghost view = { λ job. job.command };
+    ghost view = { λ job. record { command = job.command } };
 }
 
 impl Job {
     /// A job that runs a command.
     pub fn new(command: Command) -> Job
-        ensures { result ≡ command }
+        ensures { result ≡ record { command = command } }
     {
         Job { command }
     }
 
     /// The command.
     pub fn command(&self) -> &Command
-        ensures { result.now ≡ self.now }
+        ensures { result.now ≡ self.now.command }
     {
         &self.command
     }
 
     /// The answer to a job that nobody begins.
     pub fn refuse(self, refusal: Refusal) -> Done
-        ensures { result ≡ replies.Refused refusal }
+        ensures { result ≡ record { reply = replies.Refused refusal } }
     {
         let Job { command: _ } = self;
         Done {
@@ -48,7 +49,7 @@ impl Job {
 
     /// The command, to be begun.
     pub(crate) fn into_command(self) -> Command
-        ensures { result ≡ self }
+        ensures { result ≡ self.command }
     {
         let Job { command } = self;
         command
@@ -63,24 +64,24 @@ pub struct Done {
 
 // Clauses see the reply.
 impl Model for Done {
-    ghost use Rattle.hy_schema.specs.declared.command.Reply.{Reply};
+    ghost use Rattle.hy_partition.specs.Jobs.{DoneState};
 
-    ghost Value = { Reply };
+    ghost Value = { DoneState };
 
-    ghost view = { λ done. done.reply };
+    ghost view = { λ done. record { reply = done.reply } };
 }
 
 impl Done {
     /// The answer to a job that ended.
     pub(crate) fn new(reply: Reply) -> Done
-        ensures { result ≡ reply }
+        ensures { result ≡ record { reply = reply } }
     {
         Done { reply }
     }
 
     /// The reply.
     pub fn open(self) -> Reply
-        ensures { result ≡ self }
+        ensures { result ≡ self.reply }
     {
         let Done { reply } = self;
         reply
@@ -115,7 +116,7 @@ impl Model for Running {
 }
 
 impl Running {
-    ghost use Rattle.hy_partition.specs.Jobs.{RunningJob, is_last, slice_count};
+    ghost use Rattle.hy_partition.specs.Slices.{is_last};
 
     /// A command of which no slice is done.
     pub(crate) fn new(command: Command) -> Running
@@ -140,7 +141,7 @@ impl Running {
 
     /// The job after one slice more.
     pub(crate) fn next(&self) -> Running
-        requires { self.now.slices ≤ 1 }
+        requires { self.now.slices < slice_count self.now.command }
         ensures { result ≡ record self.now { slices = self.now.slices + 1 } }
     {
         Running {
@@ -151,12 +152,18 @@ impl Running {
 
     /// Whether the next slice is the last one.
     pub(crate) fn is_last(&self) -> bool
-        requires { self.now.slices ≤ 1 }
+        requires { self.now.slices < slice_count self.now.command }
         ensures { result ≡ is_last self.now }
     {
-        let count = match self.command {
-            Command::Payment(_) => 2,
-        };
-        self.slices + 1 == count
+        self.slices + 1 == slice_count(&self.command)
+    }
+}
+
+/// How many slices a command has.
+fn slice_count(command: &Command) -> u64
+    ensures { result ≡ slice_count command.now }
+{
+    match command {
+        Command::Payment(_) => 2,
     }
 }

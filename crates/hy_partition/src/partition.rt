@@ -1,25 +1,24 @@
 //! The partition of one warehouse.
 
 ghost use Rattle.std.specs.Prelude.{◌≡◌, ◌≢◌, ℕ, ◌+◌, ◌<◌, ◌≤◌, vec_capacity, slice_index_or, ◌↔◌, ◌⊎◌, IsTrue, IsSome, IsSomeAnd, List, length, take, Option, Some, None, Ok, Err, IfOk, IfErr, IsOk, IsOkAnd, OnOk, OnErr, MatchOption, MatchResult};
-ghost use Rattle.hy_frames.specs.FrameTable.{free_of, shared_of, IsLimitFor, IsPageSize};
+ghost use Rattle.hy_frames.specs.FrameTable.{free_of, shared_of, IsLimitFor, IsPageSize, max_frames as most_frames};
 ghost use Rattle.hy_schema.specs.declared.refusal.Refusal.{Refusal};
-ghost use Rattle.hy_schema.specs.Tables.{of_warehouse};
 ghost use Rattle.hy_space.specs.Space.{SameForChildren};
 ghost use Rattle.hy_partition.specs.Headline.{Headline};
 ghost use Rattle.hy_partition.specs.Partition.{PartitionState, commits_of, rows_after, rows_now};
-ghost use Rattle.hy_partition.specs.Jobs.{is_last, slice_count};
-ghost use Rattle.hy_partition.specs.Rows.{row_count};
+ghost use Rattle.hy_partition.specs.Limits.{most_kept};
+ghost use Rattle.hy_partition.specs.Slices.{all_writes, is_last};
 ghost use Rattle.hy_undo.specs.Touched.{touched};
 ghost use Rattle.hy_undo.specs.PrivatePages.{IsUndoLog};
 ghost use Rattle.hy_schema.specs.Spelling.{Spells};
 ghost use Rattle.hy_partition.specs.Steps.{begin_refusal, Accepts, Begins, Closes, Forks, IsOpen, KeepsJob, Refuses, StaysUnforked, StepsTo};
 
-use crate::fill::{LoadedRows, pages_with, rows_of_warehouse};
+use crate::fill::pages_with;
 use crate::job::{Done, Job, Progress, Running};
-use crate::refusals::refusal_for_shortage;
-use crate::slices::{refusal_for, run_slice};
+use crate::refusals::refusal_of_shortage;
+use crate::slices::{find_customer, run_slice};
 use crate::snapshot::Snapshot;
-use hy_schema::{Commit, Load, Refusal, Reply};
+use hy_schema::{Commit, Load, Refusal, Reply, Tables};
 use hy_space::Space;
 use hy_undo::Undo;
 use std::alloc::Global;
@@ -29,10 +28,11 @@ use std::marker::Model;
 #[derive(Drop)]
 pub struct Partition<const N: usize> {
     warehouse: u8,
-    loaded: LoadedRows,
+    loaded: Tables,
     kept: Vec<Commit>,
     max_kept: u64,
     running: Option<Running>,
+    customer: u64,
     undo: Undo<N>,
     finished: Option<Done>,
     space: Space<N>,
@@ -43,20 +43,20 @@ pub struct Partition<const N: usize> {
 impl<const N: usize> Model for Partition<N> {
     ghost use Rattle.std.specs.Prelude.{vec_capacity};
     ghost use Rattle.hy_partition.specs.Partition.{PartitionState};
-    ghost use Rattle.hy_partition.specs.Soundness.{IsSound};
+    ghost use Rattle.hy_partition.specs.inside.Soundness.{IsSound};
 
     ghost Value = { PartitionState };
 
-    ghost use Rattle.hy_partition.specs.Views.{partition_of};
+    ghost use Rattle.hy_partition.specs.inside.Views.{partition_of};
 
     ghost view = { partition_of };
 
-    ghost invariant = { λ p. IsSound N (vec_capacity p.kept) (partition_of p) };
+    ghost invariant = { λ p. IsSound N (vec_capacity p.kept) p.customer (partition_of p) };
 }
 
 impl<const N: usize> Partition<N> {
     /// The warehouse's rows of the load, with nothing kept and no snapshot; at most `max_kept` commits will be kept. E2
-    /// where `max_frames` is too small for the rows: never where it is more than their number and three. E1.
+    /// where `max_frames` is too small for the rows. E1.
     pub fn new(
         alloc: Global,
         load: &Load,
@@ -66,34 +66,33 @@ impl<const N: usize> Partition<N> {
     ) -> Result<Partition<N>, Refusal>
         requires size { IsPageSize N }
         requires some_frames { 1 ≤ max_frames }
-        requires frames { max_frames ≤ 10000000 }
+        requires frames { max_frames ≤ most_frames }
         requires some_kept { 1 ≤ max_kept }
-        requires kept { max_kept ≤ 100000000 }
+        requires kept { max_kept ≤ most_kept }
         requires first { 1 ≤ warehouse }
         requires last { warehouse ≤ length load.now.warehouses }
         ensures begins { IfOk result (Begins load.now warehouse max_frames max_kept) }
-        ensures refused { IfErr result (λ refusal. (refusal ≡ Refusal.NoMemory) ⊎ ((refusal ≡ Refusal.NoFrame) × (max_frames ≤ 3 + row_count (of_warehouse warehouse load.now)))) }
+        ensures refused { IfErr result (λ refusal. (refusal ≡ Refusal.NoMemory) ⊎ (refusal ≡ Refusal.NoFrame)) }
     {
         load.sound();
-        let Ok(loaded) = rows_of_warehouse(alloc, load, warehouse) else {
-            return Err(Refusal::NoMemory);
-        };
+        let loaded = load.tables().of_warehouse(alloc, warehouse)?;
         match pages_with(alloc, &loaded, max_frames) {
-            Ok(space) => match Undo::new(alloc, &space) {
-                Ok(undo) => Ok(Partition {
+            Ok(space) => {
+                let undo = Undo::new(alloc, &space)?;
+                Ok(Partition {
                     warehouse,
                     loaded,
                     kept: Vec::new(alloc),
                     max_kept,
                     running: None,
+                    customer: 0,
                     undo,
                     finished: None,
                     space,
                     snapshots: Vec::new(alloc),
-                }),
-                Err(_) => Err(Refusal::NoMemory),
-            },
-            Err(shortage) => Err(refusal_for_shortage(shortage)),
+                })
+            }
+            Err(shortage) => Err(refusal_of_shortage(shortage)),
         }
     }
 
@@ -108,18 +107,19 @@ impl<const N: usize> Partition<N> {
     /// these that holds: E9 where a job runs or its answer wasn't taken; E8, E4, E5, E6 of the command; E3 where as many
     /// commits are kept as may be; E1.
     pub fn begin(&mut self, job: Job) -> Result<(), (Job, Refusal)>
-        ensures begun { OnOk result (self.new ≡ record self.old { running = Some (record { command = job; slices = 0 }) }) }
-        ensures accepted { OnOk result (begin_refusal self.old job ≡ None) }
-        ensures refused { IfErr result (λ refused. (begin_refusal self.old job ≡ Some refused.1) ⊎ ((begin_refusal self.old job ≡ None) × (refused.1 ≡ Refusal.NoMemory))) }
+        ensures begun { OnOk result (self.new ≡ record self.old { running = Some (record { command = job.command; slices = 0 }) }) }
+        ensures accepted { OnOk result (begin_refusal self.old job.command ≡ None) }
+        ensures refused { IfErr result (λ refused. (begin_refusal self.old job.command ≡ Some refused.1) ⊎ ((begin_refusal self.old job.command ≡ None) × (refused.1 ≡ Refusal.NoMemory))) }
         ensures back { IfErr result (λ refused. refused.0 ≡ job) }
         ensures err { OnErr result (self.new ≡ self.old) }
     {
         if self.running.is_some() || self.finished.is_some() {
             return Err((job, Refusal::Busy));
         }
-        if let Some(refusal) = refusal_for(self.warehouse, &self.space, job.command()) {
-            return Err((job, refusal));
-        }
+        let customer = match find_customer(self.warehouse, &self.space, job.command()) {
+            Ok(customer) => customer,
+            Err(refusal) => return Err((job, refusal)),
+        };
         if self.kept.len() as u64 == self.max_kept {
             return Err((job, Refusal::HistoryFull));
         }
@@ -127,6 +127,7 @@ impl<const N: usize> Partition<N> {
             return Err((job, Refusal::NoMemory));
         }
         self.running = Some(Running::new(job.into_command()));
+        self.customer = customer;
         Ok(())
     }
 
@@ -138,7 +139,7 @@ impl<const N: usize> Partition<N> {
         let Some(running) = self.running else {
             return Err(Refusal::NotRunning);
         };
-        match run_slice(&mut self.space, &mut self.undo, &running) {
+        match run_slice(&mut self.space, &mut self.undo, &running, self.customer) {
             Ok(None) => {
                 self.running = Some(running.next());
                 Ok(Progress::More)
@@ -153,7 +154,7 @@ impl<const N: usize> Partition<N> {
             Err(shortage) => {
                 self.undo.roll_back(&mut self.space);
                 self.running = None;
-                self.finished = Some(Done::new(Reply::Refused(refusal_for_shortage(shortage))));
+                self.finished = Some(Done::new(Reply::Refused(refusal_of_shortage(shortage))));
                 Ok(Progress::Finished)
             }
         }
@@ -161,7 +162,7 @@ impl<const N: usize> Partition<N> {
 
     /// Steps until nothing runs.
     pub fn finish_running(&mut self)
-        ensures { MatchOption self.old.running (self.new ≡ self.old) (λ job. Accepts (slice_count job.command) job.command self.old self.new ⊎ Refuses (slice_count job.command) self.old self.new) }
+        ensures { MatchOption self.old.running (self.new ≡ self.old) (λ job. Accepts (all_writes job.command) job.command self.old self.new ⊎ Refuses (all_writes job.command) self.old self.new) }
     {
         while self.running.is_some() {
             let _progress = self.step();

@@ -1,18 +1,20 @@
 //! Rows in the slots of a segment.
 
-ghost use Rattle.std.specs.Prelude.{◌≡◌, ℕ, ◌+◌, ◌-◌, ◌*◌, ◌^◌, ◌<◌, ◌≤◌, List, ◌++◌, ◌∷◌, [], length, Some, None, Err, find, IfSome, IfNone, OnOk, OnErr};
-ghost use Rattle.hy_page.specs.Bytes.{bytes_at, overwritten};
-ghost use Rattle.hy_schema.specs.Slots.{slot_written};
-ghost use Rattle.hy_schema.specs.Spelling.{HasTables, IsFirstMatch, rows_of, slot_at, slot_offset, slot_page, slot_width, used_slots};
-ghost use Rattle.hy_space.specs.Space.{owner_bytes, HasPage, page_at, with_page, SameForChildren, MakesOwn};
-ghost use Rattle.hy_partition.specs.Shortages.{IsOutOfFrames};
-ghost use Rattle.hy_partition.specs.Rows.{ChangesRow, LiveRow, KeepsOtherSegments, WritesPage, owner_pages};
+ghost use Rattle.std.specs.Prelude.{◌≡◌, ℕ, ◌+◌, ◌^◌, ◌<◌, ◌≤◌, List, drop, Some, None, Err, find, true, IsSome, IfSome, IfNone, OnOk};
+ghost use Rattle.hy_page.specs.Bytes.{bytes_at};
+ghost use Rattle.hy_schema.specs.Spelling.{HasTables, IsFirstMatch, is_live, slot_at, slot_offset, slot_page, slot_width, used_slots};
+ghost use Rattle.hy_space.specs.Space.{owner_bytes, HasPage};
+ghost use Rattle.hy_undo.specs.PrivatePages.{IsUndoLog};
+ghost use Rattle.hy_partition.specs.inside.Changes.{CanUndo};
+ghost use Rattle.hy_partition.specs.inside.Shortages.{IsOutOfFrames};
+ghost use Rattle.hy_partition.specs.inside.Rows.{ChangesRow, LiveRow, KeepsOtherSegments, owner_pages, owner_rows};
 
 use crate::keyed::Keyed;
 use hy_frames::Shortage;
 use hy_page::Page;
 use hy_schema::{Row, SlotBytes};
 use hy_space::Space;
+use hy_undo::Undo;
 
 /// A row, and the number of its slot.
 #[derive(Clone, Copy)]
@@ -94,12 +96,27 @@ pub(crate) fn row_in<R: Row, const N: usize>(space: &Space<N>, slot: u64) -> Opt
     row_at(space.page(R::SEGMENT, place.page as u32), place.offset)
 }
 
+/// The row of a used slot that is live, in the owner's pages.
+pub(crate) fn live_row<R: Row, const N: usize>(space: &Space<N>, slot: u64) -> R
+    requires tables { HasTables N (owner_bytes space.now) }
+    requires used { slot < used_slots (owner_pages space.now R.SEGMENT) }
+    requires live { is_live (slot_at N R.BYTES (owner_pages space.now R.SEGMENT) slot) ≡ true }
+    ensures { result ≡ R.row_of_bytes (drop 1 (slot_at N R.BYTES (owner_pages space.now R.SEGMENT) slot)) }
+{
+    match row_in::<R, N>(space, slot) {
+        Some(row) => row,
+        None => unreachable!(),
+    }
+}
+
 /// The first row with a key, in the owner's pages.
 pub(crate) fn find_row<R: Keyed, const N: usize>(space: &Space<N>, key: &R::Key) -> Option<Found<R>>
     requires { HasTables N (owner_bytes space.now) }
-    ensures none { IfNone result (find (R.is_at key.now) (rows_of N R.BYTES R.row_of_bytes (owner_pages space.now R.SEGMENT)) ≡ None) }
-    ensures found { IfSome result (λ found. IsFirstMatch R.row_of_bytes (R.is_at key.now) (slot_at N R.BYTES (owner_pages space.now R.SEGMENT)) found.slot found.row) }
+    ensures none { IfNone result (find (R.is_at key.now) (R.rows_in (owner_rows N space.now)) ≡ None) }
+    ensures found { IfSome result (λ found. IsFirstMatch R.row_of_bytes (R.is_at key.now)
+        (slot_at N R.BYTES (owner_pages space.now R.SEGMENT)) found.slot found.row) }
     ensures used { IfSome result (λ found. found.slot < used_slots (owner_pages space.now R.SEGMENT)) }
+    ensures row { IfSome result (λ found. find (R.is_at key.now) (R.rows_in (owner_rows N space.now)) ≡ Some found.row) }
 {
     for slot in 0..used_of::<R, N>(space) {
         let Some(row) = row_in::<R, N>(space, slot) else {
@@ -110,4 +127,49 @@ pub(crate) fn find_row<R: Keyed, const N: usize>(space: &Space<N>, key: &R::Key)
         }
     }
     None
+}
+
+/// The first row with a key that is there, in the owner's pages.
+pub(crate) fn row_with<R: Keyed, const N: usize>(space: &Space<N>, key: &R::Key) -> Found<R>
+    requires tables { HasTables N (owner_bytes space.now) }
+    requires there { IsSome (find (R.is_at key.now) (R.rows_in (owner_rows N space.now))) }
+    ensures first { IsFirstMatch R.row_of_bytes (R.is_at key.now)
+        (slot_at N R.BYTES (owner_pages space.now R.SEGMENT)) result.slot result.row }
+    ensures used { result.slot < used_slots (owner_pages space.now R.SEGMENT) }
+    ensures row { find (R.is_at key.now) (R.rows_in (owner_rows N space.now)) ≡ Some result.row }
+{
+    match find_row::<R, N>(space, key) {
+        Some(found) => found,
+        None => unreachable!(),
+    }
+}
+
+/// Writes a row into a used slot, in the place of the row there, and keeps what it overwrites.
+pub(crate) fn change<R: Row, const N: usize>(
+    space: &mut Space<N>,
+    undo: &mut Undo<N>,
+    slot: u64,
+    row: &R,
+) -> Result<(), Shortage>
+    requires tables { HasTables N (owner_bytes space.old) }
+    requires undo_log { IsUndoLog N space.old undo.old }
+    requires used { slot < used_slots (owner_pages space.old R.SEGMENT) }
+    ensures tables { OnOk result (HasTables N (owner_bytes space.new)) }
+    ensures rows { OnOk result (ChangesRow N R.BYTES R.row_of_bytes R.rows_in R.with_rows
+        (owner_pages space.old R.SEGMENT) (owner_rows N space.old) (owner_rows N space.new) slot row.now) }
+    ensures others { OnOk result (KeepsOtherSegments (owner_bytes space.old) (owner_bytes space.new) R.SEGMENT) }
+    ensures can_undo { CanUndo N 1 space.old space.new undo.old undo.new }
+    ensures no_frame { result ≡ Err Shortage.NoFrame → IsOutOfFrames space.new }
+{
+    space.sound();
+    let place = place_in::<R, N>(space, slot);
+    let mut bytes = SlotBytes::new();
+    row.encode(&mut bytes);
+    undo.write(
+        space,
+        R::SEGMENT,
+        place.page as u32,
+        place.offset + 1,
+        bytes.as_slice(),
+    )
 }

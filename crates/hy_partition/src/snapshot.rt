@@ -82,11 +82,11 @@ impl<const N: usize> Snapshot<N> {
         self.commits
     }
 
-    /// The rows of one table.
-    pub fn list<R: Row>(&self, alloc: Global) -> Result<Vec<R>, AllocError>
+    /// The rows of one table. Only memory can lack.
+    pub fn list<R: Row>(&self) -> Result<Vec<R>, AllocError>
         ensures { IfOk result (λ rows. rows.items ≡ R.rows_in (tables_of N self.now.bytes)) }
     {
-        rows_on_pages(alloc, self.segment(R::SEGMENT))
+        rows_on_pages(*self.pages.allocator(), self.segment(R::SEGMENT))
     }
 
     /// The pages of a segment.

@@ -29,7 +29,7 @@ use Rattle.hy_schema.proofs.ChangedLists.{All-passing_also, All-with_changed, co
 use Rattle.hy_schema.proofs.KeyLaws.{IsOneWarehouse-load}
 
 -- the key of one of the ten districts is there
-finds-district : (number district : ℕ) → IsBetween 1 10 district
+pub finds-district : (number district : ℕ) → IsBetween 1 10 district
     → (key : ℕ × ℕ) × (find (λ key. (key.0 == number) && (key.1 == district))
     (map (λ district. (number, district)) district_numbers) ≡ Some key)
 finds-district number district between =

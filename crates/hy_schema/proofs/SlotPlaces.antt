@@ -9,7 +9,7 @@ use Rattle.hy_page.specs.Bytes.{number_of, bytes_of, bytes_at, overwritten}
 use Rattle.hy_page.proofs.ByteLaws.{field_written, bytes_at-overwritten_same, bytes_at-overwritten_before, bytes_at-overwritten_behind, length-bytes_at}
 use Rattle.hy_schema.specs.Spelling.{list_at, slot_width, slots_per_page, slot_page, slot_offset, slot_at, used_slots, is_live, first_items, live_rows, rows_of, HasSlots, IsFirstMatch}
 use Rattle.hy_schema.specs.Rows.{number_at}
-use Rattle.hy_schema.specs.Slots.{slot_written, slots_counted}
+use Rattle.hy_schema.specs.inside.Slots.{slot_written, slots_counted}
 use Rattle.hy_schema.specs.Finding.{with_changed}
 use Rattle.hy_schema.proofs.ChangedRows.{live_rows-changed, live_rows-append, first_items-same}
 

@@ -1,6 +1,6 @@
 -- Finding a row by its key, and changing it. No key stands twice in a load, nor in what commits make of a warehouse
 -- (`Keys`), so that the first row with a key is the only one.
-use Rattle.std.specs.Prelude.{ℕ, Bool, ◌==◌, ◌&&◌, if◌then◌else◌, List, [], ◌∷◌}
+use Rattle.std.specs.Prelude.{ℕ, Bool, ◌==◌, ◌&&◌, if◌then◌else◌, List, [], ◌∷◌, find, unwrap_or}
 use Rattle.hy_schema.specs.declared.warehouse.Warehouse.{Warehouse}
 use Rattle.hy_schema.specs.declared.district.District.{District}
 use Rattle.hy_schema.specs.declared.customer.Customer.{Customer}
@@ -15,6 +15,11 @@ is_district warehouse number row = (row.warehouse == warehouse) && (row.id == nu
 abbrev pub is_customer : ℕ → ℕ → ℕ → Customer → Bool
 is_customer warehouse district number row =
     (row.warehouse == warehouse) && (row.district == district) && (row.id == number)
+
+-- the first row that passes the test. A command is accepted only where its rows are there; another row stands for one
+-- that isn't
+abbrev pub first_or : {Row : Type 0} → Row → (Row → Bool) → List Row → Row
+first_or none test rows = unwrap_or (find test rows) none
 
 -- the list with the first row that passes the test changed
 abbrev pub with_changed : {Row : Type 0} → (Row → Bool) → (Row → Row) → List Row → List Row

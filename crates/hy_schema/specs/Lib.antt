@@ -11,5 +11,5 @@ pub mod Replay
 pub mod Conditions
 pub mod Loads
 pub mod Spelling
-pub mod Slots
 pub mod WorkedRows
+pub mod inside

@@ -1,15 +1,33 @@
--- What the bytes of a page table say. The bytes are, for each segment, the list of its pages' bytes. Segment 0 has
--- WAREHOUSE, 1 DISTRICT, 2 CUSTOMER. Page 0 of a segment begins with the number of used slots in eight bytes; the
+-- What the bytes of a page table say. The bytes are, for each segment, the list of its pages' bytes. Each table has
+-- a segment. Page 0 of a segment begins with the number of used slots in eight bytes; the
 -- slots lie on the pages from 1 on, from each page's first byte, and none across the end of a page. A slot is a mark,
 -- 1 for a live row and 0 for an erased one, and the bytes of the row.
-use Rattle.std.specs.Prelude.{◌≡◌, ℕ, ◌+◌, ◌-◌, ◌*◌, ◌/◌, ◌%◌, ◌<◌, ◌≤◌, ◌==◌, ◌⊎◌, Bool, true, None, find, List, [], ◌∷◌, ◌++◌, length, map, filter, drop, slice_index_or, zero, suc}
+use Rattle.std.specs.Prelude.{◌≡◌, ℕ, ◌+◌, ◌-◌, ◌*◌, ◌/◌, ◌%◌, ◌<◌, ◌≤◌, ◌==◌, Bool, true, None, Some, find, List, [], ◌∷◌, ◌++◌, length, map, filter, drop, slice_get, slice_index, slice_index_or, zero, suc}
 use Rattle.hy_page.specs.Bytes.{bytes_at}
 use Rattle.hy_schema.specs.Rows.{number_at, warehouse_of, district_of, customer_of}
 use Rattle.hy_schema.specs.Tables.{Tables}
 
+-- the segment of each table
+abbrev pub warehouse_segment : ℕ
+warehouse_segment = 0
+
+abbrev pub district_segment : ℕ
+district_segment = 1
+
+abbrev pub customer_segment : ℕ
+customer_segment = 2
+
+-- how many bytes a row of each table has, by segment
+abbrev pub row_widths : List ℕ
+row_widths = 21 ∷ 26 ∷ 74 ∷ []
+
 -- how many segments a page table has
 abbrev pub segments : ℕ
-segments = 3
+segments = length row_widths
+
+-- a segment is that of a table whose rows have so many bytes
+abbrev pub IsTable : ℕ → ℕ → Type 0
+IsTable segment row_bytes = slice_get row_widths segment ≡ Some row_bytes
 
 -- the list at a place of a list of lists, or the empty one
 abbrev pub list_at : {Item : Type 0} → List (List Item) → ℕ → List Item
@@ -59,18 +77,17 @@ pub record HasSlots (n row_bytes : ℕ) (pages : List (List ℕ)) : Type 0 where
   pub first : 0 < length pages
   pub slots : used_slots pages ≤ slots_per_page n row_bytes * (length pages - 1)
 
+-- the rows of one segment of a page table
+abbrev pub segment_rows : {Row : Type 0} → ℕ → List (List (List ℕ)) → ℕ → (List ℕ → Row) → List Row
+segment_rows n bytes segment row_of = rows_of n (slice_index row_widths segment) row_of (list_at bytes segment)
+
 -- the rows that the bytes of a page table say
 abbrev pub tables_of : ℕ → List (List (List ℕ)) → Tables
 tables_of n bytes = record {
-  warehouses = rows_of n 21 warehouse_of (list_at bytes 0);
-  districts = rows_of n 26 district_of (list_at bytes 1);
-  customers = rows_of n 74 customer_of (list_at bytes 2);
+  warehouses = segment_rows n bytes warehouse_segment warehouse_of;
+  districts = segment_rows n bytes district_segment district_of;
+  customers = segment_rows n bytes customer_segment customer_of;
 }
-
--- the tables: the segment of each, and how many bytes its rows have
-abbrev pub IsTable : ℕ → ℕ → Type 0
-IsTable segment row_bytes =
-    ((segment ≡ 0) × (row_bytes ≡ 21)) ⊎ (((segment ≡ 1) × (row_bytes ≡ 26)) ⊎ ((segment ≡ 2) × (row_bytes ≡ 74)))
 
 -- each table's segment is there, with its slots
 pub record HasTables (n : ℕ) (bytes : List (List (List ℕ))) : Type 0 where

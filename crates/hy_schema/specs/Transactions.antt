@@ -1,6 +1,6 @@
 -- What a command does to one warehouse, and its reply (TPC-C clause 2). Nothing here knows of slices of a
 -- transaction, of memory or of pages.
-use Rattle.std.specs.Prelude.{ℕ, pos, ◌+◌, ◌+ℤ◌, ◌-ℤ◌, Bool, ◌==◌, ◌&&◌, not, is_none, if◌then◌else◌, Option, Some, None, find}
+use Rattle.std.specs.Prelude.{ℕ, pos, ◌+◌, ◌+ℤ◌, ◌-ℤ◌, Bool, ◌==◌, ◌&&◌, not, is_some, if◌then◌else◌, Option, Some, None, [], find}
 use Rattle.hy_schema.specs.declared.warehouse.Warehouse.{Warehouse}
 use Rattle.hy_schema.specs.declared.district.District.{District}
 use Rattle.hy_schema.specs.declared.customer.Customer.{Customer}
@@ -12,7 +12,8 @@ use Rattle.hy_schema.specs.declared.command.Reply.TheVariants as replies
 use Rattle.hy_schema.specs.declared.refusal.Refusal.{Refusal}
 use Rattle.hy_schema.specs.declared.refusal.Refusal.TheVariants as refusals
 use Rattle.hy_schema.specs.Tables.{Tables}
-use Rattle.hy_schema.specs.Finding.{is_warehouse, is_district, is_customer, with_changed}
+use Rattle.hy_schema.specs.Rows.{customer_of}
+use Rattle.hy_schema.specs.Finding.{is_warehouse, is_district, is_customer, first_or, with_changed}
 use Rattle.hy_schema.specs.Limits.{districts_per_warehouse}
 use Rattle.hy_schema.specs.Ranges.{is_between}
 use Rattle.hy_schema.specs.Commands.{is_payment_in_range, number_of_who}
@@ -26,8 +27,12 @@ pub record Outcome : Type 0 where
 abbrev pub is_payer : Payment → Customer → Bool
 is_payer payment = is_customer payment.customer_warehouse payment.customer_district (number_of_who payment.who)
 
-abbrev pub payer : Payment → Tables → Option Customer
-payer payment tables = find (is_payer payment) tables.customers
+abbrev pub payer : Payment → Tables → Customer
+payer payment tables = first_or (customer_of []) (is_payer payment) tables.customers
+
+-- whether that customer is there
+abbrev pub has_payer : Payment → Tables → Bool
+has_payer payment tables = is_some (find (is_payer payment) tables.customers)
 
 -- whether a district has this number
 abbrev pub is_district_number : ℕ → Bool
@@ -41,7 +46,7 @@ payment_refusal warehouse payment tables =
     then Some refusals.NoSuchWarehouse
     else if not (is_district_number payment.district && is_district_number payment.customer_district)
     then Some refusals.NoSuchDistrict
-    else if is_none (payer payment tables) then Some refusals.NoSuchCustomer
+    else if not (has_payer payment tables) then Some refusals.NoSuchCustomer
     else None
 
 -- why a warehouse refuses a command
@@ -64,16 +69,15 @@ customer_paid cents row = record row {
 
 -- the rows after a payment
 abbrev pub paid : Payment → Tables → Tables
-paid payment tables = record {
+paid payment tables = record tables {
   warehouses = with_changed (is_warehouse payment.warehouse) (warehouse_paid payment.amount) tables.warehouses;
   districts = with_changed (is_district payment.warehouse payment.district) (district_paid payment.amount) tables.districts;
   customers = with_changed (is_payer payment) (customer_paid payment.amount) tables.customers;
 }
 
 -- the reply to a payment: the customer's number, and the balance after it
-abbrev pub payment_reply : Payment → Option Customer → Reply
-payment_reply payment (Some row) = replies.Payment row.id (row.balance -ℤ pos payment.amount)
-payment_reply payment None = replies.Refused refusals.NoSuchCustomer
+abbrev pub payment_reply : Payment → Customer → Reply
+payment_reply payment row = replies.Payment row.id (row.balance -ℤ pos payment.amount)
 
 -- what an accepted command does
 abbrev pub accepted : Command → Tables → Outcome

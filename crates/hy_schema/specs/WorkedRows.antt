@@ -1,8 +1,9 @@
 -- Worked examples, which the checker computes: a fresh load of one warehouse with three customers in each district, a
 -- few payments at it, the bytes of one row of each table, and a small page table.
-use Rattle.std.specs.Prelude.{◌≡◌, ℕ, pos, negsuc, ◌*◌, true, false, List, [], ◌∷◌, ◌++◌, All, map, take, drop, replicate, codes, refl}
+use Rattle.std.specs.Prelude.{◌≡◌, ℕ, pos, negsuc, ◌*◌, ◌-◌, ◌<◌, true, false, List, [], ◌∷◌, ◌++◌, All, map, take, drop, replicate, codes, refl}
 use Rattle.std.specs.List.{flat_map}
-use Rattle.std.proofs.Common.{inl, inr, sym, subst, lit<, lit≤}
+use Rattle.std.proofs.Common.{subst, sym, zero, suc, Some, arith, lit<, lit≤}
+use Rattle.std.proofs.lemmas.List.{get_or-replicate}
 use Rattle.std.proofs.lemmas.List.Elements.{All-nil, All-cons, All-append}
 use Rattle.hy_schema.specs.declared.warehouse.Warehouse.{Warehouse}
 use Rattle.hy_schema.specs.declared.district.District.{District}
@@ -15,12 +16,13 @@ use Rattle.hy_schema.specs.declared.command.Who.TheVariants as who
 use Rattle.hy_schema.specs.declared.refusal.Refusal.TheVariants as refusals
 use Rattle.hy_schema.specs.Texts.{text_of, padded}
 use Rattle.hy_schema.specs.Rows.{warehouse_bytes, warehouse_of, district_bytes, district_of, customer_bytes, customer_of}
-use Rattle.hy_schema.specs.Tables.{Tables, of_warehouse}
+use Rattle.hy_schema.specs.Tables.{Tables, no_rows, of_warehouse}
 use Rattle.hy_schema.specs.Commands.{is_in_range, warehouses_of}
 use Rattle.hy_schema.specs.Transactions.{Outcome, act}
 use Rattle.hy_schema.specs.Replay.{replay}
 use Rattle.hy_schema.specs.Conditions.{Condition1, Condition12, IsBalanced, IsSumOfDistricts, ytd_of_districts}
-use Rattle.hy_schema.specs.Spelling.{HasSlots, IsTable, Spells, list_at, slots_per_page, rows_of}
+use Rattle.hy_schema.specs.Spelling.{HasSlots, IsTable, Spells, list_at, segments, slots_per_page, rows_of, used_slots}
+use Rattle.hy_schema.specs.inside.Places.{segment_there}
 
 -- the warehouse of the fresh load
 abbrev pub fresh_warehouse : Warehouse
@@ -57,7 +59,7 @@ fresh_customers district =
 
 -- the fresh load
 abbrev pub fresh : Tables
-fresh = record {
+fresh = record no_rows {
   warehouses = fresh_warehouse ∷ [];
   districts =
       fresh_district 1 (codes "D1")
@@ -97,12 +99,12 @@ fresh-condition_12 = fresh_customers-condition_12 (1 ∷ 2 ∷ 3 ∷ 4 ∷ 5 ∷
 pub fresh-of_warehouse_1 : of_warehouse 1 fresh ≡ fresh
 fresh-of_warehouse_1 = refl
 
-pub fresh-of_warehouse_2 : of_warehouse 2 fresh ≡ record { warehouses = []; districts = []; customers = [] }
+pub fresh-of_warehouse_2 : of_warehouse 2 fresh ≡ no_rows
 fresh-of_warehouse_2 = refl
 
 -- the rows of a second warehouse like the first
 abbrev pub second : Tables
-second = record {
+second = record no_rows {
   warehouses = record fresh_warehouse { id = 2 } ∷ [];
   districts = map (λ (row : District). record row { warehouse = 2 }) fresh.districts;
   customers = map (λ (row : Customer). record row { warehouse = 2 }) fresh.customers;
@@ -110,7 +112,7 @@ second = record {
 
 -- the rows of both
 abbrev pub two_warehouses : Tables
-two_warehouses = record {
+two_warehouses = record no_rows {
   warehouses = fresh.warehouses ++ second.warehouses;
   districts = fresh.districts ++ second.districts;
   customers = fresh.customers ++ second.customers;
@@ -336,19 +338,26 @@ segment-rows = refl
 abbrev pub empty_segment : List (List ℕ)
 empty_segment = replicate 64 0 ∷ []
 
--- the page table of these segments, with the slots of each table
+-- the page table of the first and of one without rows for each other table
 abbrev pub small_table : List (List (List ℕ))
-small_table = small_segment ∷ empty_segment ∷ empty_segment ∷ []
+small_table = small_segment ∷ replicate (segments - 1) empty_segment
+
+empty-slots : (row_bytes : ℕ) → HasSlots 64 row_bytes empty_segment
+empty-slots row_bytes =
+    let none : used_slots empty_segment ≡ 0 = refl in
+    record { first = lit< tt; slots = omega (arith, none) }
+
+width_is : {one other : ℕ} → Some one ≡ Some other → one ≡ other
+width_is same = cc
 
 pub small-slots : (segment row_bytes : ℕ) → IsTable segment row_bytes
     → HasSlots 64 row_bytes (list_at small_table segment)
-small-slots segment row_bytes (inl (here, width)) =
-    subst (λ s. HasSlots 64 row_bytes (list_at small_table s)) (sym here) (subst (λ w. HasSlots 64 w small_segment) (sym width) (record { first = lit< tt; slots = lit≤ tt }))
-small-slots segment row_bytes (inr (inl (here, width))) =
-    subst (λ s. HasSlots 64 row_bytes (list_at small_table s)) (sym here) (subst (λ w. HasSlots 64 w empty_segment) (sym width) (record { first = lit< tt; slots = lit≤ tt }))
-small-slots segment row_bytes (inr (inr (here, width))) =
-    subst (λ s. HasSlots 64 row_bytes (list_at small_table s)) (sym here) (subst (λ w. HasSlots 64 w empty_segment) (sym width) (record { first = lit< tt; slots = lit≤ tt }))
+small-slots zero row_bytes table =
+    subst (λ width. HasSlots 64 width small_segment) (width_is table) (record { first = lit< tt; slots = lit≤ tt })
+small-slots (suc segment) row_bytes table =
+    let there : segment < segments - 1 = omega (arith, segment_there (suc segment) row_bytes table) in
+    subst (HasSlots 64 row_bytes) (sym (get_or-replicate (segments - 1) segment empty_segment [] there)) (empty-slots row_bytes)
 
 -- it spells the two rows
-pub small-spelled : Spells 64 small_table (record { warehouses = fresh_warehouse ∷ record fresh_warehouse { ytd = pos 30_100 } ∷ []; districts = []; customers = [] })
+pub small-spelled : Spells 64 small_table (record no_rows { warehouses = fresh_warehouse ∷ record fresh_warehouse { ytd = pos 30_100 } ∷ [] })
 small-spelled = record { whole = record { all_segments = refl; slots = small-slots }; rows = refl }

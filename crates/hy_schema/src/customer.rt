@@ -7,8 +7,8 @@ use crate::codec::{
     SlotBytes, push_number, push_signed, push_text, read_number, read_signed, read_text,
 };
 use crate::district::DISTRICTS_PER_WAREHOUSE;
-use crate::load::Load;
 use crate::row::Row;
+use crate::tables::Tables;
 use crate::text::Text;
 use crate::warehouse::{MAX_RATE, MAX_WAREHOUSES, is_loaded_money};
 
@@ -48,7 +48,10 @@ pub struct Customer {
 }
 
 impl Row for Customer {
-    ghost use Rattle.std.proofs.Common.{refl, rules, inr};
+    ghost use Rattle.std.specs.Prelude.{◌≡◌, ◌==◌, slice_set};
+    ghost use Rattle.std.proofs.Common.{refl, rules};
+    ghost use Rattle.hy_schema.specs.Spelling.{rows_of, tables_of};
+    ghost use Rattle.hy_schema.specs.inside.Places.{by_places};
     ghost use Rattle.hy_schema.specs.Rows.{customer_bytes, customer_of};
 
     const SEGMENT: u32 = 2;
@@ -64,6 +67,10 @@ impl Row for Customer {
     ghost row_of_bytes = { customer_of };
 
     ghost rows_in = { λ tables. tables.customers };
+
+    ghost is_of = { λ warehouse row. row.warehouse == warehouse };
+
+    ghost with_rows = { λ tables rows. record tables { customers = rows } };
 
     fn encode(&self, slot: &mut SlotBytes) {
         push_number(slot, self.id.into(), 2);
@@ -97,15 +104,28 @@ impl Row for Customer {
         }
     }
 
-    fn rows_of(load: &Load) -> &[Customer] {
-        load.customers()
+    fn rows_of(tables: &Tables) -> &[Customer] {
+        tables.customers.as_slice()
+    }
+
+    fn belongs_to(&self, warehouse: u8) -> bool {
+        self.warehouse == warehouse
     }
 
     ghost fits = { Prim.search rules };
 
-    ghost is_table = { inr (inr (refl, refl)) };
+    ghost is_table = { refl };
+
+    ghost own_rows = { λ tables rows. refl };
+
+    ghost own_rows_again = { λ tables. refl };
+
+    ghost last_rows = { λ tables rows others. refl };
 
     ghost spelled = { λ n bytes. refl };
+
+    ghost respelled = { λ n bytes pages whole. by_places (λ all. tables_of n (slice_set all 2 pages)
+        ≡ record (tables_of n all) { customers = rows_of n 74 customer_of pages }) bytes whole refl };
 }
 
 impl Customer {

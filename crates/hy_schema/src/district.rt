@@ -5,8 +5,8 @@ ghost use Rattle.std.specs.Prelude.{◌↔◌, IsTrue};
 use crate::codec::{
     SlotBytes, push_number, push_signed, push_text, read_number, read_signed, read_text,
 };
-use crate::load::Load;
 use crate::row::Row;
+use crate::tables::Tables;
 use crate::text::Text;
 use crate::warehouse::{MAX_RATE, MAX_WAREHOUSES, is_loaded_money};
 
@@ -34,7 +34,10 @@ pub struct District {
 }
 
 impl Row for District {
-    ghost use Rattle.std.proofs.Common.{refl, rules, inl, inr};
+    ghost use Rattle.std.specs.Prelude.{◌≡◌, ◌==◌, slice_set};
+    ghost use Rattle.std.proofs.Common.{refl, rules};
+    ghost use Rattle.hy_schema.specs.Spelling.{rows_of, tables_of};
+    ghost use Rattle.hy_schema.specs.inside.Places.{by_places};
     ghost use Rattle.hy_schema.specs.Rows.{district_bytes, district_of};
 
     const SEGMENT: u32 = 1;
@@ -50,6 +53,10 @@ impl Row for District {
     ghost row_of_bytes = { district_of };
 
     ghost rows_in = { λ tables. tables.districts };
+
+    ghost is_of = { λ warehouse row. row.warehouse == warehouse };
+
+    ghost with_rows = { λ tables rows. record tables { districts = rows } };
 
     fn encode(&self, slot: &mut SlotBytes) {
         push_number(slot, self.id.into(), 1);
@@ -71,15 +78,28 @@ impl Row for District {
         }
     }
 
-    fn rows_of(load: &Load) -> &[District] {
-        load.districts()
+    fn rows_of(tables: &Tables) -> &[District] {
+        tables.districts.as_slice()
+    }
+
+    fn belongs_to(&self, warehouse: u8) -> bool {
+        self.warehouse == warehouse
     }
 
     ghost fits = { Prim.search rules };
 
-    ghost is_table = { inr (inl (refl, refl)) };
+    ghost is_table = { refl };
+
+    ghost own_rows = { λ tables rows. refl };
+
+    ghost own_rows_again = { λ tables. refl };
+
+    ghost last_rows = { λ tables rows others. refl };
 
     ghost spelled = { λ n bytes. refl };
+
+    ghost respelled = { λ n bytes pages whole. by_places (λ all. tables_of n (slice_set all 1 pages)
+        ≡ record (tables_of n all) { districts = rows_of n 26 district_of pages }) bytes whole refl };
 }
 
 impl District {

@@ -8,6 +8,7 @@ mod district;
 mod load;
 mod refusal;
 mod row;
+mod tables;
 mod text;
 mod warehouse;
 
@@ -17,7 +18,8 @@ pub use customer::{Customer, MAX_COUNT, MAX_CUSTOMERS};
 pub use district::{DISTRICTS_PER_WAREHOUSE, District, MAX_ORDER};
 pub use load::Load;
 pub use refusal::{LoadFault, Refusal, Table};
-pub use row::Row;
+pub use row::{Row, SEGMENTS};
+pub use tables::Tables;
 pub use text::Text;
 pub use warehouse::{MAX_CENTS, MAX_RATE, MAX_WAREHOUSES, Warehouse};
 

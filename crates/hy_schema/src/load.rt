@@ -11,6 +11,7 @@ use crate::customer::Customer;
 use crate::district::{DISTRICTS_PER_WAREHOUSE, District};
 use crate::refusal::{LoadFault, Refusal, Table};
 use crate::row::Row;
+use crate::tables::Tables;
 use crate::warehouse::Warehouse;
 use std::marker::Model;
 
@@ -18,9 +19,7 @@ use std::marker::Model;
 /// (TPC-C clause 3.3.2), since `of` alone makes one.
 #[derive(Drop)]
 pub struct Load {
-    warehouses: Vec<Warehouse>,
-    districts: Vec<District>,
-    customers: Vec<Customer>,
+    tables: Tables,
 }
 
 impl Model for Load {
@@ -29,17 +28,9 @@ impl Model for Load {
 
     ghost Value = { Tables };
 
-    ghost view = { λ load. record {
-      warehouses = load.warehouses.items;
-      districts = load.districts.items;
-      customers = load.customers.items;
-    } };
+    ghost view = { λ load. load.tables };
 
-    ghost invariant = { λ load. IsLoad (record {
-      warehouses = load.warehouses.items;
-      districts = load.districts.items;
-      customers = load.customers.items;
-    }) };
+    ghost invariant = { λ load. IsLoad load.tables };
 }
 
 impl Load {
@@ -83,25 +74,33 @@ impl Load {
         if !meets_condition_12(&customers) {
             return Err(Refusal::BadLoad(LoadFault::Condition(12)));
         }
-        Ok(Load {
+        let tables = Tables {
             warehouses,
             districts,
             customers,
-        })
+        };
+        Ok(Load { tables })
     }
 
     /// The rows of one table.
     pub fn list<R: Row>(&self) -> &[R]
         ensures { result.now ≡ R.rows_in self.now }
     {
-        R::rows_of(self)
+        self.tables.list()
+    }
+
+    /// The rows of all tables.
+    pub fn tables(&self) -> &Tables
+        ensures { result.now ≡ self.now }
+    {
+        &self.tables
     }
 
     /// What holds of every load.
     pub fn sound(&self)
         ensures { IsLoad self.now }
     {
-        let _warehouses = &self.warehouses;
+        let _tables = &self.tables;
     }
 
     /// No two rows of a table have the same key, in a load and in what a list of commits makes of a warehouse of it.
@@ -120,27 +119,6 @@ impl Load {
             → IsConsistent warehouse (replay warehouse (of_warehouse warehouse self.now) commits) }
     {
         self.sound();
-    }
-
-    /// The rows of WAREHOUSE.
-    pub fn warehouses(&self) -> &[Warehouse]
-        ensures { result.now ≡ self.now.warehouses }
-    {
-        self.warehouses.as_slice()
-    }
-
-    /// The rows of DISTRICT.
-    pub fn districts(&self) -> &[District]
-        ensures { result.now ≡ self.now.districts }
-    {
-        self.districts.as_slice()
-    }
-
-    /// The rows of CUSTOMER.
-    pub fn customers(&self) -> &[Customer]
-        ensures { result.now ≡ self.now.customers }
-    {
-        self.customers.as_slice()
     }
 }
 

@@ -1,5 +1,9 @@
 //! Why a call is refused: E1 to E17.
 
+ghost use Rattle.std.specs.Prelude.{◌≡◌};
+ghost use Rattle.hy_schema.specs.declared.refusal.Refusal.TheVariants.{NoMemory};
+
+use std::alloc::AllocError;
 use std::fmt;
 use thiserror::Error;
 
@@ -97,4 +101,12 @@ pub enum Refusal {
     /// The warehouse's queue is full.
     #[error("E17 QueueFull")]
     QueueFull,
+}
+
+impl From<AllocError> for Refusal {
+    ghost from_gives = { λ _ refusal. refusal ≡ NoMemory };
+
+    fn from(_refused: AllocError) -> Refusal {
+        Refusal::NoMemory
+    }
 }

@@ -148,12 +148,30 @@ fn load_of_fresh_lists(rt: HostRuntime) -> Result<(), Fail> {
     load.sound();
     load.keys_are_unique();
     load.conditions_are_kept();
-    assert_eq!(rt; load.warehouses().len(), 1);
-    assert_eq!(rt; load.districts().len(), 10);
-    assert_eq!(rt; load.customers().len(), 30);
+    assert_eq!(rt; load.list::<Warehouse>().len(), 1);
+    assert_eq!(rt; load.list::<District>().len(), 10);
+    assert_eq!(rt; load.list::<Customer>().len(), 30);
     assert_eq!(rt; load.list::<Warehouse>().first(), Some(&warehouse(&rt)));
     assert_eq!(rt; load.list::<District>().first(), Some(&district(&rt, 1)));
     assert_eq!(rt; load.list::<Customer>().last(), Some(&customer(&rt, 10, 3)));
+    Ok(())
+}
+
+#[test]
+fn tables_of_one_warehouse(rt: HostRuntime) -> Result<(), Fail> {
+    let Lists {
+        warehouses,
+        districts,
+        customers,
+    } = Lists::fresh(&rt, rt.alloc())?;
+    let load = Load::of(warehouses, districts, customers)?;
+    let own = load.tables().of_warehouse(rt.alloc(), 1)?;
+    assert_eq!(rt; own.list::<Warehouse>().len(), 1);
+    assert_eq!(rt; own.list::<District>(), load.list::<District>());
+    assert_eq!(rt; own.list::<Customer>().len(), 30);
+    let other = load.tables().of_warehouse(rt.alloc(), 2)?;
+    assert_eq!(rt; other.list::<Warehouse>().is_empty(), true);
+    assert_eq!(rt; other.list::<Customer>().is_empty(), true);
     Ok(())
 }
 

@@ -6,8 +6,8 @@ ghost use Rattle.hy_schema.specs.Ranges.{IsLoadedMoney};
 use crate::codec::{
     SlotBytes, push_number, push_signed, push_text, read_number, read_signed, read_text,
 };
-use crate::load::Load;
 use crate::row::Row;
+use crate::tables::Tables;
 use crate::text::Text;
 
 /// The greatest W_ID.
@@ -33,7 +33,10 @@ pub struct Warehouse {
 }
 
 impl Row for Warehouse {
-    ghost use Rattle.std.proofs.Common.{refl, rules, inl};
+    ghost use Rattle.std.specs.Prelude.{◌≡◌, ◌==◌, slice_set};
+    ghost use Rattle.std.proofs.Common.{refl, rules};
+    ghost use Rattle.hy_schema.specs.Spelling.{rows_of, tables_of};
+    ghost use Rattle.hy_schema.specs.inside.Places.{by_places};
     ghost use Rattle.hy_schema.specs.Rows.{warehouse_bytes, warehouse_of};
 
     const SEGMENT: u32 = 0;
@@ -49,6 +52,10 @@ impl Row for Warehouse {
     ghost row_of_bytes = { warehouse_of };
 
     ghost rows_in = { λ tables. tables.warehouses };
+
+    ghost is_of = { λ warehouse row. row.id == warehouse };
+
+    ghost with_rows = { λ tables rows. record tables { warehouses = rows } };
 
     fn encode(&self, slot: &mut SlotBytes) {
         push_number(slot, self.id.into(), 1);
@@ -66,15 +73,28 @@ impl Row for Warehouse {
         }
     }
 
-    fn rows_of(load: &Load) -> &[Warehouse] {
-        load.warehouses()
+    fn rows_of(tables: &Tables) -> &[Warehouse] {
+        tables.warehouses.as_slice()
+    }
+
+    fn belongs_to(&self, warehouse: u8) -> bool {
+        self.id == warehouse
     }
 
     ghost fits = { Prim.search rules };
 
-    ghost is_table = { inl (refl, refl) };
+    ghost is_table = { refl };
+
+    ghost own_rows = { λ tables rows. refl };
+
+    ghost own_rows_again = { λ tables. refl };
+
+    ghost last_rows = { λ tables rows others. refl };
 
     ghost spelled = { λ n bytes. refl };
+
+    ghost respelled = { λ n bytes pages whole. by_places (λ all. tables_of n (slice_set all 0 pages)
+        ≡ record (tables_of n all) { warehouses = rows_of n 21 warehouse_of pages }) bytes whole refl };
 }
 
 impl Warehouse {

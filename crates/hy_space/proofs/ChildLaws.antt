@@ -4,10 +4,9 @@ use Rattle.std.specs.Option.{option_map}
 use Rattle.std.proofs.lemmas.List.{get_or_past, get_or_default, get_or-set_other, get_or-set_same, set-get_or}
 use Rattle.std.proofs.lemmas.List.Sums.{sum_by-set}
 use Rattle.std.proofs.lemmas.Bool.{cases_lt, cases_eq}
-use Rattle.hy_frames.specs.FrameTable.{Frame, FrameTable, count_of, page_of, Sets}
-use Rattle.hy_frames.specs.Slots.{occurrences}
+use Rattle.hy_frames.specs.FrameTable.{Frame, FrameTable, count_of, page_of, Sets, occurrences}
 use Rattle.hy_space.specs.Space.{SpaceState, DropsUsers, MovesUser, child_times, times, table_bytes, owner_bytes, child_table, child_bytes, with_frame, with_page, with_first_frames, with_first_pages}
-use Rattle.hy_space.specs.Users.{IsCounted}
+use Rattle.hy_space.specs.inside.Users.{IsCounted}
 use Rattle.hy_space.proofs.UserLaws.{same, same_yes, same_no}
 use Rattle.hy_space.proofs.TableLaws.{stands, times-with_frame, times-cut, table_bytes-with_frame, table_bytes-cut, same_bytes, same_child_bytes, written_table, child_in_sum, page_at-table_bytes, with_page_same}
 

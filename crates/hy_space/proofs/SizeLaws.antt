@@ -3,11 +3,10 @@ use Rattle.std.proofs.Common.{◌≡◌, ℕ, zero, suc, ◌+◌, ◌<◌, ◌�
 use Rattle.std.proofs.lemmas.List.{take_all}
 use Rattle.std.proofs.lemmas.List.Sums.{sum_by_more}
 use Rattle.std.proofs.lemmas.Bool.{cases_lt, cases_eq}
-use Rattle.hy_frames.specs.FrameTable.{Frame, FrameTable, empty_frame, count_of, in_use}
-use Rattle.hy_frames.specs.Slots.{occurrences}
+use Rattle.hy_frames.specs.FrameTable.{Frame, FrameTable, empty_frame, count_of, in_use, occurrences}
 use Rattle.hy_frames.proofs.FrameLaws.{above, above_yes, used_in_range}
 use Rattle.hy_space.specs.Space.{SpaceState, times}
-use Rattle.hy_space.specs.Users.{IsCounted}
+use Rattle.hy_space.specs.inside.Users.{IsCounted}
 use Rattle.hy_space.proofs.UserLaws.{same, same_yes, same_no}
 use Rattle.hy_space.proofs.TableLaws.{occurrences-cons}
 use Rattle.std.proofs.lemmas.List.Sums.{get_or-le-sum_by}

@@ -3,10 +3,9 @@ use Rattle.std.proofs.Common.{◌≡◌, ℕ, zero, suc, ◌<◌, ◌≤◌, Lis
 use Rattle.std.specs.List.{flat_map}
 use Rattle.std.proofs.lemmas.List.Sums.{sum_by-cons}
 use Rattle.std.proofs.lemmas.List.Elements.{All-cons, All-nil}
-use Rattle.hy_frames.specs.FrameTable.{FrameTable, page_of, IsSoundTable}
-use Rattle.hy_frames.specs.Slots.{occurrences}
+use Rattle.hy_frames.specs.FrameTable.{FrameTable, page_of, IsSoundTable, occurrences}
 use Rattle.hy_space.specs.Space.{SpaceState, times, maps, table_bytes, CountsAreExact, NoFrameTwice, HasPagesOf, IsSound}
-use Rattle.hy_space.specs.Users.{IsCounted}
+use Rattle.hy_space.specs.inside.Users.{IsCounted}
 use Rattle.hy_space.specs.Space.{child_times}
 use Rattle.hy_space.proofs.UserLaws.{same_yes}
 use Rattle.hy_space.proofs.TableLaws.{occurrences-cons, times-cons, child_in_sum}

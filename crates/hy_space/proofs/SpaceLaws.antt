@@ -1,17 +1,16 @@
 -- What each change of frames and tables does to the counts, and to what the owner and the children see.
-use Rattle.std.proofs.Common.{◌≡◌, ◌≢◌, ℕ, Bool, false, ◌+◌, ◌<◌, ◌≤◌, inl, inr, List, [], ◌∷◌, ◌++◌, length, get_or, take, drop, set, refl, sym, ap, ◌∙◌, subst, arith, sum_by, All, Option, Some, None, length-set}
+use Rattle.std.proofs.Common.{◌≡◌, ◌≢◌, ℕ, Bool, false, ◌+◌, ◌-◌, ◌<◌, ◌≤◌, inl, inr, List, [], ◌∷◌, ◌++◌, length, get_or, take, drop, set, replicate, refl, sym, ap, ◌∙◌, subst, arith, sum_by, All, Option, Some, None, length-set}
 use Rattle.std.specs.Option.{option_map}
-use Rattle.std.proofs.lemmas.List.{get_or_past, get_or-set_other, get_or_append_left, get_or_push, length_push}
+use Rattle.std.proofs.lemmas.List.{get_or_past, get_or-set_same, get_or-set_other, get_or_append_left, get_or_push, length_push}
 use Rattle.std.proofs.lemmas.List.Sums.{sum_by-set, sum_by-le}
 use Rattle.std.proofs.lemmas.List.Elements.{All-from_get_or}
 use Rattle.std.proofs.lemmas.Bool.{cases_lt, cases_eq}
-use Rattle.hy_frames.specs.FrameTable.{Frame, FrameTable, count_of, page_of, lent_at, Sets}
-use Rattle.hy_frames.specs.Slots.{occurrences}
-use Rattle.hy_space.specs.Space.{SpaceState, KeepsOwn, Lends, with_new_frame, with_first_frames, AddsUsers, DropsUsers, child_times, times, table_bytes, owner_bytes, child_table, child_bytes, HasPage, IsOwn, frame_no, with_frame, with_page, with_new_page, with_first_pages}
-use Rattle.hy_space.specs.Children.{IsPadded}
-use Rattle.hy_space.specs.Users.{IsCounted}
+use Rattle.hy_frames.specs.FrameTable.{Frame, FrameTable, count_of, page_of, lent_at, free_of, frame_at, Sets, Takes, occurrences}
+use Rattle.hy_space.specs.Space.{SpaceState, KeepsOwn, KeepsOthers, WritesPage, GrowsPage, MakesOwn, MakesPrivate, TakesFrame, IsPrivate, page_count, Lends, with_new_frame, with_first_frames, AddsUsers, DropsUsers, child_times, times, table_bytes, owner_bytes, child_table, child_bytes, HasPage, IsOwn, frame_no, with_frame, with_page, with_new_page, with_first_pages}
+use Rattle.hy_space.specs.inside.Children.{IsPadded}
+use Rattle.hy_space.specs.inside.Users.{IsCounted}
 use Rattle.hy_space.proofs.UserLaws.{same, same_yes, same_no}
-use Rattle.hy_space.proofs.TableLaws.{stands, times-with_frame, times-cut, occurrences-drop-le, table_bytes-with_frame, table_bytes-push, table_bytes-cut, frame_no-with_new_frame, frame_no-with_first_frames, same_bytes, same_child_bytes, written_table, child_in_sum}
+use Rattle.hy_space.proofs.TableLaws.{stands, apart_frames, times-with_frame, times-cut, occurrences-drop-le, table_bytes-with_frame, table_bytes-push, table_bytes-cut, frame_no-with_frame, frame_no-with_new_frame, frame_no-new, frame_no-with_first_frames, same_bytes, same_child_bytes, written_table, child_in_sum}
 
 -- a frame without users gets one, and a page
 pub record TakesOne (old new : FrameTable) (fresh : ℕ) (bytes : List ℕ) : Type 0 where
@@ -70,6 +69,36 @@ module _ (page_size : ℕ) (s : SpaceState) (counted : IsCounted page_size s) wh
         written_table s.frames new s.owner segment page place.0 place.1 stay (counted.owner_once f) ∙ ap (λ (x : Frame). with_page (owner_bytes s) segment page x.bytes) sets.here,
         λ child. same_child_bytes s.frames new (child_table s child) (λ g more. stay g (only g child more)),
       )
+
+  -- and every other page stays as it was
+  pub written_others : (segment page : ℕ) → HasPage s segment page → IsOwn s segment page → (new : FrameTable) (frame : Frame) → frame.count ≡ 1 → Sets s.frames new (frame_no s segment page) frame → KeepsOthers s (record { owner = s.owner; children = s.children; frames = new }) segment page
+  written_others segment page place own new frame one sets =
+      let f = frame_no s segment page in record {
+        frames = λ g apart _. sets.others g apart;
+        own = λ segment' page' before after own'. elim (cases_eq (frame_no s segment' page') f) [
+          | inl here ↦ ap (count_of new) here ∙ ap (λ (x : Frame). x.count) sets.here ∙ one
+          | inr apart ↦ ap (λ (x : Frame). x.count) (sets.others (frame_no s segment' page') apart) ∙ own'
+        ];
+        private = λ segment' page' other before after private'.
+            let apart = apart_frames s.owner segment page segment' page' place.0 place.1 before.0 before.1 (counted.owner_once f) other in
+            let same_frame = sets.others (frame_no s segment' page') apart in
+            record {
+              own = ap (λ (x : Frame). x.count) same_frame ∙ private'.own;
+              not_lent = ap (λ (x : Frame). x.lent) same_frame ∙ private'.not_lent;
+            };
+      }
+
+  pub written : (segment page : ℕ) → HasPage s segment page → IsOwn s segment page → (new : FrameTable) (bytes : List ℕ) (is_lent : Bool) → Sets s.frames new (frame_no s segment page) (record { count = 1; bytes = bytes; lent = is_lent }) → free_of new ≡ free_of s.frames → WritesPage s (record { owner = s.owner; children = s.children; frames = new }) segment page bytes is_lent
+  written segment page place own new bytes is_lent sets free =
+      let seen = written_own segment page place own new bytes is_lent sets in record {
+        bytes = seen.0;
+        table = refl;
+        frame = sets;
+        others = written_others segment page place own new (record { count = 1; bytes = bytes; lent = is_lent }) refl sets;
+        children = record { tables = refl; bytes = seen.1 };
+        free = free;
+        limit = sets.limit;
+      }
 
   -- a page that children see too is put into a fresh frame
   pub replaced : (segment page fresh : ℕ) (bytes : List ℕ) (mid new : FrameTable) → HasPage s segment page → 1 < count_of s.frames (frame_no s segment page) → count_of s.frames fresh ≡ 0 → TakesOne s.frames mid fresh bytes → DropsUsers mid new (λ f. same (frame_no s segment page) f) → (IsKept page_size s (record { owner = with_frame s.owner segment page fresh; children = s.children; frames = new })) × (table_bytes new (with_frame s.owner segment page fresh) ≡ with_page (owner_bytes s) segment page bytes)
@@ -153,6 +182,10 @@ module _ (page_size : ℕ) (s : SpaceState) (counted : IsCounted page_size s) wh
         ap (option_map (table_bytes new)) read ∙ same_child_bytes s.frames new (child_table s other) (λ f more. adds.pages f),
       )
 
+-- a frame with a user less
+abbrev less : Frame → Frame
+less frame = record frame { count = frame.count - 1 }
+
 -- ---- pages that stay the owner's own
 
 -- where each page keeps its frame, and each frame of an own page its count and whether it is lent, own pages stay own
@@ -168,6 +201,97 @@ KeepsOwn-from old new stays = record {
         not_lent = ap (lent_at new.frames) stay.0 ∙ (stay.1 is_private.own).1 ∙ is_private.not_lent;
       };
 }
+
+-- ---- one page of the owner
+
+-- a change behind another that leaves the owner's table
+pub KeepsOthers-then : (old mid new : SpaceState) (segment page : ℕ) → new.owner ≡ mid.owner → KeepsOthers old mid segment page → KeepsOthers mid new segment page → KeepsOthers old new segment page
+KeepsOthers-then old mid new segment page table first second =
+    let same_frame : frame_no mid segment page ≡ frame_no new segment page = ap (λ rows. get_or (get_or rows segment []) page 0) (sym table) in
+    let back = λ (segment' page' : ℕ) (there : HasPage new segment' page'). subst (λ rows. (segment' < length rows) × (page' < length (get_or rows segment' []))) table there in
+    record {
+      frames = λ f was is_now.
+          let apart : f ≢ frame_no mid segment page = λ e. is_now (e ∙ same_frame) in
+          second.frames f apart is_now ∙ first.frames f was apart;
+      own = λ segment' page' before after own. second.own segment' page' (back segment' page' after) after (first.own segment' page' before (back segment' page' after) own);
+      private = λ segment' page' other before after private. second.private segment' page' other (back segment' page' after) after (first.private segment' page' other before (back segment' page' after) private);
+    }
+
+-- a page that was made the owner's own, and then has other bytes or a hold
+pub MakesOwn-then : (old mid new : SpaceState) (segment page : ℕ) (content : List ℕ) (is_lent : Bool) → MakesOwn old mid segment page → WritesPage mid new segment page content is_lent → MakesOwn old new segment page
+MakesOwn-then old mid new segment page content is_lent made writes =
+    let same_frame : frame_no new segment page ≡ frame_no mid segment page = ap (λ rows. get_or (get_or rows segment []) page 0) writes.table in
+    let apart : TakesFrame old mid segment page → frame_no old segment page ≢ frame_no mid segment page = λ takes e.
+    absurd (omega (arith, made.own, takes.unused, ap (count_of mid.frames) e, ap (count_of old.frames) e, ap (λ (x : Frame). x.count) takes.left))
+    in
+    record {
+      own = ap (count_of new.frames) same_frame ∙ ap (λ (x : Frame). x.count) writes.frame.here;
+      table = λ own. writes.table ∙ made.table own;
+      free = λ own. writes.free ∙ made.free own;
+      fresh = λ shared.
+          let takes = made.fresh shared in
+          record {
+            unused = ap (count_of old.frames) same_frame ∙ takes.unused;
+            table = writes.table ∙ takes.table ∙ ap (with_frame old.owner segment page) (sym same_frame);
+            left = writes.frame.others (frame_no old segment page) (apart takes) ∙ takes.left;
+            free = omega (arith, takes.free, writes.free);
+          };
+      children = record {
+        tables = writes.children.tables ∙ made.children.tables;
+        bytes = λ child. writes.children.bytes child ∙ made.children.bytes child;
+      };
+      limit = writes.limit ∙ made.limit;
+    }
+
+-- what is made private is made the owner's own, and the other pages stay
+pub MakesOwn-private : (old new : SpaceState) (segment page : ℕ) → MakesPrivate old new segment page → MakesOwn old new segment page
+MakesOwn-private old new segment page made = record {
+  own = made.private.own;
+  table = made.table;
+  free = made.free;
+  fresh = made.fresh;
+  children = made.children;
+  limit = made.limit;
+}
+
+pub KeepsOthers-private : (old new : SpaceState) (segment page : ℕ) → MakesPrivate old new segment page → KeepsOthers old new segment page
+KeepsOthers-private old new segment page made = record {
+  frames = made.others;
+  own = made.kept.own;
+  private = λ segment' page' other before after was. made.kept.private segment' page' before after was;
+}
+
+-- where every other page stays and this one isn't lent afterwards, every page stays
+KeepsOwn-private : (old new : SpaceState) (segment page : ℕ) → KeepsOthers old new segment page → IsPrivate new segment page → KeepsOwn old new
+KeepsOwn-private old new segment page others private = record {
+  own = others.own;
+  private = λ segment' page' before after was. elim (cases_eq segment' segment) [
+    | inl here ↦ elim (cases_eq page' page) [
+      | inl there ↦ subst (λ n. IsPrivate new segment' n) (sym there) (subst (λ n. IsPrivate new n page) (sym here) private)
+      | inr apart ↦ others.private segment' page' (λ same. apart same.1) before after was
+    ]
+    | inr apart ↦ others.private segment' page' (λ same. apart same.0) before after was
+  ];
+}
+
+-- a page of the owner's own is private where it is written, and where it is taken back
+pub MakesPrivate-written : (old new : SpaceState) (segment page : ℕ) (content : List ℕ) → IsOwn old segment page → WritesPage old new segment page content false → MakesPrivate old new segment page
+MakesPrivate-written old new segment page content own writes =
+    let same_frame : frame_no new segment page ≡ frame_no old segment page = ap (λ rows. get_or (get_or rows segment []) page 0) writes.table in
+    let private : IsPrivate new segment page = record {
+      own = ap (count_of new.frames) same_frame ∙ ap (λ (x : Frame). x.count) writes.frame.here;
+      not_lent = ap (lent_at new.frames) same_frame ∙ ap (λ (x : Frame). x.lent) writes.frame.here;
+    } in
+    record {
+      private = private;
+      table = λ _. writes.table;
+      free = λ _. writes.free;
+      fresh = λ shared. absurd (shared own);
+      others = writes.others.frames;
+      kept = KeepsOwn-private old new segment page writes.others private;
+      children = writes.children;
+      limit = writes.limit;
+    }
 
 module _ (page_size : ℕ) (s : SpaceState) (counted : IsCounted page_size s) where
   -- no child has the frame of an own page
@@ -222,3 +346,70 @@ module _ (page_size : ℕ) (s : SpaceState) (counted : IsCounted page_size s) wh
         let none : times f table ≡ 0 = omega (arith, (owners_alone segment page before own).1, child_in_sum f s.children child, ap (child_times f) is_table) in
         (lends.counts f ∙ own, lends.others f none),
   ))
+
+  -- a copy of a page that children see too, in a fresh frame
+  pub copied : (segment page fresh : ℕ) (bytes : List ℕ) (mid new : FrameTable) → HasPage s segment page → 1 < count_of s.frames (frame_no s segment page) → Takes s.frames mid fresh bytes → Sets mid new (frame_no s segment page) (less (frame_at mid (frame_no s segment page))) → free_of new ≡ free_of mid → IsKept page_size s (record { owner = with_frame s.owner segment page fresh; children = s.children; frames = new }) → MakesPrivate s (record { owner = with_frame s.owner segment page fresh; children = s.children; frames = new }) segment page
+  copied segment page fresh bytes mid new place shared takes sets free kept =
+      let f = frame_no s segment page in
+      let now : SpaceState = record { owner = with_frame s.owner segment page fresh; children = s.children; frames = new } in
+      let is_fresh : frame_no now segment page ≡ fresh = ap (λ row. get_or row page 0) (get_or-set_same s.owner segment (set (get_or s.owner segment []) page fresh) [] place.0) ∙ get_or-set_same (get_or s.owner segment []) page fresh 0 place.1 in
+      let fresh_apart : fresh ≢ f = λ e. absurd (omega (arith, takes.unused, ap (count_of s.frames) e)) in
+      let here : frame_at new fresh ≡ record { count = 1; bytes = bytes; lent = false } = sets.others fresh fresh_apart ∙ takes.set.here in
+      let stays : (g : ℕ) → g ≢ f → g ≢ fresh → frame_at new g ≡ frame_at s.frames g = λ g was is_now. sets.others g was ∙ takes.set.others g is_now in
+      let same_frame : (segment' page' : ℕ) → ¬ ((segment' ≡ segment) × (page' ≡ page)) → HasPage s segment' page' → frame_no now segment' page' ≡ frame_no s segment' page' = λ segment' page' other before. (frame_no-with_frame s.owner segment page fresh segment' page' other before.0).0 in
+      let own_stays : (g : ℕ) → count_of s.frames g ≡ 1 → frame_at new g ≡ frame_at s.frames g = λ g own. stays g (λ e. absurd (omega (arith, ap (count_of s.frames) e))) (λ e. absurd (omega (arith, takes.unused, ap (count_of s.frames) e))) in
+      let private : IsPrivate now segment page = record {
+        own = ap (count_of new) is_fresh ∙ ap (λ (x : Frame). x.count) here;
+        not_lent = ap (lent_at new) is_fresh ∙ ap (λ (x : Frame). x.lent) here;
+      } in
+      let not_own : (segment' page' : ℕ) → IsOwn s segment' page' → ¬ ((segment' ≡ segment) × (page' ≡ page)) = λ segment' page' own same. absurd (omega (arith, own, shared, ap (λ n. count_of s.frames (frame_no s n page')) same.0, ap (λ n. count_of s.frames (frame_no s segment n)) same.1)) in
+      let others : KeepsOthers s now segment page = record {
+        frames = λ g was is_now. stays g was (λ e. is_now (e ∙ sym is_fresh));
+        own = λ segment' page' before after own.
+            ap (count_of new) (same_frame segment' page' (not_own segment' page' own) before) ∙ ap (λ (x : Frame). x.count) (own_stays (frame_no s segment' page') own) ∙ own;
+        private = λ segment' page' other before after was.
+            let same = own_stays (frame_no s segment' page') was.own in
+            record {
+              own = ap (count_of new) (same_frame segment' page' other before) ∙ ap (λ (x : Frame). x.count) same ∙ was.own;
+              not_lent = ap (lent_at new) (same_frame segment' page' other before) ∙ ap (λ (x : Frame). x.lent) same ∙ was.not_lent;
+            };
+      } in
+      record {
+        private = private;
+        table = λ own. absurd (omega (arith, own));
+        free = λ own. absurd (omega (arith, own));
+        fresh = λ _. record {
+          unused = ap (count_of s.frames) is_fresh ∙ takes.unused;
+          table = ap (with_frame s.owner segment page) (sym is_fresh);
+          left = sets.here ∙ ap (λ (x : Frame). less x) (takes.set.others f (λ e. fresh_apart (sym e)));
+          free = omega (arith, takes.free, free);
+        };
+        others = others.frames;
+        kept = KeepsOwn-private s now segment page others private;
+        children = record { tables = refl; bytes = kept.children };
+        limit = sets.limit ∙ takes.set.limit;
+      }
+
+  -- a page of zeros behind a segment's pages
+  pub grown_page : (segment fresh : ℕ) (new : FrameTable) → segment < length s.owner → Takes s.frames new fresh (replicate page_size 0) → GrowsPage page_size s (record { owner = with_new_frame s.owner segment fresh; children = s.children; frames = new }) segment (page_count s segment)
+  grown_page segment fresh new there takes =
+      let bytes = replicate page_size 0 in
+      let now : SpaceState = record { owner = with_new_frame s.owner segment fresh; children = s.children; frames = new } in
+      let one = TakesOne-from s.frames new fresh bytes takes.unused takes.set in
+      let seen = grown page_size s counted segment fresh bytes new there takes.unused one in
+      let is_fresh : frame_no now segment (page_count s segment) ≡ fresh = frame_no-new s.owner segment fresh there in
+      record {
+        number = refl;
+        bytes = seen.0;
+        table = ap (with_new_frame s.owner segment) (sym is_fresh);
+        unused = ap (count_of s.frames) is_fresh ∙ takes.unused;
+        frame = subst (λ f. Sets s.frames new f (record { count = 1; bytes = bytes; lent = false })) (sym is_fresh) takes.set;
+        private = record {
+          own = ap (count_of new) is_fresh ∙ ap (λ (x : Frame). x.count) takes.set.here;
+          not_lent = ap (lent_at new) is_fresh ∙ ap (λ (x : Frame). x.lent) takes.set.here;
+        };
+        kept = grow_keeps segment fresh bytes new there takes.unused one;
+        children = record { tables = refl; bytes = seen.1 };
+        free = takes.free;
+        limit = takes.set.limit;
+      }

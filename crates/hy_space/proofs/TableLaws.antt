@@ -1,14 +1,13 @@
 -- What one table says of its frames, and what is seen through it.
-use Rattle.std.proofs.Common.{◌≡◌, ◌≢◌, ℕ, zero, suc, ◌+◌, ◌<◌, ◌≤◌, inl, inr, List, [], ◌∷◌, ◌++◌, length, get_or, take, drop, set, map, refl, sym, ap, ap₂, ◌∙◌, arith, sum_by, Option, Some, None}
+use Rattle.std.proofs.Common.{◌≡◌, ◌≢◌, ℕ, zero, suc, ◌+◌, ◌<◌, ◌≤◌, inl, inr, List, [], ◌∷◌, ◌++◌, length, get_or, take, drop, set, map, refl, sym, ap, ap₂, ◌∙◌, arith, sum_by, Option, Some, None, length-set}
 use Rattle.std.specs.Option.{option_map}
-use Rattle.std.proofs.lemmas.List.{get_or_past, get_or-take, length-take, get_or-set_same, get_or-set_other, get_or_append_left, map-append, take-map, map-set, set-get_or}
+use Rattle.std.proofs.lemmas.List.{get_or_past, get_or-take, length-take, get_or-set_same, get_or-set_other, get_or_append_left, get_or_push, length-map, map-append, take-map, map-set, set-get_or}
 use Rattle.std.proofs.lemmas.List.Sums.{sum_by-cons, sum_by-set, get_or-le-sum_by, sum_by-take-drop}
 use Rattle.std.proofs.lemmas.Bool.{cases_lt, cases_eq}
-use Rattle.hy_frames.specs.FrameTable.{FrameTable, page_of}
-use Rattle.hy_frames.specs.Slots.{occurrences}
+use Rattle.hy_frames.specs.FrameTable.{FrameTable, page_of, occurrences}
 use Rattle.hy_space.specs.Space.{times, table_bytes, with_frame, with_new_frame, with_first_frames, with_page, with_new_page, with_first_pages, page_at}
 use Rattle.hy_space.specs.Space.{child_times}
-use Rattle.hy_space.proofs.UserLaws.{same, same_yes}
+use Rattle.hy_space.proofs.UserLaws.{same, same_yes, same_no}
 
 -- ---- how often a frame stands in a table
 
@@ -41,6 +40,35 @@ times-with_frame f table segment page frame there within =
       sum_by-set (λ x. same x f) row page frame 0 within,
     )
 
+-- what stands at another place stays there
+pub frame_no-with_frame : (table : List (List ℕ)) (segment page frame segment' page' : ℕ) → ¬ ((segment' ≡ segment) × (page' ≡ page)) → segment' < length table → (get_or (get_or (with_frame table segment page frame) segment' []) page' 0 ≡ get_or (get_or table segment' []) page' 0) × (length (get_or (with_frame table segment page frame) segment' []) ≡ length (get_or table segment' []))
+frame_no-with_frame table segment page frame segment' page' other there =
+    let row = set (get_or table segment []) page frame in
+    elim (cases_eq segment' segment) [
+      | inl here ↦
+          let same_row : get_or (with_frame table segment page frame) segment' [] ≡ row = ap (λ n. get_or (with_frame table segment page frame) n []) here ∙ get_or-set_same table segment row [] (omega arith) in
+          let back : get_or table segment [] ≡ get_or table segment' [] = ap (λ n. get_or table n []) (sym here) in (
+            ap (λ r. get_or r page' 0) same_row ∙ get_or-set_other (get_or table segment []) page page' frame 0 (λ e. other (here, e)) ∙ ap (λ r. get_or r page' 0) back,
+            ap length same_row ∙ length-set (get_or table segment []) page frame ∙ ap length back,
+          )
+      | inr apart ↦
+          let same_row = get_or-set_other table segment segment' row [] apart in
+          (ap (λ r. get_or r page' 0) same_row, ap length same_row)
+    ]
+
+-- a frame that stands once stands at no other place
+pub apart_frames : (table : List (List ℕ)) (segment page segment' page' : ℕ) → segment < length table → page < length (get_or table segment []) → segment' < length table → page' < length (get_or table segment' []) → times (get_or (get_or table segment []) page 0) table ≤ 1 → ¬ ((segment' ≡ segment) × (page' ≡ page)) → get_or (get_or table segment' []) page' 0 ≢ get_or (get_or table segment []) page 0
+apart_frames table segment page segment' page' there within there' within' once other e =
+    let f = get_or (get_or table segment []) page 0 in
+    let another = with_frame table segment page (f + 1) in
+    let stays = frame_no-with_frame table segment page (f + 1) segment' page' other there' in
+    let none : times f another ≡ 0 = omega (arith, times-with_frame f table segment page (f + 1) there within, same_yes f f refl, same_no (f + 1) f (λ d. absurd (omega arith))) in
+    absurd (omega (
+      arith,
+      stands another segment' page' (omega (arith, length-set table segment (set (get_or table segment []) page (f + 1)))) (omega (arith, stays.1)),
+      ap (λ x. times x another) (stays.0 ∙ e),
+    ))
+
 -- the first frames of a segment alone
 pub times-cut : (f : ℕ) (table : List (List ℕ)) (segment count : ℕ) → segment < length table → times f (set table segment (take count (get_or table segment []))) + occurrences f (drop count (get_or table segment [])) ≡ times f table
 times-cut f table segment count there =
@@ -72,6 +100,16 @@ page_at-table_bytes frames table segment page within =
     in_row [] page within = absurd (omega arith)
     in_row (x ∷ row) zero within = refl
     in_row (x ∷ row) (suc page) within = in_row row page (omega arith)
+
+-- a page that is there is there in each table of the same bytes
+pub there_by_bytes : (old_frames new_frames : FrameTable) (old new : List (List ℕ)) (segment page : ℕ) → table_bytes new_frames new ≡ table_bytes old_frames old → (segment < length old) × (page < length (get_or old segment [])) → (segment < length new) × (page < length (get_or new segment []))
+there_by_bytes old_frames new_frames old new segment page same there = (
+  omega (arith, there.0, ap length same, length-map old (map (page_of old_frames)), length-map new (map (page_of new_frames))),
+  omega (arith, there.1, row old_frames old, row new_frames new, ap (λ all. length (get_or all segment [])) same),
+)
+  where
+    row : (frames : FrameTable) (table : List (List ℕ)) → length (get_or (table_bytes frames table) segment []) ≡ length (get_or table segment [])
+    row frames table = ap length (get_or-map_at (map (page_of frames)) table segment []) ∙ length-map (get_or table segment []) (page_of frames)
 
 -- putting back the bytes that are there
 pub with_page_same : (segments : List (List (List ℕ))) (segment page : ℕ) → with_page segments segment page (page_at segments segment page) ≡ segments
@@ -159,6 +197,12 @@ frame_no-with_new_frame table segment fresh segment' page' within = elim (cases_
       ∙ ap (λ n. get_or (get_or table n []) page' 0) (sym here)
   | inr apart ↦ ap (λ row. get_or row page' 0) (get_or-set_other table segment segment' (get_or table segment [] ++ fresh ∷ []) [] apart)
 ]
+
+-- the page that was added has the fresh frame
+pub frame_no-new : (table : List (List ℕ)) (segment fresh : ℕ) → segment < length table → get_or (get_or (with_new_frame table segment fresh) segment []) (length (get_or table segment [])) 0 ≡ fresh
+frame_no-new table segment fresh there =
+    let row = get_or table segment [] in
+    ap (λ r. get_or r (length row) 0) (get_or-set_same table segment (row ++ fresh ∷ []) [] there) ∙ get_or_push row fresh 0 (length row) refl
 
 -- a page that is there still keeps its frame when a segment is cut
 pub frame_no-with_first_frames : (table : List (List ℕ)) (segment count segment' page' : ℕ) → segment < length table → page' < length (get_or (with_first_frames table segment count) segment' []) → get_or (get_or (with_first_frames table segment count) segment' []) page' 0 ≡ get_or (get_or table segment' []) page' 0

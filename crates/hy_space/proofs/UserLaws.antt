@@ -1,11 +1,10 @@
 -- How the users of frames add up.
-use Rattle.std.proofs.Common.{◌≡◌, ◌≢◌, ℕ, ◌+◌, ◌-◌, ◌<◌, ◌≤◌, inl, inr, List, [], ◌∷◌, ◌++◌, cond, eqb, length, get_or, take, map, refl, sym, ap, ap₂, ◌∙◌, arith}
+use Rattle.std.proofs.Common.{◌≡◌, ◌≢◌, ℕ, ◌+◌, ◌-◌, ◌<◌, ◌≤◌, inl, inr, List, [], ◌∷◌, ◌++◌, true, cond, eqb, length, get_or, take, map, refl, sym, ap, ap₂, ◌∙◌, arith}
 use Rattle.std.proofs.lemmas.Bool.{cases_lt, cases_eq, eq-eqb, ne_eqb}
 use Rattle.std.proofs.lemmas.List.{get_or_read, map-append, take_more}
 use Rattle.std.proofs.lemmas.List.Sums.{sum_by_more, sum_by_more_le}
-use Rattle.hy_frames.specs.Slots.{occurrences}
+use Rattle.hy_frames.specs.FrameTable.{occurrences, Frame, FrameTable, empty_frame, count_of, page_of, lent_at, free_of, Sets}
 use Rattle.hy_space.specs.Space.{times, table_bytes, DropsUsers, Lends}
-use Rattle.hy_frames.specs.FrameTable.{Frame, FrameTable, empty_frame, count_of, page_of, lent_at, free_of, Sets}
 
 -- 1 where two numbers are one, else 0
 abbrev pub same : ℕ → ℕ → ℕ
@@ -72,12 +71,13 @@ Lends-then a b c x y z first second sum = record {
   counts = λ f. second.counts f ∙ first.counts f;
   pages = λ f. second.pages f ∙ first.pages f;
   others = λ f none. second.others f (omega (arith, sum f)) ∙ first.others f (omega (arith, sum f));
+  still = λ f was. second.still f (first.still f was);
   limit = second.limit ∙ first.limit;
   free = second.free ∙ first.free;
 }
 
-pub Lends-one : (old new : FrameTable) (f : ℕ) → Sets old new f (record { count = count_of old f; bytes = page_of old f; lent = lent_at new f }) → free_of new ≡ free_of old → Lends old new (λ g. same f g)
-Lends-one old new f sets free = record {
+pub Lends-one : (old new : FrameTable) (f : ℕ) → Sets old new f (record { count = count_of old f; bytes = page_of old f; lent = lent_at new f }) → free_of new ≡ free_of old → (lent_at old f ≡ true → lent_at new f ≡ true) → Lends old new (λ g. same f g)
+Lends-one old new f sets free still_lent = record {
   counts = λ g. elim (cases_eq g f) [
     | inl here ↦ ap (count_of new) here ∙ ap (λ (x : Frame). x.count) sets.here ∙ ap (count_of old) (sym here)
     | inr apart ↦ ap (λ (x : Frame). x.count) (sets.others g apart)
@@ -87,6 +87,10 @@ Lends-one old new f sets free = record {
     | inr apart ↦ ap (λ (x : Frame). x.bytes) (sets.others g apart)
   ];
   others = λ g none. ap (λ (x : Frame). x.lent) (sets.others g (λ e. absurd (omega (arith, same_yes f g (sym e)))));
+  still = λ g was. elim (cases_eq g f) [
+    | inl here ↦ ap (lent_at new) here ∙ still_lent (ap (lent_at old) (sym here) ∙ was)
+    | inr apart ↦ ap (λ (x : Frame). x.lent) (sets.others g apart) ∙ was
+  ];
   limit = sets.limit;
   free = free;
 }
@@ -113,43 +117,56 @@ times_next table i segment within read f =
 pub record AreHeld (old now : FrameTable) (pages : List (List ℕ)) (numbers : List ℕ) : Type 0 where
   pub holds : pages ≡ map (page_of old) numbers
   pub lends : Lends old now (λ f. occurrences f numbers)
+  pub lent : (f : ℕ) → 0 < occurrences f numbers → lent_at now f ≡ true
 
 -- the same of a table
 pub record IsHeld (old now : FrameTable) (pages : List (List (List ℕ))) (table : List (List ℕ)) : Type 0 where
   pub holds : pages ≡ table_bytes old table
   pub lends : Lends old now (λ f. times f table)
+  pub lent : (f : ℕ) → 0 < times f table → lent_at now f ≡ true
 
 Lends-none : (old : FrameTable) (z : ℕ → ℕ) → Lends old old z
-Lends-none old z = record { counts = λ f. refl; pages = λ f. refl; others = λ f none. refl; limit = refl; free = refl }
+Lends-none old z = record { counts = λ f. refl; pages = λ f. refl; others = λ f none. refl; still = λ f was. was; limit = refl; free = refl }
 
 pub AreHeld-none : (old : FrameTable) → AreHeld old old [] []
-AreHeld-none old = record { holds = refl; lends = Lends-none old _ }
+AreHeld-none old = record { holds = refl; lends = Lends-none old _; lent = λ f more. absurd (omega arith) }
 
 pub IsHeld-none : (old : FrameTable) → IsHeld old old [] []
-IsHeld-none old = record { holds = refl; lends = Lends-none old _ }
+IsHeld-none old = record { holds = refl; lends = Lends-none old _; lent = λ f more. absurd (omega arith) }
 
 -- one more frame's page is held
-pub AreHeld-next : (old mid new : FrameTable) (pages : List (List ℕ)) (numbers : List ℕ) (i f : ℕ) (page : List ℕ) → i < length numbers → f ≡ get_or numbers i f → AreHeld old mid pages (take i numbers) → page ≡ page_of mid f → Lends mid new (λ g. same f g) → AreHeld old new (pages ++ page ∷ []) (take (i + 1) numbers)
-AreHeld-next old mid new pages numbers i f page within read held is_page lends = record {
+pub AreHeld-next : (old mid new : FrameTable) (pages : List (List ℕ)) (numbers : List ℕ) (i f : ℕ) (page : List ℕ) → i < length numbers → f ≡ get_or numbers i f → AreHeld old mid pages (take i numbers) → page ≡ page_of mid f → Lends mid new (λ g. same f g) → lent_at new f ≡ true → AreHeld old new (pages ++ page ∷ []) (take (i + 1) numbers)
+AreHeld-next old mid new pages numbers i f page within read held is_page lends is_lent = record {
   holds =
       ap (λ all. all ++ page ∷ []) held.holds
       ∙ ap (λ x. map (page_of old) (take i numbers) ++ x ∷ []) (is_page ∙ held.lends.pages f ∙ ap (page_of old) (get_or_read numbers i f within read 0))
       ∙ sym (map-append (page_of old) (take i numbers) (get_or numbers i 0 ∷ []))
       ∙ ap (map (page_of old)) (sym (take_more numbers i 0 within));
   lends = Lends-then old mid new _ _ _ held.lends lends (occurrences_more numbers i f within read);
+  lent = λ g more. elim (cases_eq g f) [
+    | inl here ↦ ap (lent_at new) here ∙ is_lent
+    | inr apart ↦ lends.still g (held.lent g (omega (arith, occurrences_more numbers i f within read g, same_no f g (λ e. apart (sym e)))))
+  ];
 }
 
 -- one more segment's pages are held
-pub IsHeld-next : (old mid new : FrameTable) (pages : List (List (List ℕ))) (table : List (List ℕ)) (i : ℕ) (segment : List ℕ) (held_pages : List (List ℕ)) → i < length table → segment ≡ get_or table i segment → IsHeld old mid pages (take i table) → held_pages ≡ map (page_of mid) segment → Lends mid new (λ f. occurrences f segment) → IsHeld old new (pages ++ held_pages ∷ []) (take (i + 1) table)
-IsHeld-next old mid new pages table i segment held_pages within read held is_pages lends = record {
+pub IsHeld-next : (old mid new : FrameTable) (pages : List (List (List ℕ))) (table : List (List ℕ)) (i : ℕ) (segment : List ℕ) (held_pages : List (List ℕ)) → i < length table → segment ≡ get_or table i segment → IsHeld old mid pages (take i table) → held_pages ≡ map (page_of mid) segment → Lends mid new (λ f. occurrences f segment) → ((f : ℕ) → 0 < occurrences f segment → lent_at new f ≡ true) → IsHeld old new (pages ++ held_pages ∷ []) (take (i + 1) table)
+IsHeld-next old mid new pages table i segment held_pages within read held is_pages lends is_lent = record {
   holds =
       ap (λ all. all ++ held_pages ∷ []) held.holds
       ∙ ap (λ x. table_bytes old (take i table) ++ x ∷ []) (is_pages ∙ same_pages segment ∙ ap (map (page_of old)) (get_or_read table i segment within read []))
       ∙ sym (map-append (map (page_of old)) (take i table) (get_or table i [] ∷ []))
       ∙ ap (table_bytes old) (sym (take_more table i [] within));
-  lends = Lends-then old mid new _ _ _ held.lends lends (λ f. sum_by_more (occurrences f) table i [] within ∙ ap (λ x. times f (take i table) + occurrences f x) (sym (get_or_read table i segment within read [])));
+  lends = Lends-then old mid new _ _ _ held.lends lends sum;
+  lent = λ f more. elim (cases_lt 0 (occurrences f segment)) [
+    | inl here ↦ is_lent f here
+    | inr none ↦ lends.still f (held.lent f (omega (arith, sum f)))
+  ];
 }
   where
+    sum : (f : ℕ) → times f (take (i + 1) table) ≡ times f (take i table) + occurrences f segment
+    sum f = sum_by_more (occurrences f) table i [] within ∙ ap (λ x. times f (take i table) + occurrences f x) (sym (get_or_read table i segment within read []))
+
     same_pages : (numbers : List ℕ) → map (page_of mid) numbers ≡ map (page_of old) numbers
     same_pages [] = refl
     same_pages (f ∷ numbers) = ap₂ ◌∷◌ (held.lends.pages f) (same_pages numbers)

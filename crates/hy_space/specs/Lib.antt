@@ -1,3 +1,2 @@
 pub mod Space
-pub mod Users
-pub mod Children
+pub mod inside

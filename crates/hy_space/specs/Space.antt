@@ -1,8 +1,8 @@
 -- Page tables over one table of frames: the owner's, and those of its open children.
-use Rattle.std.specs.Prelude.{◌≡◌, ◌≢◌, ℕ, ◌+◌, ◌<◌, ◌≤◌, ◌==◌, nat_lt, Bool, false, List, [], ◌∷◌, ◌++◌, length, map, take, slice_index, slice_index_or, slice_set, count_by, sum_by, All, Option, None, Some, IsSome, IsSomeAnd, unwrap_or, option_to_list}
+use Rattle.std.specs.Prelude.{◌≡◌, ◌≢◌, ℕ, ◌+◌, ◌-◌, ◌<◌, ◌≤◌, ◌==◌, nat_lt, Bool, true, false, List, [], ◌∷◌, ◌++◌, length, map, take, slice_index, slice_index_or, slice_set, replicate, count_by, sum_by, All, Option, None, Some, IsSome, IsSomeAnd, unwrap_or, option_to_list}
 use Rattle.std.specs.Option.{option_map}
 use Rattle.std.specs.List.{flat_map}
-use Rattle.hy_frames.specs.FrameTable.{FrameTable, max_frames, count_of, page_of, lent_at, in_use, free_of, IsPageSize}
+use Rattle.hy_frames.specs.FrameTable.{FrameTable, Sets, max_frames, frame_at, count_of, page_of, lent_at, in_use, free_of, IsPageSize}
 
 -- for each table the frame number of each page, by segment; a closed child has none
 pub record SpaceState : Type 0 where
@@ -104,11 +104,24 @@ with_new_page segments segment bytes = slice_set segments segment (slice_index_o
 abbrev pub with_first_pages : List (List (List ℕ)) → ℕ → ℕ → List (List (List ℕ))
 with_first_pages segments segment count = slice_set segments segment (take count (slice_index_or segments segment []))
 
--- the page's frame is a fresh one, which nothing had before
+-- the children have the same tables and see the same bytes
+pub record SameForChildren (old new : SpaceState) : Type 0 where
+  pub tables : new.children ≡ old.children
+  pub bytes : (child : ℕ) → child_bytes new child ≡ child_bytes old child
+
+-- the page's frame is a fresh one, which nothing had before; its frame from before has a user less, and is else the same
 pub record TakesFrame (old new : SpaceState) (segment page : ℕ) : Type 0 where
   pub unused : count_of old.frames (frame_no new segment page) ≡ 0
   pub table : new.owner ≡ with_frame old.owner segment page (frame_no new segment page)
+  pub left : frame_at new.frames (frame_no old segment page) ≡ record (frame_at old.frames (frame_no old segment page)) { count = count_of old.frames (frame_no old segment page) - 1 }
   pub free : free_of new.frames + 1 ≡ free_of old.frames
+
+-- no frame changes but those of one page, where it stood and where it stands; each page that was the owner's own is so
+-- still, and so is each other one that no hold had either
+pub record KeepsOthers (old new : SpaceState) (segment page : ℕ) : Type 0 where
+  pub frames : (f : ℕ) → f ≢ frame_no old segment page → f ≢ frame_no new segment page → frame_at new.frames f ≡ frame_at old.frames f
+  pub own : (segment' page' : ℕ) → HasPage old segment' page' → HasPage new segment' page' → IsOwn old segment' page' → IsOwn new segment' page'
+  pub private : (segment' page' : ℕ) → ¬ ((segment' ≡ segment) × (page' ≡ page)) → HasPage old segment' page' → HasPage new segment' page' → IsPrivate old segment' page' → IsPrivate new segment' page'
 
 -- the page is the owner's own afterwards: it stays where it is, or takes one fresh frame
 pub record MakesOwn (old new : SpaceState) (segment page : ℕ) : Type 0 where
@@ -116,7 +129,41 @@ pub record MakesOwn (old new : SpaceState) (segment page : ℕ) : Type 0 where
   pub table : IsOwn old segment page → new.owner ≡ old.owner
   pub free : IsOwn old segment page → free_of new.frames ≡ free_of old.frames
   pub fresh : ¬ IsOwn old segment page → TakesFrame old new segment page
+  pub children : SameForChildren old new
+  pub limit : new.frames.max ≡ old.frames.max
+
+-- the page is private afterwards: it stays where it is, or takes one fresh frame; no frame changes but those of this page
+pub record MakesPrivate (old new : SpaceState) (segment page : ℕ) : Type 0 where
+  pub private : IsPrivate new segment page
+  pub table : IsOwn old segment page → new.owner ≡ old.owner
+  pub free : IsOwn old segment page → free_of new.frames ≡ free_of old.frames
+  pub fresh : ¬ IsOwn old segment page → TakesFrame old new segment page
+  pub others : (f : ℕ) → f ≢ frame_no old segment page → f ≢ frame_no new segment page → frame_at new.frames f ≡ frame_at old.frames f
   pub kept : KeepsOwn old new
+  pub children : SameForChildren old new
+  pub limit : new.frames.max ≡ old.frames.max
+
+-- a page of the owner's own has other bytes in the frame where it stands
+pub record WritesPage (old new : SpaceState) (segment page : ℕ) (content : List ℕ) (is_lent : Bool) : Type 0 where
+  pub bytes : owner_bytes new ≡ with_page (owner_bytes old) segment page content
+  pub table : new.owner ≡ old.owner
+  pub frame : Sets old.frames new.frames (frame_no old segment page) (record { count = 1; bytes = content; lent = is_lent })
+  pub others : KeepsOthers old new segment page
+  pub children : SameForChildren old new
+  pub free : free_of new.frames ≡ free_of old.frames
+  pub limit : new.frames.max ≡ old.frames.max
+
+-- a page of zeros, the owner's own, is behind all pages of a segment, in a fresh frame
+pub record GrowsPage (page_size : ℕ) (old new : SpaceState) (segment page : ℕ) : Type 0 where
+  pub number : page ≡ page_count old segment
+  pub bytes : owner_bytes new ≡ with_new_page (owner_bytes old) segment (replicate page_size 0)
+  pub table : new.owner ≡ with_new_frame old.owner segment (frame_no new segment page)
+  pub unused : count_of old.frames (frame_no new segment page) ≡ 0
+  pub frame : Sets old.frames new.frames (frame_no new segment page) (record { count = 1; bytes = replicate page_size 0; lent = false })
+  pub private : IsPrivate new segment page
+  pub kept : KeepsOwn old new
+  pub children : SameForChildren old new
+  pub free : free_of new.frames + 1 ≡ free_of old.frames
   pub limit : new.frames.max ≡ old.frames.max
 
 -- the page needs a frame of its own, and there is none
@@ -127,11 +174,6 @@ LacksFrame s segment page = (¬ IsOwn s segment page) × (free_of s.frames ≡ 0
 pub record IsLeastFree (s : SpaceState) (child : ℕ) : Type 0 where
   pub closed : child_table s child ≡ None
   pub least : (lower : ℕ) → lower < child → IsSome (child_table s lower)
-
--- the children have the same tables and see the same bytes
-pub record SameForChildren (old new : SpaceState) : Type 0 where
-  pub tables : new.children ≡ old.children
-  pub bytes : (child : ℕ) → child_bytes new child ≡ child_bytes old child
 
 -- each child but one has the same table and sees the same bytes
 pub record SameForOthers (old new : SpaceState) (child : ℕ) : Type 0 where
@@ -195,6 +237,7 @@ pub record Lends (old new : FrameTable) (lending : ℕ → ℕ) : Type 0 where
   pub counts : (f : ℕ) → count_of new f ≡ count_of old f
   pub pages : (f : ℕ) → page_of new f ≡ page_of old f
   pub others : (f : ℕ) → lending f ≡ 0 → lent_at new f ≡ lent_at old f
+  pub still : (f : ℕ) → lent_at old f ≡ true → lent_at new f ≡ true
   pub limit : new.max ≡ old.max
   pub free : free_of new ≡ free_of old
 
@@ -211,6 +254,16 @@ pub record IsUnchanged (old new : SpaceState) : Type 0 where
   pub pages : (f : ℕ) → page_of new.frames f ≡ page_of old.frames f
   pub limit : new.frames.max ≡ old.frames.max
   pub free : free_of new.frames ≡ free_of old.frames
+
+-- only the bytes that one child sees change
+pub record ChangesBytesOf (old new : SpaceState) (child : ℕ) : Type 0 where
+  pub tables : new.children ≡ old.children
+  pub owner : SameForOwner old new
+  pub others : SameForOthers old new child
+  pub counts : (f : ℕ) → count_of new.frames f ≡ count_of old.frames f
+  pub lent : (f : ℕ) → lent_at new.frames f ≡ lent_at old.frames f
+  pub free : free_of new.frames ≡ free_of old.frames
+  pub limit : new.frames.max ≡ old.frames.max
 
 -- a page of a child stands in another frame, and its user moved with it
 pub record MovesChildPage (old new : SpaceState) (child segment page : ℕ) : Type 0 where

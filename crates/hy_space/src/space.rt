@@ -1,12 +1,11 @@
 //! The space of an owner and its children.
 
-ghost use Rattle.std.specs.Prelude.{◌≡◌, ℕ, ◌+◌, ◌^◌, ◌<◌, ◌≤◌, ◌↔◌, [], IsTrue, length, map, replicate, Some, None, IsSome, IsOk, IfOk, OnOk, OnErr, IsErrOf, IsSomeAnd, slice_index_or, drop, unwrap_or};
+ghost use Rattle.std.specs.Prelude.{◌≡◌, ℕ, true, false, ◌+◌, ◌^◌, ◌<◌, ◌≤◌, ◌↔◌, [], IsTrue, length, map, replicate, Some, None, IsSome, IsOk, IfOk, OnOk, OnErr, IsErrOf, IsSomeAnd, slice_index_or, drop, unwrap_or};
 ghost use Rattle.std.specs.Option.{option_map};
-ghost use Rattle.hy_frames.specs.Slots.{occurrences};
+ghost use Rattle.hy_frames.specs.FrameTable.{occurrences, max_frames, count_of, lent_at, in_use, free_of, shared_of, IsLimitFor, IsPageSize};
 ghost use Rattle.hy_page.specs.Bytes.{number_of, bytes_at, overwritten};
-ghost use Rattle.hy_frames.specs.FrameTable.{max_frames, count_of, lent_at, in_use, free_of, shared_of, IsLimitFor, IsPageSize};
-ghost use Rattle.hy_space.specs.Space.{SpaceState, owner_bytes, child_table, child_bytes, page_count, HasPage, frame_no, page_bytes, IsOwn, IsPrivate, KeepsOwn, AddsUsers, DropsUsers, child_times, times, IsUnchanged, HasChildPage, child_frame_no, IsChildPrivate, MovesChildPage, page_at, with_new_frame, with_first_frames, with_page, with_new_page, with_first_pages, TakesFrame, MakesOwn, LacksFrame, IsLeastFree, SameForChildren, SameForOthers, SameForOwner, IsSound};
-ghost use Rattle.hy_space.specs.Children.{IsFirstClosed, IsPadded};
+ghost use Rattle.hy_space.specs.Space.{SpaceState, owner_bytes, child_table, child_bytes, page_count, HasPage, frame_no, page_bytes, IsOwn, IsPrivate, KeepsOwn, AddsUsers, DropsUsers, child_times, times, IsUnchanged, ChangesBytesOf, HasChildPage, child_frame_no, IsChildPrivate, MovesChildPage, page_at, with_new_frame, with_first_frames, with_page, with_new_page, with_first_pages, MakesOwn, MakesPrivate, WritesPage, GrowsPage, KeepsOthers, Lends, LacksFrame, IsLeastFree, SameForChildren, SameForOthers, SameForOwner, IsSound};
+ghost use Rattle.hy_space.specs.inside.Children.{IsFirstClosed, IsPadded};
 
 use super::tables::PageTable;
 use super::users;
@@ -29,7 +28,7 @@ pub struct Space<const N: usize> {
 // Clauses see the tables and the frames.
 impl<const N: usize> Model for Space<N> {
     ghost use Rattle.hy_space.specs.Space.{SpaceState};
-    ghost use Rattle.hy_space.specs.Users.{IsCounted};
+    ghost use Rattle.hy_space.specs.inside.Users.{IsCounted};
 
     ghost Value = { SpaceState };
 
@@ -95,12 +94,8 @@ impl<const N: usize> Space<N> {
         ensures bytes { OnOk result (owner_bytes self.new
             ≡ with_page (owner_bytes self.old) segment page
             (overwritten (page_bytes self.old segment page) offset bytes.now)) }
-        ensures children { OnOk result (SameForChildren self.old self.new) }
-        ensures own { OnOk result (MakesOwn self.old self.new segment page) }
-        ensures private { OnOk result (IsPrivate self.new segment page) }
-        ensures full { LacksFrame self.old segment page → IsErrOf result Shortage.NoFrame }
-        ensures full_only_then { result ≡ Err Shortage.NoFrame → LacksFrame self.old segment page }
-        ensures limit { self.new.frames.max ≡ self.old.frames.max }
+        ensures made { OnOk result (MakesPrivate self.old self.new segment page) }
+        ensures full { IsErrOf result Shortage.NoFrame ↔ LacksFrame self.old segment page }
         ensures err { OnErr result (self.new ≡ self.old) }
     {
         self.touch(segment, page)?;
@@ -113,12 +108,8 @@ impl<const N: usize> Space<N> {
     pub fn touch(&mut self, segment: u32, page: u32) -> Result<(), Shortage>
         requires { HasPage self.old segment page }
         ensures bytes { OnOk result (owner_bytes self.new ≡ owner_bytes self.old) }
-        ensures children { OnOk result (SameForChildren self.old self.new) }
-        ensures own { OnOk result (MakesOwn self.old self.new segment page) }
-        ensures private { OnOk result (IsPrivate self.new segment page) }
-        ensures full { LacksFrame self.old segment page → IsErrOf result Shortage.NoFrame }
-        ensures full_only_then { result ≡ Err Shortage.NoFrame → LacksFrame self.old segment page }
-        ensures limit { self.new.frames.max ≡ self.old.frames.max }
+        ensures made { OnOk result (MakesPrivate self.old self.new segment page) }
+        ensures full { IsErrOf result Shortage.NoFrame ↔ LacksFrame self.old segment page }
         ensures err { OnErr result (self.new ≡ self.old) }
     {
         let frame = self.owner.frame(segment as usize, page as usize);
@@ -143,13 +134,8 @@ impl<const N: usize> Space<N> {
         requires there { HasPage self.old segment page }
         requires shared { 1 < count_of self.old.frames (frame_no self.old segment page) }
         ensures bytes { OnOk result (owner_bytes self.new ≡ owner_bytes self.old) }
-        ensures children { OnOk result (SameForChildren self.old self.new) }
-        ensures private { OnOk result (IsPrivate self.new segment page) }
-        ensures fresh { OnOk result (TakesFrame self.old self.new segment page) }
-        ensures kept { OnOk result (KeepsOwn self.old self.new) }
-        ensures full { free_of self.old.frames ≡ 0 → IsErrOf result Shortage.NoFrame }
-        ensures full_only_then { result ≡ Err Shortage.NoFrame → free_of self.old.frames ≡ 0 }
-        ensures limit { self.new.frames.max ≡ self.old.frames.max }
+        ensures made { OnOk result (MakesPrivate self.old self.new segment page) }
+        ensures full { IsErrOf result Shortage.NoFrame ↔ (free_of self.old.frames ≡ 0) }
         ensures err { OnErr result (self.new ≡ self.old) }
     {
         let shared = self.owner.frame(segment, page);
@@ -164,14 +150,9 @@ impl<const N: usize> Space<N> {
         requires there { HasPage self.old segment page }
         requires private { IsPrivate self.old segment page }
         requires within { offset + length bytes.now ≤ N }
-        ensures bytes { owner_bytes self.new
-            ≡ with_page (owner_bytes self.old) segment page
-            (overwritten (page_bytes self.old segment page) offset bytes.now) }
-        ensures table { self.new.owner ≡ self.old.owner }
-        ensures children { SameForChildren self.old self.new }
+        ensures writes { WritesPage self.old self.new segment page
+            (overwritten (page_bytes self.old segment page) offset bytes.now) false }
         ensures kept { KeepsOwn self.old self.new }
-        ensures free { free_of self.new.frames ≡ free_of self.old.frames }
-        ensures limit { self.new.frames.max ≡ self.old.frames.max }
     {
         let frame = self.owner.frame(segment as usize, page as usize);
         self.frames.write(frame, offset, bytes);
@@ -180,18 +161,8 @@ impl<const N: usize> Space<N> {
     /// Adds a page of zeros at a segment's end, and answers its number.
     pub fn grow(&mut self, segment: u32) -> Result<u32, Shortage>
         requires { segment < length self.old.owner }
-        ensures number { IfOk result (λ page. page ≡ page_count self.old segment) }
-        ensures bytes { OnOk result (owner_bytes self.new
-            ≡ with_new_page (owner_bytes self.old) segment (replicate N 0)) }
-        ensures children { OnOk result (SameForChildren self.old self.new) }
-        ensures private { IfOk result (λ page. IsPrivate self.new segment page) }
-        ensures kept { OnOk result (KeepsOwn self.old self.new) }
-        ensures table { IfOk result (λ page. self.new.owner
-            ≡ with_new_frame self.old.owner segment (frame_no self.new segment page)) }
-        ensures free { OnOk result (free_of self.new.frames + 1 ≡ free_of self.old.frames) }
-        ensures full { free_of self.old.frames ≡ 0 → IsErrOf result Shortage.NoFrame }
-        ensures full_only_then { result ≡ Err Shortage.NoFrame → free_of self.old.frames ≡ 0 }
-        ensures limit { self.new.frames.max ≡ self.old.frames.max }
+        ensures grows { IfOk result (GrowsPage N self.old self.new segment) }
+        ensures full { IsErrOf result Shortage.NoFrame ↔ (free_of self.old.frames ≡ 0) }
         ensures err { OnErr result (self.new ≡ self.old) }
     {
         let page = self.pages(segment);
@@ -207,8 +178,6 @@ impl<const N: usize> Space<N> {
         ensures others { IfOk result (SameForOthers self.old self.new) }
         ensures owner { OnOk result (SameForOwner self.old self.new) }
         ensures users { OnOk result (AddsUsers self.old.frames self.new.frames (λ f. times f self.old.owner)) }
-        ensures free { OnOk result (free_of self.new.frames ≡ free_of self.old.frames) }
-        ensures limit { self.new.frames.max ≡ self.old.frames.max }
         ensures err { OnErr result (self.new ≡ self.old) }
     {
         let table = self.owner.try_clone(self.alloc)?;
@@ -226,8 +195,6 @@ impl<const N: usize> Space<N> {
         ensures owner { SameForOwner self.old self.new }
         ensures users { DropsUsers self.old.frames self.new.frames (λ f. child_times f (child_table self.old child)) }
         ensures kept { KeepsOwn self.old self.new }
-        ensures free { free_of self.old.frames ≤ free_of self.new.frames }
-        ensures limit { self.new.frames.max ≡ self.old.frames.max }
     {
         match self.children[child as usize].take() {
             Some(table) => users::drop_table(&mut self.frames, &table),
@@ -257,10 +224,10 @@ impl<const N: usize> Space<N> {
         ensures hold { IfOk result (λ hold. hold ≡ page_bytes self.old segment page) }
         ensures bytes { owner_bytes self.new ≡ owner_bytes self.old }
         ensures children { SameForChildren self.old self.new }
-        ensures own { OnOk result (IsOwn self.new segment page) }
-        ensures others { (segment' page' : ℕ) → HasPage self.old segment' page' → IsOwn self.old segment' page' → IsOwn self.new segment' page' }
-        ensures full { LacksFrame self.old segment page → IsErrOf result Shortage.NoFrame }
-        ensures full_only_then { result ≡ Err Shortage.NoFrame → LacksFrame self.old segment page }
+        ensures others { KeepsOthers self.old self.new segment page }
+        ensures own { OnOk result (MakesOwn self.old self.new segment page) }
+        ensures lent { OnOk result (lent_at self.new.frames (frame_no self.new segment page) ≡ true) }
+        ensures full { IsErrOf result Shortage.NoFrame ↔ LacksFrame self.old segment page }
         ensures limit { self.new.frames.max ≡ self.old.frames.max }
     {
         self.touch(segment, page)?;
@@ -272,12 +239,7 @@ impl<const N: usize> Space<N> {
     pub fn put_back(&mut self, segment: u32, page: u32, content: Hold<N>)
         requires there { HasPage self.old segment page }
         requires own { IsOwn self.old segment page }
-        ensures bytes { owner_bytes self.new ≡ with_page (owner_bytes self.old) segment page content.entry }
-        ensures table { self.new.owner ≡ self.old.owner }
-        ensures children { SameForChildren self.old self.new }
-        ensures own { (segment' page' : ℕ) → IsOwn self.old segment' page' → IsOwn self.new segment' page' }
-        ensures free { free_of self.new.frames ≡ free_of self.old.frames }
-        ensures limit { self.new.frames.max ≡ self.old.frames.max }
+        ensures { WritesPage self.old self.new segment page content.entry true }
     {
         let frame = self.owner.frame(segment as usize, page as usize);
         self.frames.replace(frame, content);
@@ -291,8 +253,8 @@ impl<const N: usize> Space<N> {
         ensures bytes { owner_bytes self.new ≡ with_first_pages (owner_bytes self.old) segment pages }
         ensures children { SameForChildren self.old self.new }
         ensures kept { KeepsOwn self.old self.new }
-        ensures free { free_of self.old.frames ≤ free_of self.new.frames }
-        ensures limit { self.new.frames.max ≡ self.old.frames.max }
+        ensures users { DropsUsers self.old.frames self.new.frames
+            (λ f. occurrences f (drop pages (slice_index_or self.old.owner segment []))) }
     {
         let numbers = self.owner.segments()[segment as usize].frames();
         users::drop_each(&mut self.frames, &numbers[pages as usize..]);
@@ -307,9 +269,7 @@ impl<const N: usize> Space<N> {
         ensures owner { OnOk result (SameForOwner self.old self.new) }
         ensures others { OnOk result (SameForOthers self.old self.new child) }
         ensures moves { OnOk result (MovesChildPage self.old self.new child segment page) }
-        ensures full { free_of self.old.frames ≡ 0 → IsErrOf result Shortage.NoFrame }
-        ensures full_only_then { result ≡ Err Shortage.NoFrame → free_of self.old.frames ≡ 0 }
-        ensures limit { self.new.frames.max ≡ self.old.frames.max }
+        ensures full { IsErrOf result Shortage.NoFrame ↔ (free_of self.old.frames ≡ 0) }
         ensures err { OnErr result (self.new ≡ self.old) }
     {
         let Some(mut table) = self.children[child as usize].take() else {
@@ -340,13 +300,7 @@ impl<const N: usize> Space<N> {
         requires within { offset + length bytes.now ≤ N }
         ensures bytes { child_bytes self.new child ≡ option_map (λ pages. with_page pages segment page
             (overwritten (page_at pages segment page) offset bytes.now)) (child_bytes self.old child) }
-        ensures tables { self.new.children ≡ self.old.children }
-        ensures owner { SameForOwner self.old self.new }
-        ensures others { SameForOthers self.old self.new child }
-        ensures counts { (f : ℕ) → count_of self.new.frames f ≡ count_of self.old.frames f }
-        ensures lent { (f : ℕ) → lent_at self.new.frames f ≡ lent_at self.old.frames f }
-        ensures free { free_of self.new.frames ≡ free_of self.old.frames }
-        ensures limit { self.new.frames.max ≡ self.old.frames.max }
+        ensures only { ChangesBytesOf self.old self.new child }
     {
         let Some(table) = &self.children[child as usize] else {
             unreachable!()
@@ -382,6 +336,9 @@ impl<const N: usize> Space<N> {
         requires { IsSome (child_table self.old child) }
         ensures holds { IfOk result (λ holds. child_bytes self.old child
             ≡ Some (map (λ segment. segment.items) holds.items)) }
+        ensures lent { OnOk result ((f : ℕ) → 0 < child_times f (child_table self.old child)
+            → lent_at self.new.frames f ≡ true) }
+        ensures lends { Lends self.old.frames self.new.frames (λ f. child_times f (child_table self.old child)) }
         ensures unchanged { IsUnchanged self.old self.new }
         ensures kept { KeepsOwn self.old self.new }
     {
@@ -395,6 +352,8 @@ impl<const N: usize> Space<N> {
     pub fn holds_of_owner(&mut self) -> Result<Vec<Vec<Hold<N>>>, AllocError>
         ensures holds { IfOk result
             (λ holds. owner_bytes self.old ≡ map (λ segment. segment.items) holds.items) }
+        ensures lent { OnOk result ((f : ℕ) → 0 < times f self.old.owner → lent_at self.new.frames f ≡ true) }
+        ensures lends { Lends self.old.frames self.new.frames (λ f. times f self.old.owner) }
         ensures unchanged { IsUnchanged self.old self.new }
     {
         users::holds_of_table(self.alloc, &mut self.frames, &self.owner)
@@ -518,16 +477,25 @@ mod tests {
 
     #[test]
     fn long_writes_stand_in_two_segments(rt: HostRuntime) -> Result<(), Fail> {
-        let mut space: Space<256> = Space::new(rt.alloc(), 2, 4)?;
+        let mut space: Space<256> = Space::new(rt.alloc(), 2, 2)?;
         let first = space.grow(0)?;
         let second = space.grow(1)?;
         space.write(0, first, 100, b"a longer text")?;
         space.write(1, second, 240, b"sixteen at last!")?;
-        let child = space.fork()?;
-        space.write(1, second, 0, b"sixteen at first")?;
         assert_eq!(rt; space.read(0, first, 108, 5), 0x7478657420);
-        assert_eq!(rt; space.read(1, second, 8, 8), 0x7473726966207461);
         assert_eq!(rt; space.read(1, second, 248, 8), 0x217473616c207461);
+        Ok(())
+    }
+
+    #[test]
+    fn a_child_keeps_a_long_write(rt: HostRuntime) -> Result<(), Fail> {
+        let mut space: Space<256> = Space::new(rt.alloc(), 2, 2)?;
+        let page = space.grow(1)?;
+        space.write(1, page, 240, b"sixteen at last!")?;
+        let child = space.fork()?;
+        space.write(1, page, 0, b"sixteen at first")?;
+        assert_eq!(rt; space.read(1, page, 8, 8), 0x7473726966207461);
+        assert_eq!(rt; space.read(1, page, 248, 8), 0x217473616c207461);
         let holds = space.holds(child)?;
         assert_eq!(rt; holds.len(), 2);
         assert_eq!(rt; holds[1].len(), 1);

@@ -1,7 +1,7 @@
 //! Page tables: the frame of each page, by segment.
 
-ghost use Rattle.std.specs.Prelude.{◌≡◌, ℕ, ◌+◌, ◌<◌, List, [], ◌∷◌, ◌++◌, false, length, replicate, take, slice_index, slice_index_or, slice_set, IfOk, OnOk, OnErr, IsErrOf};
-ghost use Rattle.hy_frames.specs.FrameTable.{count_of, free_of, Sets};
+ghost use Rattle.std.specs.Prelude.{◌≡◌, ℕ, ◌+◌, ◌<◌, List, [], ◌∷◌, ◌++◌, ◌↔◌, length, replicate, take, slice_index, slice_index_or, slice_set, IfOk, OnOk, OnErr, IsErrOf};
+ghost use Rattle.hy_frames.specs.FrameTable.{free_of, Takes};
 ghost use Rattle.hy_space.specs.Space.{with_frame, with_new_frame, with_first_frames};
 
 use hy_frames::{FrameNo, Frames, Shortage};
@@ -54,14 +54,10 @@ impl Segment {
         frames: &mut Frames<N>,
     ) -> Result<FrameNo, Shortage>
         ensures pushed { IfOk result (λ f. self.new ≡ self.old ++ f ∷ []) }
-        ensures unused { IfOk result (λ f. count_of frames.old f ≡ 0) }
-        ensures set { IfOk result
-            (λ f. Sets frames.old frames.new f (record { count = 1; bytes = replicate N 0; lent = false })) }
-        ensures free { OnOk result (free_of frames.new + 1 ≡ free_of frames.old) }
+        ensures takes { IfOk result (λ f. Takes frames.old frames.new f (replicate N 0)) }
+        ensures full { IsErrOf result Shortage.NoFrame ↔ (free_of frames.old ≡ 0) }
         ensures err { OnErr result (self.new ≡ self.old) }
         ensures err_frames { OnErr result (frames.new ≡ frames.old) }
-        ensures full { free_of frames.old ≡ 0 → IsErrOf result Shortage.NoFrame }
-        ensures full_only_then { result ≡ Err Shortage.NoFrame → free_of frames.old ≡ 0 }
     {
         if frames.free() == 0 {
             return Err(Shortage::NoFrame);
@@ -148,14 +144,10 @@ impl PageTable {
     ) -> Result<FrameNo, Shortage>
         requires { segment < length self.old }
         ensures pushed { IfOk result (λ f. self.new ≡ with_new_frame self.old segment f) }
-        ensures unused { IfOk result (λ f. count_of frames.old f ≡ 0) }
-        ensures set { IfOk result
-            (λ f. Sets frames.old frames.new f (record { count = 1; bytes = replicate N 0; lent = false })) }
-        ensures free { OnOk result (free_of frames.new + 1 ≡ free_of frames.old) }
+        ensures takes { IfOk result (λ f. Takes frames.old frames.new f (replicate N 0)) }
+        ensures full { IsErrOf result Shortage.NoFrame ↔ (free_of frames.old ≡ 0) }
         ensures err { OnErr result (self.new ≡ self.old) }
         ensures err_frames { OnErr result (frames.new ≡ frames.old) }
-        ensures full { free_of frames.old ≡ 0 → IsErrOf result Shortage.NoFrame }
-        ensures full_only_then { result ≡ Err Shortage.NoFrame → free_of frames.old ≡ 0 }
     {
         self.segments[segment].grow(frames)
     }

@@ -1,8 +1,7 @@
 //! Users of frames, many at once.
 
-ghost use Rattle.std.specs.Prelude.{◌≡◌, ℕ, ◌+◌, ◌<◌, ◌≤◌, ◌^◌, [], length, slice_index, slice_index_or, map, Err, IfOk, OnErr, IsErrOf};
-ghost use Rattle.hy_frames.specs.FrameTable.{count_of, page_of, free_of};
-ghost use Rattle.hy_frames.specs.Slots.{occurrences};
+ghost use Rattle.std.specs.Prelude.{◌≡◌, ℕ, ◌+◌, ◌<◌, ◌≤◌, ◌^◌, [], length, slice_index, slice_index_or, map, true, ◌↔◌, IfOk, OnOk, OnErr, IsErrOf};
+ghost use Rattle.hy_frames.specs.FrameTable.{count_of, page_of, lent_at, free_of, occurrences};
 ghost use Rattle.hy_space.specs.Space.{times, table_bytes, with_frame, AddsUsers, DropsUsers, Lends, MovesUser};
 
 use super::tables::PageTable;
@@ -59,6 +58,7 @@ fn holds_of_each<const N: usize>(
 ) -> Result<Vec<Hold<N>>, AllocError>
     requires { (f : ℕ) → 0 < occurrences f numbers.now → 0 < count_of frames.old f }
     ensures holds { IfOk result (λ holds. holds.items ≡ map (page_of frames.old) numbers.now) }
+    ensures lent { OnOk result ((f : ℕ) → 0 < occurrences f numbers.now → lent_at frames.new f ≡ true) }
     ensures lends { Lends frames.old frames.new (λ f. occurrences f numbers.now) }
 {
     let mut holds = Vec::with_capacity(alloc, numbers.len())?;
@@ -77,6 +77,7 @@ pub(crate) fn holds_of_table<const N: usize>(
     requires { (f : ℕ) → 0 < times f table.now → 0 < count_of frames.old f }
     ensures holds { IfOk result
         (λ holds. map (λ segment. segment.items) holds.items ≡ table_bytes frames.old table.now) }
+    ensures lent { OnOk result ((f : ℕ) → 0 < times f table.now → lent_at frames.new f ≡ true) }
     ensures lends { Lends frames.old frames.new (λ f. times f table.now) }
 {
     let mut holds = Vec::new(alloc);
@@ -99,8 +100,7 @@ pub(crate) fn own_page<const N: usize>(
     ensures table { IfOk result (λ f. table.new ≡ with_frame table.old segment page f) }
     ensures users { IfOk result (λ f.
         MovesUser frames.old frames.new (slice_index (slice_index_or table.old segment []) page) f) }
-    ensures full { free_of frames.old ≡ 0 → IsErrOf result Shortage.NoFrame }
-    ensures full_only_then { result ≡ Err Shortage.NoFrame → free_of frames.old ≡ 0 }
+    ensures full { IsErrOf result Shortage.NoFrame ↔ (free_of frames.old ≡ 0) }
     ensures err { OnErr result (table.new ≡ table.old) }
     ensures err_frames { OnErr result (frames.new ≡ frames.old) }
 {

@@ -4,14 +4,13 @@ use Rattle.std.specs.Option.{option_map}
 use Rattle.std.proofs.lemmas.List.{get_or-drop, length-take-le, length-map}
 use Rattle.std.proofs.lemmas.List.Sums.{sum_by-cons}
 use Rattle.std.proofs.lemmas.Bool.{cases_lt, cases_eq, ltb-true, ltb-false}
-use Rattle.hy_frames.specs.FrameTable.{Frame, FrameTable, empty_frame, count_of, lent_at, page_of, in_use, free_of}
-use Rattle.hy_frames.specs.Slots.{occurrences}
+use Rattle.hy_frames.specs.FrameTable.{Frame, FrameTable, empty_frame, count_of, lent_at, page_of, in_use, free_of, occurrences}
 use Rattle.hy_frames.proofs.FrameLaws.{above, above_yes, count_above}
 use Rattle.hy_space.specs.Space.{SpaceState, HasPage, SameForOwner, SameForOthers, DropsUsers, times, table_bytes, child_table, child_bytes, child_frame_no, frame_no, page_count, with_first_frames, with_first_pages}
 use Rattle.hy_space.proofs.TableLaws.{stands, stands_in_segment, times-cut, frame_no-with_first_frames, get_or-map_at}
 use Rattle.hy_undo.specs.UndoLog.{UndoLog, first_pages}
 use Rattle.hy_undo.specs.Touched.{PagePlace, was_there}
-use Rattle.hy_undo.specs.Fork.{rows_of, child_pages, IsBeside, SharesGrown, ChangesChild, IsApart, IsSplit, AllSplit}
+use Rattle.hy_undo.specs.inside.Fork.{rows_of, child_pages, IsBeside, SharesGrown, ChangesChild, IsApart, IsSplit, AllSplit}
 use Rattle.hy_undo.proofs.UndoneLaws.{first_pages-more}
 use Rattle.hy_undo.proofs.SplitLaws.{ChangesChild-same, ChangesChild-then, HasPage-same}
 
@@ -98,7 +97,7 @@ module _ (counts : List ℕ) (now next : SpaceState) (child segment : ℕ) (besi
     owner = owner;
     others = others;
     counts = λ f. omega (arith, fewer f, users.counts f);
-    lent = λ f used. users.lent f (omega (arith, cut_users f, ap (times f) owner.table));
+    lent = λ f used. users.lent f (omega (arith, fewer f, users.counts f));
     limit = users.limit;
   }
 

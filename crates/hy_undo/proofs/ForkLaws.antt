@@ -10,8 +10,10 @@ use Rattle.hy_space.proofs.TableLaws.{stands}
 use Rattle.hy_space.proofs.SpaceLaws.{KeepsOwn-from}
 use Rattle.hy_undo.specs.UndoLog.{Image, UndoLog}
 use Rattle.hy_undo.specs.Touched.{PagePlace, is_same_place, place_of, was_there}
-use Rattle.hy_undo.specs.PrivatePages.{IsOfPrivatePage, IsUndoLog, KeepsPages}
-use Rattle.hy_undo.specs.Fork.{rows_of, places, IsBeside, ChangesChild, AllSplit, AllGrownApart, IsOfPage, IsWritableIn, IsAsBefore}
+use Rattle.hy_undo.specs.PrivatePages.{IsOfPrivatePage, IsUndoLog}
+use Rattle.hy_undo.specs.inside.RollBack.{KeepsPages}
+use Rattle.hy_undo.specs.Fork.{IsAsBefore}
+use Rattle.hy_undo.specs.inside.Fork.{rows_of, places, IsBeside, ChangesChild, AllSplit, AllGrownApart, IsOfPage, IsWritableIn}
 use Rattle.hy_undo.proofs.TouchedLaws.{is_same_place-refl}
 use Rattle.hy_undo.proofs.PrivatePageLaws.{IsUndoLog-kept}
 use Rattle.hy_undo.proofs.SplitLaws.{HasPage-same}
@@ -76,8 +78,8 @@ module _ (n : ℕ) (old : SpaceState) (sound : IsSound n old) where
       pub users_now : (f : ℕ) → count_of now.frames f ≡ count_of old.frames f + times f (rows_of now child)
       users_now f = omega (arith, changes.counts f, users.counts f, ap (times f) rows)
 
-      lent_now : (f : ℕ) → 0 < times f old.owner → lent_at now.frames f ≡ lent_at old.frames f
-      lent_now f used = changes.lent f (omega (arith, ap (times f) owner.table)) ∙ users.lent f
+      pub lent_now : (f : ℕ) → 0 < count_of old.frames f → lent_at now.frames f ≡ lent_at old.frames f
+      lent_now f used = changes.lent f (omega (arith, users.counts f, ap (times f) rows)) ∙ users.lent f
 
       table_now : now.owner ≡ old.owner
       table_now = changes.owner.table ∙ owner.table
@@ -108,7 +110,7 @@ module _ (n : ℕ) (old : SpaceState) (sound : IsSound n old) where
                 there = HasPage-same now new image.segment image.page same_table place;
                 private = record {
                   own = omega (arith, ap (count_of new.frames) new_stays, counts f, users_now f, of.private.own, apart, ap (λ x. times x (rows_of now child)) stays);
-                  not_lent = ap (lent_at new.frames) new_stays ∙ lent f ∙ lent_now f (omega arith) ∙ of.private.not_lent;
+                  not_lent = ap (lent_at new.frames) new_stays ∙ lent f ∙ lent_now f (omega (arith, of.private.own)) ∙ of.private.not_lent;
                 };
                 within = of.within;
               }
@@ -163,6 +165,7 @@ module _ (n : ℕ) (old : SpaceState) (sound : IsSound n old) where
             | inr apart ↦ others_closed.bytes other apart ∙ changes.others.bytes other apart ∙ others.bytes other apart
           ];
           counts = counts_back;
+          lent = λ f used. drops.lent f (omega (arith, counts_back f)) ∙ lent_now f used;
           kept = kept_back;
           free = same_free old.frames closed.frames (λ f used. omega (arith, counts_back f)) (λ f used. omega (arith, counts_back f)) (drops.limit ∙ changes.limit ∙ users.limit);
         }

@@ -5,8 +5,8 @@ use Rattle.std.proofs.lemmas.List.Sums.{sum_by-cons, sum_by_push, sum_by-take-dr
 use Rattle.hy_undo.specs.declared.images.Piece.{Piece}
 use Rattle.hy_undo.specs.UndoLog.{Image}
 use Rattle.hy_undo.specs.Touched.{PagePlace, is_same_place, place_of, different, was_there, touched}
-use Rattle.hy_undo.specs.Pieces.{byte_count, images_of, place_of_piece, piece_at, touched_by}
-use Rattle.hy_undo.specs.Fork.{place_at}
+use Rattle.hy_undo.specs.inside.Pieces.{byte_count, images_of, place_of_piece, piece_at, touched_by}
+use Rattle.hy_undo.specs.inside.Fork.{place_at}
 use Rattle.std.specs.List.{filter, list_any}
 use Rattle.hy_undo.proofs.TouchedLaws.{length-kept-cons}
 use Rattle.hy_space.proofs.TableLaws.{get_or-map_at}

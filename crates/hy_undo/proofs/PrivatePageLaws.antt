@@ -4,10 +4,11 @@ use Rattle.std.specs.List.{AllByRecursion}
 use Rattle.std.proofs.lemmas.List.{length-map, take_more, length_push, set_past, get_or-set_same, get_or-set_other, length-set}
 use Rattle.std.proofs.lemmas.Bool.{cases_lt, cases_eq}
 use Rattle.hy_frames.specs.FrameTable.{page_of}
-use Rattle.hy_space.specs.Space.{SpaceState, HasPage, KeepsOwn, IsSound, HasPagesOf, page_count, page_bytes, owner_bytes, with_page, with_new_page}
+use Rattle.hy_space.specs.Space.{SpaceState, HasPage, KeepsOwn, SameForChildren, IsSound, HasPagesOf, page_count, page_bytes, owner_bytes, with_page, with_new_page}
 use Rattle.hy_space.proofs.TableLaws.{get_or-map_at}
 use Rattle.hy_undo.specs.UndoLog.{Image, UndoLog, page_counts, empty_log, with_image}
-use Rattle.hy_undo.specs.PrivatePages.{IsOfPrivatePage, IsUndoLog, KeepsPages, HasNoMorePages}
+use Rattle.hy_undo.specs.PrivatePages.{IsOfPrivatePage, IsUndoLog, HasNoMorePages, GivesUpPages}
+use Rattle.hy_undo.specs.inside.RollBack.{KeepsPages, KeepsTable}
 use Rattle.hy_undo.proofs.PutBackLaws.{IsThere, length-with_page, length-segment-with_page}
 use Rattle.hy_undo.proofs.PageLaws.{length-page_at}
 
@@ -104,6 +105,29 @@ KeepsOwn-then old mid new first second fewer = record {
   private = λ segment page before after private.
       let there = HasPage-fewer mid new segment page fewer after in
       second.private segment page there after (first.private segment page before there private);
+}
+
+-- one change behind another
+pub SameForChildren-then : (old mid new : SpaceState) → SameForChildren old mid → SameForChildren mid new → SameForChildren old new
+SameForChildren-then old mid new first second = record { tables = second.tables ∙ first.tables; bytes = λ child. second.bytes child ∙ first.bytes child }
+
+pub GivesUpPages-then : (old mid new : SpaceState) → GivesUpPages old mid → GivesUpPages mid new → GivesUpPages old new
+GivesUpPages-then old mid new first second = record {
+  fewer = HasNoMorePages-then old mid new first.fewer second.fewer;
+  kept = KeepsOwn-then old mid new first.kept second.kept second.fewer;
+  children = SameForChildren-then old mid new first.children second.children;
+  free = omega (arith, first.free, second.free);
+  limit = second.limit ∙ first.limit;
+}
+
+-- where the table stays, no page is given up
+pub GivesUpPages-none : (old new : SpaceState) → KeepsTable old new → GivesUpPages old new
+GivesUpPages-none old new keeps = record {
+  fewer = HasNoMorePages-same old new keeps.table;
+  kept = keeps.kept;
+  children = keeps.children;
+  free = omega (arith, keeps.free);
+  limit = keeps.limit;
 }
 
 pub HasPage-kept : (old new : SpaceState) (segment page : ℕ) → KeepsPages old new → HasPage old segment page → HasPage new segment page

@@ -7,7 +7,8 @@ use Rattle.hy_frames.specs.FrameTable.{page_of}
 use Rattle.hy_space.specs.Space.{SpaceState, HasPage, KeepsOwn, owner_bytes, page_count, with_page, with_first_pages, with_first_frames}
 use Rattle.hy_space.proofs.TableLaws.{get_or-map_at}
 use Rattle.hy_undo.specs.UndoLog.{Image, UndoLog, first_pages, put_back, restored, undone, page_counts, empty_log}
-use Rattle.hy_undo.specs.PrivatePages.{IsOfPrivatePage, IsPrivateWhereThere, HasNoMorePages, IsUndoLog}
+use Rattle.hy_undo.specs.PrivatePages.{IsOfPrivatePage, HasNoMorePages, IsUndoLog}
+use Rattle.hy_undo.specs.inside.RollBack.{IsPrivateWhereThere}
 use Rattle.hy_undo.proofs.UndoneLaws.{first_pages-more, segment-first_pages_ahead, length-undone, length-segment-undone, undone-empty, restored-push, restored-push_past}
 use Rattle.hy_undo.proofs.PrivatePageLaws.{length-owner_bytes, length-segment-owner_bytes}
 use Rattle.hy_undo.proofs.PutBackLaws.{length-with_page, length-segment-with_page}

@@ -11,7 +11,7 @@ use Rattle.hy_space.proofs.TableLaws.{stands, times-with_frame}
 use Rattle.hy_undo.specs.UndoLog.{Image, UndoLog}
 use Rattle.hy_undo.specs.Touched.{PagePlace, is_same_place, place_of, different, was_there, touched}
 use Rattle.hy_undo.proofs.TouchedLaws.{same_place, is_same_place-refl, never_both, length-kept-cons}
-use Rattle.hy_undo.specs.Fork.{rows_of, places, place_at, IsBeside, SharesGrown, ChangesChild, IsSplit, AllSplit, IsOfPage}
+use Rattle.hy_undo.specs.inside.Fork.{rows_of, places, place_at, IsBeside, SharesGrown, ChangesChild, IsSplit, AllSplit, IsOfPage}
 
 -- ---- another frame at one place of a table
 
@@ -83,7 +83,7 @@ ChangesChild-then old mid new child first second = record {
     bytes = λ other apart. second.others.bytes other apart ∙ first.others.bytes other apart;
   };
   counts = λ f. omega (arith, first.counts f, second.counts f);
-  lent = λ f used. second.lent f (omega (arith, ap (times f) first.owner.table)) ∙ first.lent f used;
+  lent = λ f used. second.lent f (omega (arith, first.counts f)) ∙ first.lent f used;
   limit = second.limit ∙ first.limit;
 }
 
@@ -125,7 +125,7 @@ module _ (counts : List ℕ) (now next : SpaceState) (child segment page : ℕ) 
     owner = owner;
     others = others;
     counts = λ f. omega (arith, swapped f, counted f);
-    lent = λ f used. moves.users.lent f (omega (arith, beside.users f));
+    lent = λ f used. moves.users.lent f (omega arith);
     limit = moves.users.limit;
   }
 

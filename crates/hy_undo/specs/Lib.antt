@@ -1,5 +1,5 @@
 pub mod UndoLog
 pub mod Touched
 pub mod PrivatePages
-pub mod Pieces
 pub mod Fork
+pub mod inside

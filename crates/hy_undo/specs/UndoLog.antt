@@ -1,6 +1,6 @@
 -- The undo log of the running transaction: how many pages there were when it began, and the bytes that each of its
--- writes took away (the undo log of the HyPer paper, section 2.2, with the bytes of one write as its records).
-use Rattle.std.specs.Prelude.{ℕ, ◌-◌, List, [], ◌∷◌, ◌++◌, length, map, take}
+-- writes took away.
+use Rattle.std.specs.Prelude.{ℕ, List, [], ◌∷◌, ◌++◌, length, map, take}
 use Rattle.hy_page.specs.Bytes.{bytes_at, overwritten}
 use Rattle.hy_space.specs.Space.{SpaceState, page_at, page_bytes, with_page}
 
@@ -53,7 +53,3 @@ with_image log image = record { counts = log.counts; images = log.images ++ imag
 abbrev pub image_at : SpaceState → ℕ → ℕ → ℕ → ℕ → Image
 image_at s segment page offset count =
     record { segment = segment; page = page; offset = offset; bytes = bytes_at (page_bytes s segment page) offset count }
-
--- a log without its last image
-abbrev pub without_last : UndoLog → UndoLog
-without_last log = record { counts = log.counts; images = take (length log.images - 1) log.images }

@@ -1,10 +1,10 @@
 //! Overwritten bytes, one write behind another in one buffer.
 
 ghost use Rattle.std.specs.Prelude.{◌≡◌, ℕ, ◌+◌, ◌-◌, ◌^◌, ◌<◌, ◌≤◌, ◌↔◌, IsTrue, [], ◌∷◌, ◌++◌, length, map, take, drop, not, ◌&&◌, slice_index_or, sum_by, OnOk, OnErr};
-ghost use Rattle.hy_undo.specs.Fork.{places, place_at};
+ghost use Rattle.hy_undo.specs.inside.Fork.{places, place_at};
 ghost use Rattle.std.specs.List.{list_any};
 ghost use Rattle.hy_undo.specs.Touched.{touched, is_same_place, was_there};
-ghost use Rattle.hy_undo.specs.Pieces.{place_of_piece, piece_at, byte_count, images_of, touched_by};
+ghost use Rattle.hy_undo.specs.inside.Pieces.{place_of_piece, piece_at, byte_count, images_of, touched_by};
 
 use std::alloc::{AllocError, Global};
 use std::marker::Model;
@@ -38,7 +38,7 @@ pub(crate) struct Images {
 impl Model for Images {
     ghost use Rattle.std.specs.Prelude.{◌≡◌, List, length};
     ghost use Rattle.hy_undo.specs.UndoLog.{Image};
-    ghost use Rattle.hy_undo.specs.Pieces.{images_of, byte_count};
+    ghost use Rattle.hy_undo.specs.inside.Pieces.{images_of, byte_count};
 
     ghost Value = { List Image };
 

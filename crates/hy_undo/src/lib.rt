@@ -6,11 +6,14 @@ ghost use Rattle.std.specs.Prelude.{◌≡◌, ℕ, [], ◌+◌, ◌<◌, ◌≤
 ghost use Rattle.std.specs.List.{AllByRecursion};
 ghost use Rattle.hy_page.specs.Bytes.{overwritten};
 ghost use Rattle.hy_frames.specs.FrameTable.{count_of, lent_at, free_of};
-ghost use Rattle.hy_space.specs.Space.{HasPage, IsPrivate, KeepsOwn, IsLeastFree, SameForOwner, SameForOthers, child_table, child_bytes, child_times, owner_bytes, page_count, page_bytes, frame_no, with_page, with_new_page, with_new_frame, with_first_pages, MakesOwn, LacksFrame, SameForChildren};
-ghost use Rattle.hy_undo.specs.UndoLog.{first_pages, put_back, restored, without_last, undone, empty_log, image_at, with_image};
+ghost use Rattle.hy_space.specs.Space.{HasPage, IsPrivate, KeepsOwn, IsLeastFree, SameForOwner, SameForOthers, child_table, child_bytes, child_times, owner_bytes, page_count, page_bytes, frame_no, with_page, with_new_page, with_new_frame, with_first_pages, GrowsPage, LacksFrame, ChangesBytesOf};
+ghost use Rattle.hy_undo.specs.UndoLog.{first_pages, put_back, restored, undone, empty_log, image_at, with_image};
+ghost use Rattle.hy_undo.specs.inside.RollBack.{without_last};
 ghost use Rattle.hy_undo.specs.Touched.{touched};
-ghost use Rattle.hy_undo.specs.Fork.{rows_of, child_pages, IsBeside, SharesGrown, ChangesChild, AllSplit, AllGrownApart, IsOfPage, IsWritableIn, IsAsBefore};
-ghost use Rattle.hy_undo.specs.PrivatePages.{IsPrivateWhereThere, HasNoMorePages, IsUndoLog};
+ghost use Rattle.hy_undo.specs.Fork.{IsAsBefore};
+ghost use Rattle.hy_undo.specs.inside.Fork.{rows_of, child_pages, IsBeside, SharesGrown, ChangesChild, AllSplit, AllGrownApart, IsOfPage, IsWritableIn};
+ghost use Rattle.hy_undo.specs.PrivatePages.{IsUndoLog, UndoesTheSame, LogsImage, GivesUpPages};
+ghost use Rattle.hy_undo.specs.inside.RollBack.{IsPrivateWhereThere, KeepsTable};
 
 mod images;
 
@@ -70,16 +73,10 @@ impl<const N: usize> Undo<N> {
         ensures bytes { OnOk result (owner_bytes space.new
             ≡ with_page (owner_bytes space.old) segment page
             (overwritten (page_bytes space.old segment page) offset bytes.now)) }
-        ensures children { OnOk result (SameForChildren space.old space.new) }
-        ensures own { OnOk result (MakesOwn space.old space.new segment page) }
-        ensures private { OnOk result (IsPrivate space.new segment page) }
-        ensures image { OnOk result (self.new
-            ≡ with_image self.old (image_at space.old segment page offset (length bytes.now))) }
-        ensures undone { undone (owner_bytes space.new) self.new ≡ undone (owner_bytes space.old) self.old }
-        ensures undo_log { IsUndoLog N space.new self.new }
-        ensures full { LacksFrame space.old segment page → IsErrOf result Shortage.NoFrame }
-        ensures full_only_then { result ≡ Err Shortage.NoFrame → LacksFrame space.old segment page }
-        ensures limit { space.new.frames.max ≡ space.old.frames.max }
+        ensures logs { OnOk result (LogsImage space.old space.new self.old self.new
+            (image_at space.old segment page offset (length bytes.now))) }
+        ensures undoes { UndoesTheSame N space.old space.new self.old self.new }
+        ensures full { IsErrOf result Shortage.NoFrame ↔ LacksFrame space.old segment page }
         ensures err { OnErr result ((self.new ≡ self.old) × (space.new ≡ space.old)) }
     {
         space.sound();
@@ -98,15 +95,10 @@ impl<const N: usize> Undo<N> {
         requires there { HasPage space.old segment page }
         requires undo_log { IsUndoLog N space.old self.old }
         ensures bytes { OnOk result (owner_bytes space.new ≡ owner_bytes space.old) }
-        ensures children { OnOk result (SameForChildren space.old space.new) }
-        ensures own { OnOk result (MakesOwn space.old space.new segment page) }
-        ensures private { OnOk result (IsPrivate space.new segment page) }
-        ensures image { OnOk result (self.new ≡ with_image self.old (image_at space.old segment page 0 N)) }
-        ensures undone { undone (owner_bytes space.new) self.new ≡ undone (owner_bytes space.old) self.old }
-        ensures undo_log { IsUndoLog N space.new self.new }
-        ensures full { LacksFrame space.old segment page → IsErrOf result Shortage.NoFrame }
-        ensures full_only_then { result ≡ Err Shortage.NoFrame → LacksFrame space.old segment page }
-        ensures limit { space.new.frames.max ≡ space.old.frames.max }
+        ensures logs { OnOk result (LogsImage space.old space.new self.old self.new
+            (image_at space.old segment page 0 N)) }
+        ensures undoes { UndoesTheSame N space.old space.new self.old self.new }
+        ensures full { IsErrOf result Shortage.NoFrame ↔ LacksFrame space.old segment page }
         ensures err { OnErr result ((self.new ≡ self.old) × (space.new ≡ space.old)) }
     {
         self.keep_touched(space, segment, page, 0, N)
@@ -125,16 +117,10 @@ impl<const N: usize> Undo<N> {
         requires within { offset + count ≤ N }
         requires undo_log { IsUndoLog N space.old self.old }
         ensures bytes { OnOk result (owner_bytes space.new ≡ owner_bytes space.old) }
-        ensures children { OnOk result (SameForChildren space.old space.new) }
-        ensures own { OnOk result (MakesOwn space.old space.new segment page) }
-        ensures private { OnOk result (IsPrivate space.new segment page) }
-        ensures image { OnOk result (self.new
-            ≡ with_image self.old (image_at space.old segment page offset count)) }
-        ensures undone { undone (owner_bytes space.new) self.new ≡ undone (owner_bytes space.old) self.old }
-        ensures undo_log { IsUndoLog N space.new self.new }
-        ensures full { LacksFrame space.old segment page → IsErrOf result Shortage.NoFrame }
-        ensures full_only_then { result ≡ Err Shortage.NoFrame → LacksFrame space.old segment page }
-        ensures limit { space.new.frames.max ≡ space.old.frames.max }
+        ensures logs { OnOk result (LogsImage space.old space.new self.old self.new
+            (image_at space.old segment page offset count)) }
+        ensures undoes { UndoesTheSame N space.old space.new self.old self.new }
+        ensures full { IsErrOf result Shortage.NoFrame ↔ LacksFrame space.old segment page }
         ensures err { OnErr result ((self.new ≡ self.old) × (space.new ≡ space.old)) }
     {
         space.sound();
@@ -177,20 +163,9 @@ impl<const N: usize> Undo<N> {
     pub fn grow(&self, space: &mut Space<N>, segment: u32) -> Result<u32, Shortage>
         requires there { segment < length space.old.owner }
         requires undo_log { IsUndoLog N space.old self.now }
-        ensures number { IfOk result (λ page. page ≡ page_count space.old segment) }
-        ensures bytes { OnOk result (owner_bytes space.new
-            ≡ with_new_page (owner_bytes space.old) segment (replicate N 0)) }
-        ensures children { OnOk result (SameForChildren space.old space.new) }
-        ensures private { IfOk result (λ page. IsPrivate space.new segment page) }
-        ensures kept { OnOk result (KeepsOwn space.old space.new) }
-        ensures table { IfOk result (λ page. space.new.owner
-            ≡ with_new_frame space.old.owner segment (frame_no space.new segment page)) }
-        ensures free { OnOk result (free_of space.new.frames + 1 ≡ free_of space.old.frames) }
-        ensures undone { undone (owner_bytes space.new) self.now ≡ undone (owner_bytes space.old) self.now }
-        ensures undo_log { IsUndoLog N space.new self.now }
-        ensures full { free_of space.old.frames ≡ 0 → IsErrOf result Shortage.NoFrame }
-        ensures full_only_then { result ≡ Err Shortage.NoFrame → free_of space.old.frames ≡ 0 }
-        ensures limit { space.new.frames.max ≡ space.old.frames.max }
+        ensures grows { IfOk result (GrowsPage N space.old space.new segment) }
+        ensures undoes { UndoesTheSame N space.old space.new self.now self.now }
+        ensures full { IsErrOf result Shortage.NoFrame ↔ (free_of space.old.frames ≡ 0) }
         ensures err { OnErr result (space.new ≡ space.old) }
     {
         let page = space.grow(segment)?;
@@ -222,11 +197,7 @@ impl<const N: usize> Undo<N> {
         requires { IsUndoLog N space.old self.now }
         ensures bytes { owner_bytes space.new ≡ first_pages self.now.counts (owner_bytes space.old) }
         ensures private { AllByRecursion (IsPrivateWhereThere N space.new) self.now.images }
-        ensures kept { KeepsOwn space.old space.new }
-        ensures fewer { HasNoMorePages space.old space.new }
-        ensures children { SameForChildren space.old space.new }
-        ensures free { free_of space.old.frames ≤ free_of space.new.frames }
-        ensures limit { space.new.frames.max ≡ space.old.frames.max }
+        ensures gives_up { GivesUpPages space.old space.new }
     {
         for segment in 0..space.segments() {
             self.cut_segment(space, segment);
@@ -243,11 +214,7 @@ impl<const N: usize> Undo<N> {
         ensures bytes { owner_bytes space.new
             ≡ with_first_pages (owner_bytes space.old) segment (slice_index self.now.counts segment) }
         ensures private { AllByRecursion (IsPrivateWhereThere N space.new) self.now.images }
-        ensures kept { KeepsOwn space.old space.new }
-        ensures fewer { HasNoMorePages space.old space.new }
-        ensures children { SameForChildren space.old space.new }
-        ensures free { free_of space.old.frames ≤ free_of space.new.frames }
-        ensures limit { space.new.frames.max ≡ space.old.frames.max }
+        ensures gives_up { GivesUpPages space.old space.new }
     {
         space.cut(segment, self.counts[segment as usize]);
     }
@@ -260,11 +227,7 @@ impl<const N: usize> Undo<N> {
         ensures restored { restored (owner_bytes space.new) self.new.images
             ≡ restored (owner_bytes space.old) self.old.images }
         ensures private { AllByRecursion (IsPrivateWhereThere N space.new) self.new.images }
-        ensures table { space.new.owner ≡ space.old.owner }
-        ensures kept { KeepsOwn space.old space.new }
-        ensures children { SameForChildren space.old space.new }
-        ensures free { free_of space.new.frames ≡ free_of space.old.frames }
-        ensures limit { space.new.frames.max ≡ space.old.frames.max }
+        ensures keeps { KeepsTable space.old space.new }
     {
         put_image_back(space, self.images.last());
         self.images.drop_last();
@@ -283,10 +246,7 @@ impl<const N: usize> Undo<N> {
         ensures bytes { owner_bytes space.new ≡ undone (owner_bytes space.old) self.old }
         ensures log { self.new ≡ empty_log space.new }
         ensures undo_log { IsUndoLog N space.new self.new }
-        ensures children { SameForChildren space.old space.new }
-        ensures kept { KeepsOwn space.old space.new }
-        ensures free { free_of space.old.frames ≤ free_of space.new.frames }
-        ensures limit { space.new.frames.max ≡ space.old.frames.max }
+        ensures gives_up { GivesUpPages space.old space.new }
     {
         self.cut_grown(space);
         while !self.is_empty() {
@@ -309,10 +269,11 @@ impl<const N: usize> Undo<N> {
         ensures undo_log { IsUndoLog N space.new self.now }
         ensures users { IfOk result (λ child. (f : ℕ) → count_of space.new.frames f
             ≡ count_of space.old.frames f + child_times f (child_table space.new child)) }
+        ensures lent { OnOk result ((f : ℕ) → 0 < count_of space.old.frames f
+            → lent_at space.new.frames f ≡ lent_at space.old.frames f) }
         ensures free { OnOk result
             (free_of space.new.frames + touched self.now ≡ free_of space.old.frames) }
-        ensures full { free_of space.old.frames < touched self.now → IsErrOf result Shortage.NoFrame }
-        ensures full_only_then { result ≡ Err Shortage.NoFrame → free_of space.old.frames < touched self.now }
+        ensures full { IsErrOf result Shortage.NoFrame ↔ (free_of space.old.frames < touched self.now) }
         ensures limit { space.new.frames.max ≡ space.old.frames.max }
         ensures err { OnErr result (IsAsBefore space.old space.new) }
     {
@@ -343,7 +304,7 @@ impl<const N: usize> Undo<N> {
         ensures shares { OnOk result ((segment : ℕ) → SharesGrown self.now.counts space.new child segment) }
         ensures split { OnOk result (AllSplit self.now space.new child) }
         ensures free { OnOk result (free_of space.new.frames + touched self.now ≡ free_of space.old.frames) }
-        ensures full_only_then { result ≡ Err Shortage.NoFrame → free_of space.old.frames < touched self.now }
+        ensures full_only_then { IsErrOf result Shortage.NoFrame → free_of space.old.frames < touched self.now }
     {
         for i in 0..self.images.len() {
             if self.images.is_last_touched(i, self.counts.as_slice()) {
@@ -380,13 +341,7 @@ impl<const N: usize> Undo<N> {
         requires is_open { child_table space.old child ≡ Some (rows_of space.old child) }
         requires images { AllByRecursion (IsWritableIn N self.now.counts space.old child) self.now.images }
         ensures bytes { child_pages space.new child ≡ restored (child_pages space.old child) self.now.images }
-        ensures children { space.new.children ≡ space.old.children }
-        ensures owner { SameForOwner space.old space.new }
-        ensures others { SameForOthers space.old space.new child }
-        ensures counts { (f : ℕ) → count_of space.new.frames f ≡ count_of space.old.frames f }
-        ensures lent { (f : ℕ) → lent_at space.new.frames f ≡ lent_at space.old.frames f }
-        ensures free { free_of space.new.frames ≡ free_of space.old.frames }
-        ensures limit { space.new.frames.max ≡ space.old.frames.max }
+        ensures only { ChangesBytesOf space.old space.new child }
     {
         let mut left = self.images.len();
         let mut end = self.images.byte_count();
@@ -413,11 +368,7 @@ fn put_image_back<const N: usize>(space: &mut Space<N>, image: LastImage<'_>)
       offset = image.entry.offset;
       bytes = image.entry.bytes.now;
     }) }
-    ensures table { space.new.owner ≡ space.old.owner }
-    ensures kept { KeepsOwn space.old space.new }
-    ensures children { SameForChildren space.old space.new }
-    ensures free { free_of space.new.frames ≡ free_of space.old.frames }
-    ensures limit { space.new.frames.max ≡ space.old.frames.max }
+    ensures keeps { KeepsTable space.old space.new }
 {
     if image.page < space.pages(image.segment) {
         space.write_in_place(image.segment, image.page, image.offset, image.bytes);

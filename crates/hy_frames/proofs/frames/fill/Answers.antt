@@ -1,4 +1,4 @@
-use Rattle.std.proofs.Common.{◌<◌, ◌≡◌, ap, ◌∙◌, sym, arith, length, get_or, rules}
+use Rattle.std.proofs.Common.{◌<◌, ap, ◌∙◌, arith, get_or, rules}
 use Rattle.std.proofs.lemmas.List.{get_or_default}
 use Rattle.hy_frames.specs.FrameTable.{Frame, empty_frame}
 use Rattle.hy_frames.proofs.FrameLaws.{used_in_range}

@@ -1,5 +1,5 @@
 use Rattle.std.proofs.Common.{◌≡◌, ℕ, ◌∷◌, ◌++◌, [], eq-eqb, cond, ap, refl, arith}
-use Rattle.hy_frames.specs.Slots.{occurrences}
+use Rattle.hy_frames.specs.FrameTable.{occurrences}
 use Rattle.hy_frames.proofs.FrameLaws.{occurrences-push}
 use Rattle.hy_frames.proofs.frames.put.Goals as goal
 

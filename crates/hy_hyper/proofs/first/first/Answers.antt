@@ -3,9 +3,8 @@ use Rattle.std.proofs.lemmas.Result.{IfOk-weaker}
 use Rattle.hy_schema.specs.declared.refusal.Refusal.{Refusal}
 use Rattle.hy_schema.specs.declared.command.Payment.{Payment}
 use Rattle.hy_schema.specs.Tables.{Tables}
-use Rattle.hy_partition.specs.Steps.{Begins}
 use Rattle.hy_hyper.specs.First.{IsFirstRefusal, IsPaid, IsPayRefusal}
-use Rattle.hy_hyper.proofs.FirstLaws.{first_refusal, generated_refusal, ytd_after}
+use Rattle.hy_hyper.proofs.FirstLaws.{HasBegun, first_refusal, generated_refusal, ytd_after}
 use Rattle.hy_hyper.proofs.first.first.Goals as goal
 
 -- what refuses the payment refuses `first`
@@ -14,7 +13,7 @@ returns-in_err-pay-clause-refused c =
     let partition = c.in_ok-partition.partition in
     let refusal = c.in_err-pay.field-0.0 in
     let begins =
-    subst (λ (load : Tables). Begins load 1 100_000 1_000_000 partition)
+    subst (λ (load : Tables). HasBegun load partition)
     c.in_ok-load.ensures c.in_ok-partition.ensures.begins in
     let why =
     subst (λ (payment : Payment). IsPayRefusal partition payment refusal)
@@ -34,7 +33,7 @@ pub returns-clause-ytd : goal.returns-clause-ytd
 returns-clause-ytd c =
     let partition = c.in_ok-partition.partition in
     let begins =
-    subst (λ (load : Tables). Begins load 1 100_000 1_000_000 partition)
+    subst (λ (load : Tables). HasBegun load partition)
     c.in_ok-load.ensures c.in_ok-partition.ensures.begins in
     let paid =
     subst (λ (payment : Payment). IsPaid payment partition c.pay.new.partition)

@@ -1,18 +1,46 @@
-use Rattle.std.proofs.Common.{◌≡◌, ℕ, List, [], ◌∷◌, replicate, sym, ap, ◌∙◌, subst}
-use Rattle.hy_schema.specs.Spelling.{HasTables, tables_of}
+use Rattle.std.proofs.Common.{◌≡◌, ℕ, ◌+◌, ◌-◌, List, [], ◌∷◌, length, map, replicate, refl, sym, ap, ◌∙◌, subst, arith}
+use Rattle.std.proofs.lemmas.List.{length-map}
+use Rattle.hy_frames.specs.FrameTable.{page_of}
+use Rattle.hy_schema.specs.Spelling.{HasTables, segments, tables_of}
 use Rattle.hy_space.specs.Space.{owner_bytes, table_bytes, with_new_page}
-use Rattle.hy_partition.proofs.EmptyLaws.{tables-zero, tables_of-zero}
+use Rattle.hy_partition.proofs.EmptyLaws.{filled-all, filled-more, length-filled, tables-zero, tables_of-zero, zero_segments}
 use Rattle.hy_partition.proofs.fill.empty_tables.Goals as goal
+use Rattle.hy_partition.proofs.fill.empty_tables.Goals.{After-loop-segment}
 use Rattle.hy_partition.proofs.fill.empty_tables.Given as given
 
--- each segment has a page of zeros
-after : (g : given.Over) (c : goal.In_ok-grow-3 g) → owner_bytes c.grow-3.new.self ≡ (replicate g.row.N 0 ∷ []) ∷ (replicate g.row.N 0 ∷ []) ∷ (replicate g.row.N 0 ∷ []) ∷ []
+pub loop-segment-init : goal.loop-segment-init
+loop-segment-init g c = record {
+  within = omega arith;
+  bytes = ap (table_bytes c.in_ok-space.space.frames) c.in_ok-space.ensures.owner;
+  children = c.in_ok-space.ensures.children;
+  max = c.in_ok-space.ensures.max;
+}
+
+pub grow-requires : goal.grow-requires
+grow-requires g c =
+    let space = c.loop-segment.space in
+    let count : length (owner_bytes space) ≡ segments = ap length c.loop-segment.invariant.bytes ∙ length-filled g.row.N c.loop-segment.segment (segments - c.loop-segment.segment)
+    ∙ (let all : c.loop-segment.segment + (segments - c.loop-segment.segment) ≡ segments = omega (arith, c.loop-segment.invariant.within) in all) in
+    (omega arith, omega (arith, count, length-map space.owner (map (page_of space.frames)), c.loop-segment-test.true))
+
+-- one segment more has its page
+pub loop-segment-preserved : goal.loop-segment-preserved
+loop-segment-preserved g c =
+    let k = c.loop-segment.segment in
+    record {
+      within = omega (arith, c.loop-segment-test.true);
+      bytes = c.in_ok-grow.ensures.grows.bytes ∙ ap (λ bytes. with_new_page bytes k (replicate g.row.N 0)) c.loop-segment.invariant.bytes
+          ∙ filled-more g.row.N k (segments - k) (segments - (k + 1)) (k + 1) (omega (arith, c.loop-segment-test.true)) refl;
+      children = c.in_ok-grow.ensures.grows.children.tables ∙ c.loop-segment.invariant.children;
+      max = c.in_ok-grow.ensures.grows.limit ∙ c.loop-segment.invariant.max;
+    }
+
+-- each segment has its page of zeros
+after : (g : given.Over) (c : After-loop-segment g) → owner_bytes c.loop-segment.space ≡ zero_segments g.row.N c.requires.size.smallest
 after g c =
-    let zeros : List ℕ = replicate g.row.N 0 in
-    c.in_ok-grow-3.ensures.bytes
-    ∙ ap (λ (bytes : List (List (List ℕ))). with_new_page bytes 2 zeros) (c.in_ok-grow-2.ensures.bytes
-    ∙ ap (λ (bytes : List (List (List ℕ))). with_new_page bytes 1 zeros) (c.in_ok-grow.ensures.bytes
-    ∙ ap (λ (bytes : List (List (List ℕ))). with_new_page bytes 0 zeros) (ap (table_bytes c.in-Ok.space.frames) c.in-Ok.ensures.owner)))
+    let done : c.loop-segment.segment ≡ segments = omega (arith, c.loop-segment.invariant.within, c.loop-segment-test.false) in
+    c.loop-segment.invariant.bytes ∙ filled-all g.row.N c.loop-segment.segment (segments - c.loop-segment.segment) (omega (arith, done))
+    ∙ ap (λ k. replicate k (replicate g.row.N 0 ∷ [])) done
 
 pub returns-clause-tables : goal.returns-clause-tables
 returns-clause-tables g c = subst (λ (bytes : List (List (List ℕ))). HasTables g.row.N bytes) (sym (after g c)) (tables-zero g.row.N c.requires.size.smallest)

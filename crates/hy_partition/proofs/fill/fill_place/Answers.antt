@@ -3,11 +3,8 @@ use Rattle.std.proofs.lemmas.Result.{on_ok_weaker}
 use Rattle.hy_page.specs.Bytes.{bytes_of, overwritten}
 use Rattle.hy_page.proofs.ByteLaws.{to_le_bytes-bytes_of}
 use Rattle.hy_schema.specs.Spelling.{HasTables, list_at, rows_of, slot_page, slot_offset}
-use Rattle.hy_space.specs.Space.{owner_bytes, page_at, with_page, HasPage, HasPagesOf}
-use Rattle.hy_undo.proofs.PrivatePageLaws.{HasPage-kept, KeepsPages-written}
-use Rattle.hy_partition.proofs.PlaceLaws.{has_page, rows-row_pushed, tables-row_pushed, others-row_pushed}
-use Rattle.hy_partition.proofs.FrameLaws.{free-written}
-use Rattle.hy_partition.proofs.SnapshotLaws.{segment_there}
+use Rattle.hy_space.specs.Space.{owner_bytes, page_at, with_page, HasPagesOf}
+use Rattle.hy_partition.proofs.PlaceLaws.{rows-row_pushed, tables-row_pushed, others-row_pushed}
 use Rattle.hy_partition.proofs.fill.fill_place.Goals as goal
 use Rattle.hy_partition.proofs.fill.fill_place.Given as given
 
@@ -65,17 +62,3 @@ pub returns-clause-others : goal.returns-clause-others
 returns-clause-others g c = on_ok_weaker c.write-2.result (λ raw other differs.
     ap (λ (bytes : List (List (List ℕ))). list_at bytes other) (pushed g c raw)
     ∙ others-row_pushed g.row.N g.R.Row.SEGMENT g.R.Row.BYTES (owner_bytes c.args.space.now) c.used_of-used.result (g.R.Row.bytes_of_row c.args.row.now) c.sound.ensures.size.smallest g.met.R.Row.is_table c.requires.tables (sizes g c) (sym c.used_of-used.ensures.value) (there g c) c.encode.ensures.width (few g c) other differs) c.write-2.ensures.bytes
-
-pub returns-clause-frames : goal.returns-clause-frames
-returns-clause-frames g c alone =
-    let old = c.args.space.now in
-    let within : g.R.Row.SEGMENT < length (owner_bytes old) = omega (arith, segment_there g.R.Row.SEGMENT g.R.Row.BYTES g.met.R.Row.is_table, c.requires.tables.all_segments) in
-    let page : c.place_of-place.result.page ≡ slot_page g.row.N g.R.Row.BYTES c.used_of-used.result = c.place_of-place.ensures.page ∙ ap (λ (w : ℕ). slot_page g.row.N w c.used_of-used.result) c.BYTES.ensures in
-    let slot_there : HasPage old c.SEGMENT-2.result c.place_of-place.result.page =
-    subst (λ (s : ℕ). HasPage old s c.place_of-place.result.page) (sym c.SEGMENT-2.ensures)
-    (subst (λ (p : ℕ). HasPage old g.R.Row.SEGMENT p) (sym page) (has_page old g.R.Row.SEGMENT _ within (there g c))) in
-    let first_there : HasPage old c.SEGMENT-3.result 0 =
-    subst (λ (s : ℕ). HasPage old s 0) (sym c.SEGMENT-3.ensures) (has_page old g.R.Row.SEGMENT 0 within (omega (arith, there g c))) in
-    let pages = KeepsPages-written old c.write.new.self _ _ _ c.in_ok-write.ensures.bytes c.in_ok-write.ensures.own.kept in
-    let first_still = HasPage-kept old c.write.new.self c.SEGMENT-3.result 0 pages first_there in
-    free-written g.row.N old c.write.new.self c.write-2.new.self _ _ _ _ c.write-2.result c.sound.ensures alone slot_there first_there first_still c.in_ok-write.ensures.own c.write-2.ensures.own c.write-2.ensures.err

@@ -1,7 +1,7 @@
 use Rattle.std.proofs.Common.{◌≡◌, ◌≢◌, ℕ, ◌<◌, ◌≤◌, List, replicate, sym, ap, ◌∙◌, subst, arith, length}
 use Rattle.hy_schema.specs.Spelling.{HasTables, list_at, rows_of, slot_page, used_slots}
 use Rattle.hy_space.specs.Space.{owner_bytes, page_count, with_new_page}
-use Rattle.hy_partition.proofs.SnapshotLaws.{segment_there}
+use Rattle.hy_schema.specs.inside.Places.{segment_there}
 use Rattle.hy_partition.proofs.PlaceLaws.{length-segment, next_slot_page, rows-page_added, tables-page_added}
 use Rattle.hy_partition.proofs.fill.make_place.Goals as goal
 use Rattle.hy_partition.proofs.fill.make_place.Given as given
@@ -11,7 +11,7 @@ strictly a b within differs = omega arith
 
 -- the bytes after a page was added
 after : (g : given.Over) (c : goal.In_ok-grow g) → owner_bytes c.grow.new.self ≡ with_new_page (owner_bytes c.args.space.now) g.R.Row.SEGMENT (replicate g.row.N 0)
-after g c = c.in_ok-grow.ensures.bytes ∙ ap (λ (s : ℕ). with_new_page (owner_bytes c.args.space.now) s (replicate g.row.N 0)) c.SEGMENT-then-place-from.ensures
+after g c = c.in_ok-grow.ensures.grows.bytes ∙ ap (λ (s : ℕ). with_new_page (owner_bytes c.args.space.now) s (replicate g.row.N 0)) c.SEGMENT-then-place-from.ensures
 
 pub returns-in_ok-grow-clause-tables : goal.returns-in_ok-grow-clause-tables
 returns-in_ok-grow-clause-tables g c = subst (λ (bytes : List (List (List ℕ))). HasTables g.row.N bytes) (sym (after g c))

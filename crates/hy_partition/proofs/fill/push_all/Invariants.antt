@@ -1,8 +1,7 @@
-use Rattle.std.proofs.Common.{◌≡◌, ◌≤◌, ◌+◌, [], take, ◌++◌}
-use Rattle.hy_frames.specs.FrameTable.{free_of}
+use Rattle.std.proofs.Common.{◌≡◌, take, ◌++◌}
 use Rattle.hy_schema.specs.Spelling.{HasTables, list_at, rows_of}
 use Rattle.hy_space.specs.Space.{owner_bytes}
-use Rattle.hy_partition.specs.Rows.{KeepsOtherSegments, StaysOpen}
+use Rattle.hy_partition.specs.inside.Rows.{KeepsOtherSegments, StaysOpen}
 use Rattle.hy_partition.proofs.fill.push_all.Given as goal
 
 -- the rows so far stand behind those of the table
@@ -13,5 +12,4 @@ invariant-loop-row g l = record {
       ≡ rows_of g.row.N g.R.Row.BYTES g.R.Row.row_of_bytes (list_at (owner_bytes l.fn.space) g.R.Row.SEGMENT) ++ take l.row-index l.rows;
   others : KeepsOtherSegments (owner_bytes l.fn.space) (owner_bytes l.space) g.R.Row.SEGMENT;
   stays : StaysOpen l.fn.space l.space;
-  frames : l.fn.space.children ≡ [] → free_of l.fn.space.frames ≤ free_of l.space.frames + l.row-index;
 }

@@ -1,5 +1,5 @@
 use Rattle.std.proofs.Common.{arith, take}
-use Rattle.hy_frames.specs.Slots.{occurrences}
+use Rattle.hy_frames.specs.FrameTable.{occurrences}
 use Rattle.hy_space.proofs.UserLaws.{same, DropsUsers-one, DropsUsers-then, occurrences_more, occurrences_next}
 use Rattle.hy_space.proofs.users.drop_each.Goals as goal
 

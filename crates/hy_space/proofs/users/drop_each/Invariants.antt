@@ -1,5 +1,5 @@
 use Rattle.std.proofs.Common.{take}
-use Rattle.hy_frames.specs.Slots.{occurrences}
+use Rattle.hy_frames.specs.FrameTable.{occurrences}
 use Rattle.hy_space.specs.Space.{DropsUsers}
 use Rattle.hy_space.proofs.users.drop_each.Given as goal
 

@@ -1,5 +1,5 @@
 use Rattle.std.proofs.Common.{arith, ap, take}
-use Rattle.hy_frames.specs.Slots.{occurrences}
+use Rattle.hy_frames.specs.FrameTable.{occurrences}
 use Rattle.hy_space.specs.Space.{times}
 use Rattle.hy_space.proofs.UserLaws.{times_next}
 use Rattle.hy_space.proofs.users.drop_table.Goals as goal

@@ -1,5 +1,5 @@
 use Rattle.std.proofs.Common.{take}
-use Rattle.hy_frames.specs.Slots.{occurrences}
+use Rattle.hy_frames.specs.FrameTable.{occurrences}
 use Rattle.hy_space.specs.Space.{AddsUsers}
 use Rattle.hy_space.proofs.users.share_each.Given as goal
 

@@ -1,10 +1,10 @@
 use Rattle.std.proofs.Common.{◌≡◌, ◌<◌, ◌≤◌, ℕ, [], drop, get_or, length, ap, ◌∙◌, subst, arith}
 use Rattle.std.proofs.lemmas.List.{get_or_read}
 use Rattle.std.specs.Option.{option_map}
-use Rattle.hy_frames.specs.Slots.{occurrences}
+use Rattle.hy_frames.specs.FrameTable.{occurrences}
 use Rattle.hy_space.specs.Space.{DropsUsers, page_count, child_table, child_bytes, with_first_frames, with_first_pages}
 use Rattle.hy_undo.specs.UndoLog.{UndoLog}
-use Rattle.hy_undo.specs.Fork.{rows_of}
+use Rattle.hy_undo.specs.inside.Fork.{rows_of}
 use Rattle.hy_undo.proofs.CutLaws.{cut_next}
 use Rattle.hy_undo.proofs.Undo.cut_child.Goals as goal
 

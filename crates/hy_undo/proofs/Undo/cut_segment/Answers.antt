@@ -2,8 +2,14 @@ use Rattle.hy_undo.proofs.RollBackLaws.{private_where_there-still, HasNoMorePage
 use Rattle.hy_undo.proofs.PrivatePageLaws.{HasPage-fewer}
 use Rattle.hy_undo.proofs.Undo.cut_segment.Goals as goal
 
-pub returns-clause-fewer : goal.returns-clause-fewer
-returns-clause-fewer g c = HasNoMorePages-cut c.args.space.now c.cut.new.self c.args.segment c.index.result.now c.requires.there c.cut.ensures.table
+pub returns-clause-gives_up : goal.returns-clause-gives_up
+returns-clause-gives_up g c = record {
+  fewer = HasNoMorePages-cut c.args.space.now c.cut.new.self c.args.segment c.index.result.now c.requires.there c.cut.ensures.table;
+  kept = c.cut.ensures.kept;
+  children = c.cut.ensures.children;
+  free = c.cut.ensures.users.free;
+  limit = c.cut.ensures.users.limit;
+}
 
 -- a page that is left was there, and is private if it was
 pub returns-clause-private : goal.returns-clause-private

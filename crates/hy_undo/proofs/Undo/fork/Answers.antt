@@ -1,8 +1,8 @@
 use Rattle.std.proofs.Common.{lit<, ◌≡◌, ◌+◌, Some, None, get_or, ap, ◌∙◌, sym}
 use Rattle.hy_frames.specs.FrameTable.{count_of}
 use Rattle.hy_space.specs.Space.{child_table, child_times}
-use Rattle.hy_undo.specs.Fork.{rows_of}
-use Rattle.hy_undo.proofs.ForkLaws.{users_now, forked_beside, forked_rows, forked_images, still_undo_log, writable, as_before, undo_log_as_before}
+use Rattle.hy_undo.specs.inside.Fork.{rows_of}
+use Rattle.hy_undo.proofs.ForkLaws.{users_now, lent_now, forked_beside, forked_rows, forked_images, still_undo_log, writable, as_before, undo_log_as_before}
 use Rattle.hy_undo.proofs.SplitLaws.{ChangesChild-then}
 use Rattle.hy_undo.proofs.Undo.fork.Goals as goal
 
@@ -48,7 +48,7 @@ returns-clause-undo_log g c =
     let back = c.put_back_in_child.ensures in
     let changes = ChangesChild-then forked c.split_touched.new.space now child c.split_touched.ensures.changes cut.changes in
     still_undo_log g.row.N c.args.space.now c.sound.ensures forked child fork.table fork.owner fork.users now changes
-    c.args.self.now c.put_back_in_child.new.space c.requires cut.split cut.apart back.owner.table back.counts back.lent
+    c.args.self.now c.put_back_in_child.new.space c.requires cut.split cut.apart back.only.owner.table back.only.counts back.only.lent
 
 pub returns-clause-users : goal.returns-clause-users
 returns-clause-users g c f =
@@ -59,6 +59,15 @@ returns-clause-users g c f =
     let cut = c.cut_child.ensures in
     let back = c.put_back_in_child.ensures in
     let changes = ChangesChild-then forked c.split_touched.new.space now child c.split_touched.ensures.changes cut.changes in
-    let table : child_table c.put_back_in_child.new.space child ≡ Some (rows_of now child) = ap (λ all. get_or all child None) back.children ∙ cut.beside.is_open in
-    back.counts f ∙ users_now g.row.N c.args.space.now c.sound.ensures forked child fork.table fork.owner fork.users now changes f
+    let table : child_table c.put_back_in_child.new.space child ≡ Some (rows_of now child) = ap (λ all. get_or all child None) back.only.tables ∙ cut.beside.is_open in
+    back.only.counts f ∙ users_now g.row.N c.args.space.now c.sound.ensures forked child fork.table fork.owner fork.users now changes f
     ∙ ap (λ t. count_of c.args.space.now.frames f + child_times f t) (sym table)
+
+pub returns-clause-lent : goal.returns-clause-lent
+returns-clause-lent g c f used =
+    let fork = c.in-Ok.ensures in
+    let child = c.in-Ok.child in
+    let forked = c.fork.new.self in
+    let now = c.cut_child.new.space in
+    let changes = ChangesChild-then forked c.split_touched.new.space now child c.split_touched.ensures.changes c.cut_child.ensures.changes in
+    c.put_back_in_child.ensures.only.lent f ∙ lent_now g.row.N c.args.space.now c.sound.ensures forked child fork.table fork.owner fork.users now changes f used

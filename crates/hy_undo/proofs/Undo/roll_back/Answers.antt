@@ -1,9 +1,9 @@
-use Rattle.std.proofs.Common.{arith, rules, ◌≡◌, ◌∙◌, sym, ap, ap₂, subst, List, ℕ, [], length}
+use Rattle.std.proofs.Common.{rules, ◌≡◌, ◌∙◌, sym, ap, ap₂, subst, List, ℕ, [], length}
 use Rattle.std.proofs.lemmas.List.{nil_from_length}
 use Rattle.hy_space.specs.Space.{owner_bytes}
 use Rattle.hy_undo.specs.UndoLog.{Image, UndoLog, restored}
 use Rattle.hy_undo.specs.PrivatePages.{IsUndoLog}
-use Rattle.hy_undo.proofs.PrivatePageLaws.{IsUndoLog-empty, KeepsOwn-then, HasNoMorePages-same}
+use Rattle.hy_undo.proofs.PrivatePageLaws.{IsUndoLog-empty, GivesUpPages-then, GivesUpPages-none}
 use Rattle.hy_undo.proofs.RollBackLaws.{page_counts-rolled_back}
 use Rattle.hy_undo.proofs.Undo.roll_back.Goals as goal
 
@@ -27,12 +27,6 @@ loop-self-preserved g c =
     record {
       bytes = put.restored ∙ before.bytes;
       counts = ap (λ (log : UndoLog). log.counts) put.log ∙ before.counts;
-      kept = KeepsOwn-then c.args.space.now c.loop-self.space c.put_back_last.new.space before.kept put.kept (HasNoMorePages-same c.loop-self.space c.put_back_last.new.space put.table);
+      gives_up = GivesUpPages-then c.args.space.now c.loop-self.space c.put_back_last.new.space before.gives_up (GivesUpPages-none c.loop-self.space c.put_back_last.new.space put.keeps);
       private = put.private;
-      children = record {
-        tables = put.children.tables ∙ before.children.tables;
-        bytes = λ child. put.children.bytes child ∙ before.children.bytes child;
-      };
-      free = omega arith;
-      limit = put.limit ∙ before.limit;
     }

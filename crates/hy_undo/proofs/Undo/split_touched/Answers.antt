@@ -4,7 +4,7 @@ use Rattle.hy_space.specs.Space.{SpaceState, HasChildPage, MovesChildPage, child
 use Rattle.std.specs.List.{list_any}
 use Rattle.hy_undo.specs.UndoLog.{UndoLog}
 use Rattle.hy_undo.specs.Touched.{PagePlace, was_there, is_same_place}
-use Rattle.hy_undo.specs.Fork.{places, place_at}
+use Rattle.hy_undo.specs.inside.Fork.{places, place_at}
 use Rattle.hy_undo.proofs.SplitLaws.{IsSplitUpTo, is_last, split_skip, split_more, split_end, shared_here, has_child_page, has_two_users, page_there, HasPage-same}
 use Rattle.hy_undo.proofs.Undo.split_touched.Goals as goal
 use Rattle.hy_undo.proofs.Undo.split_touched.Goals.{then-is_last_touched+in_ok-child_own, else-is_last_touched}

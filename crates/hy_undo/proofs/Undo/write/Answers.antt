@@ -6,20 +6,18 @@ use Rattle.hy_undo.proofs.UndoneLaws.{undone-written}
 use Rattle.hy_undo.proofs.PrivatePageLaws.{length-page_bytes, KeepsPages-written, IsUndoLog-kept}
 use Rattle.hy_undo.proofs.Undo.write.Goals as goal
 
-pub returns-clause-undone : goal.returns-clause-undone
-returns-clause-undone g c =
+pub returns-clause-undoes : goal.returns-clause-undoes
+returns-clause-undoes g c =
     let old = c.args.space.now in
-    let bytes = c.args.bytes.now in
-    let within : c.args.offset + length bytes ≤ length (page_bytes old c.args.segment c.args.page) = omega (arith, c.requires.within, length-page_bytes g.row.N old c.args.segment c.args.page c.sound.ensures c.requires.there) in
-    let new_of = λ (all : List (List (List ℕ))). with_page all c.args.segment c.args.page (overwritten (page_at all c.args.segment c.args.page) c.args.offset bytes) in
-    ap₂ undone (c.write_in_place.ensures.bytes ∙ ap new_of c.in_ok-keep_touched.ensures.bytes) c.in_ok-keep_touched.ensures.image
-    ∙ undone-written (owner_bytes old) c.args.self.now c.args.segment c.args.page c.args.offset bytes within
-
-pub returns-clause-undo_log : goal.returns-clause-undo_log
-returns-clause-undo_log g c =
     let mid = c.keep_touched.new.space in
     let new = c.write_in_place.new.self in
-    let bytes = overwritten (page_bytes mid c.args.segment c.args.page) c.args.offset c.args.bytes.now in
-    IsUndoLog-kept g.row.N mid new c.keep_touched.new.self
-    (KeepsPages-written mid new c.args.segment c.args.page bytes c.write_in_place.ensures.bytes c.write_in_place.ensures.kept)
-    c.keep_touched.ensures.undo_log
+    let bytes = c.args.bytes.now in
+    let writes = c.write_in_place.ensures.writes in
+    let within : c.args.offset + length bytes ≤ length (page_bytes old c.args.segment c.args.page) = omega (arith, c.requires.within, length-page_bytes g.row.N old c.args.segment c.args.page c.sound.ensures c.requires.there) in
+    let new_of = λ (all : List (List (List ℕ))). with_page all c.args.segment c.args.page (overwritten (page_at all c.args.segment c.args.page) c.args.offset bytes) in
+    record {
+      undone =
+          ap₂ undone (writes.bytes ∙ ap new_of c.in_ok-keep_touched.ensures.bytes) c.in_ok-keep_touched.ensures.logs.log
+          ∙ undone-written (owner_bytes old) c.args.self.now c.args.segment c.args.page c.args.offset bytes within;
+      undo_log = IsUndoLog-kept g.row.N mid new c.keep_touched.new.self (KeepsPages-written mid new c.args.segment c.args.page _ writes.bytes c.write_in_place.ensures.kept) c.keep_touched.ensures.undoes.undo_log;
+    }

@@ -1,7 +1,7 @@
 use Rattle.std.proofs.Common.{◌≡◌, ◌+◌, ◌-◌, ℕ, [], take, drop, ap₂, ◌∙◌, arith, get_or}
 use Rattle.hy_undo.specs.UndoLog.{Image}
 use Rattle.hy_undo.specs.declared.images.Piece.{Piece}
-use Rattle.hy_undo.specs.Pieces.{byte_count}
+use Rattle.hy_undo.specs.inside.Pieces.{byte_count}
 use Rattle.hy_undo.proofs.PieceLaws.{image_of, image_at-images_of, byte_count-more, byte_count-take-le}
 use Rattle.hy_undo.proofs.images.image_in.Goals as goal
 

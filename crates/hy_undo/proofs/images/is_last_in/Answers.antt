@@ -3,7 +3,7 @@ use Rattle.std.proofs.lemmas.List.{take_rest}
 use Rattle.std.specs.List.{list_any}
 use Rattle.hy_undo.specs.declared.images.Piece.{Piece}
 use Rattle.hy_undo.specs.Touched.{was_there, is_same_place}
-use Rattle.hy_undo.specs.Pieces.{place_of_piece}
+use Rattle.hy_undo.specs.inside.Pieces.{place_of_piece}
 use Rattle.hy_undo.proofs.PieceLaws.{last_in}
 use Rattle.hy_undo.proofs.images.is_last_in.Goals as goal
 

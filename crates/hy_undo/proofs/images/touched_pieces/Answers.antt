@@ -3,7 +3,7 @@ use Rattle.std.specs.List.{list_any}
 use Rattle.std.proofs.lemmas.List.{take_rest}
 use Rattle.hy_undo.specs.declared.images.Piece.{Piece}
 use Rattle.hy_undo.specs.Touched.{is_same_place}
-use Rattle.hy_undo.specs.Pieces.{place_of_piece}
+use Rattle.hy_undo.specs.inside.Pieces.{place_of_piece}
 use Rattle.hy_undo.proofs.PieceLaws.{touched_by-drop_more}
 use Rattle.hy_undo.proofs.images.touched_pieces.Goals as goal
 use Rattle.hy_undo.proofs.images.touched_pieces.Goals.{then-was_there+then-not-is_page_among, else-was_there, else-was_there-via-then-was_there+else-not-is_page_among, else-was_there-via-else-was_there}

@@ -1,5 +1,5 @@
 use Rattle.std.proofs.Common.{◌≡◌, ◌+◌, ◌≤◌, drop}
-use Rattle.hy_undo.specs.Pieces.{touched_by}
+use Rattle.hy_undo.specs.inside.Pieces.{touched_by}
 use Rattle.hy_undo.proofs.images.touched_pieces.Given as goal
 
 -- what is counted so far, and what the pieces from here on add

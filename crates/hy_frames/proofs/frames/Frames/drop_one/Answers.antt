@@ -1,4 +1,4 @@
-use Rattle.std.proofs.Common.{refl, ap, ◌++◌, ◌∷◌, [], ◌∙◌, sym, vec_capacity, length}
+use Rattle.std.proofs.Common.{refl, ap, ◌++◌, ◌∷◌, [], ◌∙◌, sym}
 use Rattle.hy_frames.proofs.FrameLaws.{user_dropped, last_dropped}
 use Rattle.hy_frames.proofs.frames.Frames.drop_one.Goals as goal
 

@@ -1,4 +1,4 @@
-use Rattle.std.proofs.Common.{refl, ◌∙◌, sym, vec_capacity, length}
+use Rattle.std.proofs.Common.{refl, ◌∙◌, sym}
 use Rattle.hy_frames.proofs.FrameLaws.{user_added}
 use Rattle.hy_frames.proofs.frames.Frames.share.Goals as goal
 

@@ -1,7 +1,7 @@
-use Rattle.std.proofs.Common.{◌≡◌, ◌<◌, ◌-◌, length, ap, sym, ◌∙◌, subst, refl, arith, rules, ℕ, vec_capacity, false, inl, inr, ◌≤◌, [], ◌∷◌, ◌++◌, length-set}
+use Rattle.std.proofs.Common.{◌≡◌, ◌<◌, length, ap, sym, ◌∙◌, subst, arith, rules, ℕ, vec_capacity, false, inl, inr, ◌≤◌, length-set}
 use Rattle.std.proofs.lemmas.List.{length_push}
-use Rattle.hy_frames.specs.FrameTable.{FrameTable, Frame, Sets, bytes_or_zeros, free_of, shared_of, count_of}
-use Rattle.hy_frames.specs.Slots.{IsPut, occurrences}
+use Rattle.hy_frames.specs.FrameTable.{FrameTable, Frame, Sets, free_of, shared_of, count_of, occurrences}
+use Rattle.hy_frames.specs.inside.Slots.{IsPut, bytes_or_zeros}
 use Rattle.hy_frames.proofs.FrameLaws.{IsTaken, taken, known_numbers}
 use Rattle.hy_frames.proofs.frames.Frames.take.Goals as goal
 use Rattle.hy_frames.proofs.frames.Frames.take.Given as given
@@ -39,18 +39,14 @@ after g c =
 pub invariant_of-self-2 : goal.invariant_of-self-2
 invariant_of-self-2 g c = (after g c).sound
 
-pub returns-clause-unused : goal.returns-clause-unused
-returns-clause-unused g c = ap (λ table. count_of table c.put.result) (sym c.self.view_is) ∙ (after g c).unused_before
-
-pub returns-clause-set : goal.returns-clause-set
-returns-clause-set g c =
-    subst (λ frame. Sets c.args.self.now (record { max = c.self.inside.max; frames = c.put.new.slots.items }) c.put.result frame) (slot g c) (subst (λ old. Sets old (record { max = c.self.inside.max; frames = c.put.new.slots.items }) c.put.result c.of.result) c.self.view_is (after g c).sets)
-
-pub returns-clause-free : goal.returns-clause-free
-returns-clause-free g c =
+pub returns-clause-takes : goal.returns-clause-takes
+returns-clause-takes g c =
     let t = after g c in
+    let new : FrameTable = record { max = c.self.inside.max; frames = c.put.new.slots.items } in
     let free : c.free.result ≡ free_of (record { max = c.self.inside.max; frames = c.self.inside.slots.items }) = c.free.ensures ∙ ap free_of (sym c.self.view_is) in
-    omega (arith, c.free.ensures, t.used, c.if-free-eq0.false, free)
-
-pub returns-clause-shared : goal.returns-clause-shared
-returns-clause-shared g c = (after g c).sharing ∙ ap shared_of c.self.view_is
+    record {
+      unused = ap (λ table. count_of table c.put.result) (sym c.self.view_is) ∙ t.unused_before;
+      set = subst (λ frame. Sets c.args.self.now new c.put.result frame) (slot g c) (subst (λ old. Sets old new c.put.result c.of.result) c.self.view_is t.sets);
+      free = omega (arith, c.free.ensures, t.used, c.if-free-eq0.false, free);
+      shared = t.sharing ∙ ap shared_of c.self.view_is;
+    }

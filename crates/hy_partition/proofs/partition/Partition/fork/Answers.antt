@@ -2,7 +2,7 @@ use Rattle.std.proofs.Common.{rules, ◌≡◌, Some, None, ap, ◌∙◌, sym, 
 use Rattle.std.specs.Prelude.{slice_index_or}
 use Rattle.hy_partition.specs.Partition.{PartitionState}
 use Rattle.hy_partition.specs.Steps.{Forks, StaysUnforked}
-use Rattle.hy_partition.specs.Views.{partition_of}
+use Rattle.hy_partition.specs.inside.Views.{partition_of}
 use Rattle.hy_partition.proofs.SoundLaws.{least_within}
 use Rattle.hy_partition.proofs.ForkLaws.{whole, sound-opened, forks, sound-unforked, stays_unforked}
 use Rattle.hy_partition.proofs.partition.Partition.fork.Goals as goal
@@ -10,7 +10,7 @@ use Rattle.hy_partition.proofs.partition.Partition.fork.Goals as goal
 pub invariant_of-self-in_default-holds : goal.invariant_of-self-in_default-holds
 invariant_of-self-in_default-holds g c =
     let child = c.in-Ok.ensures in
-    sound-unforked g.row.N _ (partition_of c.self.inside) c.self.invariant c.fork.new.space c.holds.new.self c.in-Ok.child child.least child.bytes child.others child.owner child.undo_log
+    sound-unforked g.row.N _ _ (partition_of c.self.inside) c.self.invariant c.fork.new.space c.holds.new.self c.in-Ok.child child.least child.bytes child.others child.owner child.undo_log
     c.holds.ensures.unchanged c.holds.ensures.kept c.close.new.self c.close.ensures.closed c.close.ensures.others c.close.ensures.owner c.close.ensures.kept
     c.reserve.new.self.items c.reserve.ensures.items
 
@@ -19,20 +19,20 @@ returns-in_default-holds-clause-err g c =
     let child = c.in-Ok.ensures in
     let p : PartitionState = partition_of c.self.inside in
     let stays : StaysUnforked p (record p { space = c.close.new.self; snapshots = c.reserve.new.self.items }) =
-    stays_unforked g.row.N _ p c.self.invariant c.fork.new.space c.holds.new.self c.in-Ok.child child.least child.bytes child.others child.owner child.undo_log
+    stays_unforked g.row.N _ _ p c.self.invariant c.fork.new.space c.holds.new.self c.in-Ok.child child.least child.bytes child.others child.owner child.undo_log
     c.holds.ensures.unchanged c.holds.ensures.kept c.close.new.self c.close.ensures.closed c.close.ensures.others c.close.ensures.owner c.close.ensures.kept
     c.reserve.new.self.items c.reserve.ensures.items child.users child.limit c.close.ensures.users in
     subst (λ (old : PartitionState). StaysUnforked old (record p { space = c.close.new.self; snapshots = c.reserve.new.self.items })) c.self.view_is stays
 
 pub open_snapshot-requires-clause-within : goal.open_snapshot-requires-clause-within
 open_snapshot-requires-clause-within g c =
-    let within = least_within g.row.N _ (partition_of c.self.inside) c.self.invariant c.in-Ok.child c.in-Ok.ensures.least in
+    let within = least_within g.row.N _ _ (partition_of c.self.inside) c.self.invariant c.in-Ok.child c.in-Ok.ensures.least in
     omega (arith, within, ap length c.reserve.ensures.items)
 
 pub new-requires : goal.new-requires
 new-requires g c =
     let child = c.in-Ok.ensures in
-    let tables = whole g.row.N _ (partition_of c.self.inside) c.self.invariant c.fork.new.space c.holds.new.self c.in-Ok.child child.least child.bytes child.others child.owner child.undo_log
+    let tables = whole g.row.N _ _ (partition_of c.self.inside) c.self.invariant c.fork.new.space c.holds.new.self c.in-Ok.child child.least child.bytes child.others child.owner child.undo_log
     c.holds.ensures.unchanged c.holds.ensures.kept _ c.in-Ok-holds.ensures.holds in
     (omega arith, (omega arith, record { size = c.sound.ensures.size; tables = tables }))
 
@@ -40,7 +40,7 @@ pub invariant_of-self-2 : goal.invariant_of-self-2
 invariant_of-self-2 g c =
     let child = c.in-Ok.ensures in
     let commits : c.len-commits.result ≡ length c.self.inside.kept.items = search rules in
-    sound-opened g.row.N _ (partition_of c.self.inside) c.self.invariant c.fork.new.space c.holds.new.self c.in-Ok.child child.least child.bytes child.others child.owner child.undo_log
+    sound-opened g.row.N _ _ (partition_of c.self.inside) c.self.invariant c.fork.new.space c.holds.new.self c.in-Ok.child child.least child.bytes child.others child.owner child.undo_log
     c.holds.ensures.unchanged c.holds.ensures.kept c.open_snapshot.new.snapshots.items
     (c.open_snapshot.ensures.opened ∙ ap Some commits)
     (λ other apart. c.open_snapshot.ensures.others other apart ∙ ap (λ items. slice_index_or items other None) c.reserve.ensures.items)
@@ -53,7 +53,7 @@ returns-clause-forks g c =
     let commits : c.len-commits.result ≡ length c.self.inside.kept.items = search rules in
     let is = c.new.ensures in
     let done : Forks g.row.N p after c.new.result =
-    forks g.row.N _ p c.self.invariant c.fork.new.space c.holds.new.self c.in-Ok.child child.least child.bytes child.others child.owner child.undo_log
+    forks g.row.N _ _ p c.self.invariant c.fork.new.space c.holds.new.self c.in-Ok.child child.least child.bytes child.others child.owner child.undo_log
     c.holds.ensures.unchanged c.holds.ensures.kept c.open_snapshot.new.snapshots.items c.new.result
     (c.open_snapshot.ensures.opened ∙ ap Some commits)
     (λ other apart. c.open_snapshot.ensures.others other apart ∙ ap (λ items. slice_index_or items other None) c.reserve.ensures.items)

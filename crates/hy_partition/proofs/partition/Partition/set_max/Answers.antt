@@ -2,7 +2,7 @@ use Rattle.std.proofs.Common.{OnOk, [], refl, sym, subst}
 use Rattle.std.proofs.lemmas.List.{append-nil}
 use Rattle.hy_partition.specs.Partition.{PartitionState}
 use Rattle.hy_partition.specs.Steps.{KeepsJob}
-use Rattle.hy_partition.specs.Views.{partition_of}
+use Rattle.hy_partition.specs.inside.Views.{partition_of}
 use Rattle.hy_undo.proofs.PrivatePageLaws.{IsUndoLog-kept, KeepsPages-unseen}
 use Rattle.hy_partition.proofs.UndoLaws.{KeepsOwn-same_frames}
 use Rattle.hy_partition.proofs.SoundLaws.{sound-snapshots}
@@ -34,6 +34,6 @@ invariant_of-self g c =
     let owner = c.set_max.ensures.owner in
     let after : PartitionState = record p { space = c.set_max.new.self } in
     let kept = KeepsOwn-same_frames p.space c.set_max.new.self owner.table c.set_max.ensures.frames in
-    sound-snapshots g.row.N _ p c.self.invariant c.set_max.new.self p.snapshots owner
+    sound-snapshots g.row.N _ _ p c.self.invariant c.set_max.new.self p.snapshots owner
     (IsUndoLog-kept g.row.N p.space c.set_max.new.self p.undo (KeepsPages-unseen p.space c.set_max.new.self owner.bytes kept) c.self.invariant.undo_log)
     (λ child. spells-kept_more g.row.N p after refl refl [] (sym (append-nil p.kept)) child refl (c.set_max.ensures.children.bytes child) (c.self.invariant.snapshots child))

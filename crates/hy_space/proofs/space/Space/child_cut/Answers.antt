@@ -1,7 +1,7 @@
 use Rattle.std.proofs.Common.{◌≡◌, ◌<◌, ◌≤◌, ℕ, List, [], length, get_or, set, drop, Some, None, ap, sym, ◌∙◌, subst, arith, unwrap_or, IsSomeAnd}
 use Rattle.std.specs.Option.{option_map}
 use Rattle.std.proofs.lemmas.List.{get_or-set_same, take_rest, get_or_read}
-use Rattle.hy_frames.specs.Slots.{occurrences}
+use Rattle.hy_frames.specs.FrameTable.{occurrences}
 use Rattle.hy_space.specs.Space.{SpaceState, child_table, child_bytes, table_bytes, owner_bytes, with_first_frames, with_first_pages, DropsUsers, child_times}
 use Rattle.hy_space.proofs.TableLaws.{occurrences-drop-le, child_in_sum}
 use Rattle.hy_space.proofs.ChildLaws.{opened, open_within, set-set, child_trimmed, IsChildKept}

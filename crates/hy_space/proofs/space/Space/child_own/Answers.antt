@@ -4,7 +4,7 @@ use Rattle.std.proofs.lemmas.List.{get_or-set_same, set-get_or}
 use Rattle.hy_frames.specs.FrameTable.{count_of}
 use Rattle.hy_space.specs.Space.{SpaceState, HasChildPage, child_frame_no, child_table, child_bytes, table_bytes, owner_bytes, with_frame, MovesUser, MovesChildPage}
 use Rattle.hy_space.proofs.ChildLaws.{opened, open_within, set-set, child_moved, frame-with_frame, IsChildKept}
-use Rattle.hy_space.specs.Users.{IsCounted}
+use Rattle.hy_space.specs.inside.Users.{IsCounted}
 use Rattle.hy_space.proofs.space.Space.child_own.Goals as goal
 use Rattle.hy_space.proofs.space.Space.child_own.Given as given
 

@@ -1,7 +1,8 @@
-use Rattle.std.proofs.Common.{◌≡◌, ◌<◌, ℕ, List, [], length, get_or, Some, None, false, ap, sym, ◌∙◌, subst, arith, unwrap_or, rules}
+use Rattle.std.proofs.Common.{◌≡◌, ◌<◌, ℕ, List, [], length, get_or, Some, None, false, ap, sym, ◌∙◌, subst, arith, unwrap_or, rules, inl, inr}
 use Rattle.std.specs.Option.{option_map}
 use Rattle.hy_page.specs.Bytes.{overwritten}
-use Rattle.hy_frames.specs.FrameTable.{count_of, page_of, lent_at, Sets}
+use Rattle.hy_frames.specs.FrameTable.{Frame, count_of, page_of, lent_at, Sets, free_of}
+use Rattle.std.proofs.lemmas.Bool.{cases_eq}
 use Rattle.hy_space.specs.Space.{SpaceState, HasChildPage, child_frame_no, child_table, child_bytes, table_bytes, owner_bytes, with_page, page_at, IsChildPrivate}
 use Rattle.hy_space.proofs.TableLaws.{page_at-table_bytes}
 use Rattle.hy_space.proofs.ChildLaws.{opened, child_written, IsChildKept}
@@ -58,14 +59,29 @@ returns-clause-bytes g c =
     ∙ ap (λ o. option_map change (option_map (table_bytes s.frames) o)) (sym f.0)
     ∙ ap (λ now. option_map change (child_bytes now c.args.child)) c.self.view_is
 
-pub returns-clause-owner : goal.returns-clause-owner
-returns-clause-owner g c = record { table = ap (λ now. now.owner) c.self.view_is; bytes = (after g c).0.owner ∙ ap owner_bytes c.self.view_is }
+-- no page is lent that was not
+lent : (g : given.Over) (c : goal.After-write g) → (f : ℕ) → lent_at c.write.new.self f ≡ lent_at c.self.inside.frames f
+lent g c f =
+    let s : SpaceState = record { owner = c.self.inside.owner; children = c.self.inside.children.items; frames = c.self.inside.frames } in
+    let from = c.frame-frame.result in
+    let private = subst (λ now. IsChildPrivate now c.args.child c.args.segment c.args.page) (sym c.self.view_is) c.requires.private in
+    let place : child_frame_no s c.args.child c.args.segment c.args.page ≡ get_or (get_or c.in-Some.table c.args.segment []) c.args.page 0 = ap (λ o. get_or (get_or (unwrap_or o []) c.args.segment []) c.args.page 0) (found g c).0 in
+    let was : lent_at s.frames from ≡ false = ap (lent_at s.frames) (c.frame-frame.ensures ∙ sym place) ∙ private.not_lent in
+    elim (cases_eq f from) [
+      | inl here ↦ ap (lent_at c.write.new.self) here ∙ ap (λ (x : Frame). x.lent) c.write.ensures.set.here ∙ sym was ∙ ap (lent_at s.frames) (sym here)
+      | inr apart ↦ ap (λ (x : Frame). x.lent) (c.write.ensures.set.others f apart)
+    ]
 
-pub returns-clause-others : goal.returns-clause-others
-returns-clause-others g c = record {
-  tables = λ other apart. (after g c).0.tables other apart ∙ ap (λ now. child_table now other) c.self.view_is;
-  bytes = λ other apart. (after g c).0.others other apart ∙ ap (λ now. child_bytes now other) c.self.view_is;
+pub returns-clause-only : goal.returns-clause-only
+returns-clause-only g c = record {
+  tables = ap (λ now. now.children) c.self.view_is;
+  owner = record { table = ap (λ now. now.owner) c.self.view_is; bytes = (after g c).0.owner ∙ ap owner_bytes c.self.view_is };
+  others = record {
+    tables = λ other apart. (after g c).0.tables other apart ∙ ap (λ now. child_table now other) c.self.view_is;
+    bytes = λ other apart. (after g c).0.others other apart ∙ ap (λ now. child_bytes now other) c.self.view_is;
+  };
+  counts = λ f. (after g c).2 f ∙ ap (λ now. count_of now.frames f) c.self.view_is;
+  lent = λ f. lent g c f ∙ ap (λ now. lent_at now.frames f) c.self.view_is;
+  free = c.write.ensures.free ∙ ap (λ now. free_of now.frames) c.self.view_is;
+  limit = c.write.ensures.set.limit ∙ ap (λ now. now.frames.max) c.self.view_is;
 }
-
-pub returns-clause-counts : goal.returns-clause-counts
-returns-clause-counts g c f = (after g c).2 f ∙ ap (λ now. count_of now.frames f) c.self.view_is

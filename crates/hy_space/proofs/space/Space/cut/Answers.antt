@@ -1,6 +1,6 @@
 use Rattle.std.proofs.Common.{◌≡◌, ◌<◌, ◌-◌, [], length, take, drop, get_or, ap, sym, ◌∙◌, subst, arith}
 use Rattle.std.proofs.lemmas.List.{take_rest, get_or_read}
-use Rattle.hy_frames.specs.Slots.{occurrences}
+use Rattle.hy_frames.specs.FrameTable.{occurrences}
 use Rattle.hy_space.specs.Space.{SpaceState, owner_bytes, table_bytes, with_first_pages, child_bytes, KeepsOwn}
 use Rattle.hy_space.specs.Space.{DropsUsers}
 use Rattle.hy_space.proofs.TableLaws.{occurrences-drop-le}

@@ -1,6 +1,6 @@
 use Rattle.std.proofs.Common.{rules, ◌≡◌, ◌-◌, ◌++◌, ◌∷◌, [], List, length, take, drop, sym, ap, ◌∙◌}
 use Rattle.hy_undo.specs.UndoLog.{Image}
-use Rattle.hy_undo.specs.Pieces.{images_of, byte_count}
+use Rattle.hy_undo.specs.inside.Pieces.{images_of, byte_count}
 use Rattle.hy_undo.proofs.PieceLaws.{image_of, images_of-pop, take-front}
 use Rattle.hy_undo.proofs.images.Images.drop_last.Goals as goal
 

@@ -1,6 +1,6 @@
 use Rattle.std.proofs.Common.{◌+◌, List, [], length, take, sum_by, sym, ap, ap₂, ◌∙◌, arith, get_or}
 use Rattle.hy_undo.specs.UndoLog.{Image}
-use Rattle.hy_undo.specs.Pieces.{images_of, byte_count}
+use Rattle.hy_undo.specs.inside.Pieces.{images_of, byte_count}
 use Rattle.hy_undo.proofs.PieceLaws.{length-images_of, take-images_of, bytes-images_of, byte_count-take-le}
 use Rattle.hy_undo.proofs.images.Images.image.Goals as goal
 

@@ -2,7 +2,7 @@ use Rattle.std.proofs.Common.{◌+◌, ◌&&◌, not, List, length, map, drop, s
 use Rattle.std.specs.List.{list_any}
 use Rattle.hy_undo.specs.Touched.{PagePlace, was_there, is_same_place, place_of}
 use Rattle.hy_undo.specs.UndoLog.{Image}
-use Rattle.hy_undo.specs.Pieces.{place_of_piece}
+use Rattle.hy_undo.specs.inside.Pieces.{place_of_piece}
 use Rattle.hy_undo.proofs.PieceLaws.{length-images_of, places-images_of}
 use Rattle.hy_undo.proofs.images.Images.is_last_touched.Goals as goal
 

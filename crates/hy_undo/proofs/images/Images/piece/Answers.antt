@@ -1,5 +1,5 @@
 use Rattle.std.proofs.Common.{length, ap, ◌∙◌, arith}
-use Rattle.hy_undo.specs.Pieces.{piece_at}
+use Rattle.hy_undo.specs.inside.Pieces.{piece_at}
 use Rattle.hy_undo.proofs.PieceLaws.{length-images_of, piece_at-images_of}
 use Rattle.hy_undo.proofs.images.Images.piece.Goals as goal
 

@@ -1,7 +1,7 @@
 use Rattle.std.proofs.Common.{◌≡◌, ◌++◌, ◌∷◌, [], List, length, refl, ap, ap₂, ◌∙◌}
 use Rattle.hy_undo.specs.declared.images.Piece.{Piece}
 use Rattle.hy_undo.specs.UndoLog.{Image}
-use Rattle.hy_undo.specs.Pieces.{images_of}
+use Rattle.hy_undo.specs.inside.Pieces.{images_of}
 use Rattle.hy_undo.proofs.PieceLaws.{image_of, images_of-push}
 use Rattle.hy_undo.proofs.images.Images.push.Goals as goal
 

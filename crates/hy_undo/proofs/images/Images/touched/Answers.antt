@@ -1,7 +1,7 @@
 use Rattle.std.proofs.Common.{List, sym, ap, ◌∙◌}
 use Rattle.hy_undo.specs.UndoLog.{Image}
 use Rattle.hy_undo.specs.Touched.{touched}
-use Rattle.hy_undo.specs.Pieces.{touched_by}
+use Rattle.hy_undo.specs.inside.Pieces.{touched_by}
 use Rattle.hy_undo.proofs.PieceLaws.{touched-images_of}
 use Rattle.hy_undo.proofs.images.Images.touched.Goals as goal
 

@@ -1,0 +1,7 @@
+pub mod Rows
+pub mod Finds
+pub mod Shortages
+pub mod Growth
+pub mod Changes
+pub mod Soundness
+pub mod Views

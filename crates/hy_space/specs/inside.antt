@@ -1,0 +1,3 @@
+-- What the private functions and the proofs of this crate speak of, and no public contract.
+pub mod Children
+pub mod Users
