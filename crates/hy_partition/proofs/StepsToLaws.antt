@@ -1,12 +1,15 @@
 -- What the slices of a job need, and what each leaves.
-use Rattle.std.proofs.Common.{◌≡◌, ℕ, ◌+◌, ◌-◌, ◌<◌, ◌≤◌, ◌⊎◌, inl, inr, true, false, List, length, Option, Some, None, Result, Ok, Err, refl, sym, ap, ◌∙◌, subst, arith}
+use Rattle.std.proofs.Common.{◌≡◌, ℕ, ◌+◌, ◌-◌, ◌<◌, ◌≤◌, ◌⊎◌, inl, inr, true, false, List, [], ◌∷◌, ◌++◌, length, Option, Some, None, Result, Ok, Err, refl, sym, ap, ◌∙◌, subst, arith}
 use Rattle.std.specs.Prelude.{IsNone, IsSome, IsSomeAnd, MatchOption, IsOkAnd, slice_index_or, take}
 use Rattle.std.specs.Option.{option_map}
+use Rattle.std.proofs.lemmas.Bool.{eq-eqb}
 use Rattle.std.proofs.lemmas.Bool.Decides.{nat_tests}
 use Rattle.hy_frames.specs.FrameTable.{FrameTable, free_of}
 use Rattle.hy_frames.specs.declared.errors.Shortage.{Shortage}
 use Rattle.hy_frames.specs.declared.errors.Shortage.TheVariants as shortages
 use Rattle.hy_partition.specs.inside.Shortages.{IsOutOfFrames, refusal_of_shortage}
+use Rattle.hy_schema.specs.declared.command.Commit.{Commit}
+use Rattle.hy_schema.specs.declared.command.Commit.TheVariants as commits
 use Rattle.hy_schema.specs.declared.command.Reply.{Reply}
 use Rattle.hy_schema.specs.declared.command.Reply.TheVariants as replies
 use Rattle.hy_schema.specs.declared.refusal.Refusal.{Refusal}
@@ -109,6 +112,28 @@ module _ (n places customer : ℕ) (p : PartitionState) (sound : IsSound n place
       ap (λ tables. (slice job.command job.slices tables).reply) (sym was.pages.rows) ∙ ap (λ (o : SliceOutcome). o.reply) done in
       let last = last_slice job.command job.slices (rows_now p) reply was.slices replied in
       (last.0, last.1 ∙ sym (ap (λ (o : Outcome). o.reply) (act-accepted p.warehouse job.command (rows_now p) was.accepted)))
+
+  -- the last slice keeps the command, and answers it
+  pub steps-accepted : (space : SpaceState) (before undo : UndoLog) (kept : List Commit) (reply : Reply) (finished : DoneState)
+      → slice job.command job.slices (tables_of n (owner_bytes p.space)) ≡ record { tables = tables_of n (owner_bytes space); reply = Some reply }
+      → CanUndo n (writes job.command job.slices) p.space space p.undo before → undo ≡ empty_log space → kept ≡ p.kept ++ commits.Local job.command ∷ [] → finished ≡ record { reply = reply }
+      → StepsTo job p (record p { kept = kept; running = None; undo = undo; finished = Some finished; space = space }) progress.Finished
+  steps-accepted space before undo kept reply finished done can_undo none longer is =
+      let last = reply-running (tables_of n (owner_bytes space)) reply done in
+      inl (
+        eq-eqb (job.slices + 1) (slice_count job.command) last.0,
+        record {
+          accepted = was.accepted;
+          kept = longer;
+          ends = record {
+            running = refl;
+            undo = none;
+            finished = ap Some (is ∙ ap (λ reply. record { reply = reply }) last.1);
+            rest = record { warehouse = refl; loaded = refl; max_kept = refl; snapshots = refl; children = can_undo.children; max_frames = can_undo.frames.limit };
+          };
+          frames = can_undo.frames;
+        },
+      )
 
 not_last : (job : RunningJob) → job.slices < slice_count job.command → job.slices + 1 < slice_count job.command → is_last job ≡ false
 not_last job few more = grind (arith, nat_tests, few, more)

@@ -1,5 +1,5 @@
 -- The undo log of the running transaction: how many pages there were when it began, and the bytes that each of its
--- writes took away.
+-- writes took away (as in the HyPer paper, section 2.2, with the bytes of one write as its records).
 use Rattle.std.specs.Prelude.{ℕ, List, [], ◌∷◌, ◌++◌, length, map, take}
 use Rattle.hy_page.specs.Bytes.{bytes_at, overwritten}
 use Rattle.hy_space.specs.Space.{SpaceState, page_at, page_bytes, with_page}

@@ -1,10 +1,11 @@
-use Rattle.std.proofs.Common.{◌≡◌, ℕ, ◌+◌, ◌<◌, ◌^◌, List, [], ◌∷◌, ◌++◌, length, sym, ap, ◌∙◌, subst, arith}
+use Rattle.std.proofs.Common.{rules, ◌≡◌, ℕ, ◌+◌, ◌<◌, ◌^◌, List, [], ◌∷◌, ◌++◌, length, sym, ap, ◌∙◌, subst, arith}
 use Rattle.std.proofs.lemmas.Result.{on_ok_weaker}
 use Rattle.hy_page.specs.Bytes.{bytes_of, overwritten}
 use Rattle.hy_page.proofs.ByteLaws.{to_le_bytes-bytes_of}
 use Rattle.hy_schema.specs.Spelling.{HasTables, list_at, rows_of, slot_page, slot_offset}
-use Rattle.hy_space.specs.Space.{owner_bytes, page_at, with_page, HasPagesOf}
-use Rattle.hy_partition.proofs.PlaceLaws.{rows-row_pushed, tables-row_pushed, others-row_pushed}
+use Rattle.hy_space.specs.Space.{owner_bytes, page_at, with_page, HasPage, HasPagesOf}
+use Rattle.hy_undo.proofs.PrivatePageLaws.{HasPage-kept, KeepsPages-written}
+use Rattle.hy_partition.proofs.PlaceLaws.{has_first_page, rows-row_pushed, tables-row_pushed, others-row_pushed}
 use Rattle.hy_partition.proofs.fill.fill_place.Goals as goal
 use Rattle.hy_partition.proofs.fill.fill_place.Given as given
 
@@ -62,3 +63,11 @@ pub returns-clause-others : goal.returns-clause-others
 returns-clause-others g c = on_ok_weaker c.write-2.result (λ raw other differs.
     ap (λ (bytes : List (List (List ℕ))). list_at bytes other) (pushed g c raw)
     ∙ others-row_pushed g.row.N g.R.Row.SEGMENT g.R.Row.BYTES (owner_bytes c.args.space.now) c.used_of-used.result (g.R.Row.bytes_of_row c.args.row.now) c.sound.ensures.size.smallest g.met.R.Row.is_table c.requires.tables (sizes g c) (sym c.used_of-used.ensures.value) (there g c) c.encode.ensures.width (few g c) other differs) c.write-2.ensures.bytes
+
+pub write-requires-2 : goal.write-requires-2
+write-requires-2 g c =
+    let old = c.args.space.now in
+    let first = has_first_page g.row.N g.R.Row.SEGMENT g.R.Row.BYTES old c.sound.ensures.size.smallest g.met.R.Row.is_table c.requires.tables in
+    let there : HasPage old c.SEGMENT-3.result 0 = subst (λ (s : ℕ). HasPage old s 0) (sym c.SEGMENT-3.ensures) first in
+    let pages = KeepsPages-written old c.write.new.self _ _ _ c.in_ok-write.ensures.bytes c.in_ok-write.ensures.made.kept in
+    (omega arith, (HasPage-kept old c.write.new.self c.SEGMENT-3.result 0 pages there, search rules))

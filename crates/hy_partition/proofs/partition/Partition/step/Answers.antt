@@ -12,7 +12,7 @@ use Rattle.hy_partition.specs.Steps.{LacksFrames}
 use Rattle.hy_partition.specs.declared.job.Progress.TheVariants as progress
 use Rattle.hy_partition.specs.inside.Views.{partition_of}
 use Rattle.hy_partition.proofs.SoundLaws.{sound-accepted, sound-continued, sound-refused}
-use Rattle.hy_partition.proofs.StepsToLaws.{step-running, lacks_frames, refused_why, steps-more, steps-refused, tables-running, grown-running, in_range-running, slices-running, rows-running, customer-running}
+use Rattle.hy_partition.proofs.StepsToLaws.{customer-running, grown-running, in_range-running, lacks_frames, refused_why, rows-running, slices-running, step-running, steps-accepted, steps-more, steps-refused, tables-running}
 use Rattle.hy_partition.proofs.partition.Partition.step.Goals as goal
 
 pub run_slice-requires : goal.run_slice-requires
@@ -81,3 +81,12 @@ invariant_of-self-in-Err g c =
     let back = c.roll_back.ensures in
     let children : SameForChildren p.space c.roll_back.new.space = record { tables = back.gives_up.children.tables ∙ can_undo.children.tables; bytes = λ child. back.gives_up.children.bytes child ∙ can_undo.children.bytes child } in
     sound-refused g.row.N _ _ p c.self.invariant _ _ c.roll_back.new.space c.roll_back.new.self (Some c.new-in-Err.result) back.log back.undo_log (back.bytes ∙ can_undo.undone) children
+
+pub returns-in-Ok-Some : goal.returns-in-Ok-Some
+returns-in-Ok-Some g c =
+    let p : PartitionState = partition_of c.self.inside in
+    let job : RunningJob = record { command = c.in-Some.running.command; slices = c.in-Some.running.slices } in
+    let done = subst (λ (reply : Option Reply). slice job.command job.slices (tables_of g.row.N (owner_bytes p.space)) ≡ record { tables = tables_of g.row.N (owner_bytes c.run_slice.new.space); reply = reply }) c.in-Ok-Some.field-0-is c.in-Ok-Some.ensures.slice in
+    step-running c.args.self.now p _ job progress.Finished (Ok progress.Finished) refl c.self.view_is c.in-Some.is
+    (steps-accepted g.row.N _ _ p c.self.invariant job c.in-Some.is c.run_slice.new.space c.run_slice.new.undo c.commit.new.self c.push_reserved.new.self.items c.in-Ok-Some.reply c.new.result
+    done c.run_slice.ensures.can_undo c.commit.ensures.log (c.push_reserved.ensures.items ∙ ap (λ command. c.self.inside.kept.items ++ commits.Local command ∷ []) c.command.ensures) c.new.ensures)
