@@ -1,5 +1,5 @@
-//! Does one piece of work of the crates below many times over, so that a clock outside can time it. The words: the work,
-//! how many rounds of it, and up to two sizes.
+//! Does one piece of work of the crates below many times over, so that a clock outside can time it. The words: the
+//! work, how many rounds of it, and up to two sizes.
 #![tactic(auto)]
 
 mod payment_rounds;

@@ -83,8 +83,8 @@ impl<const N: usize> Frames<N> {
         self.take(Some(of))
     }
 
-    /// Takes a frame with one user for a copy of the page in a frame in use, or for a page of zeros. The bytes are written
-    /// once, to where they stay.
+    /// Takes a frame with one user for a copy of the page in a frame in use, or for a page of zeros. The bytes are
+    /// written once, to where they stay.
     fn take(&mut self, of: Option<FrameNo>) -> Result<FrameNo, Shortage>
         requires { ForSome of (λ f. 0 < count_of self.old f) }
         ensures takes { IfOk result (λ f. Takes self.old self.new f (bytes_or_zeros N self.old.frames of)) }
@@ -199,7 +199,8 @@ impl<const N: usize> Frames<N> {
         self.slots[f.index()].lend(self.alloc)
     }
 
-    /// Makes the page in a frame with one user nobody else's: each hold of it keeps the bytes, and the frame gets a copy.
+    /// Makes the page in a frame with one user nobody else's: each hold of it keeps the bytes, and the frame gets a
+    /// copy.
     pub fn take_back(&mut self, f: FrameNo) -> Result<(), AllocError>
         requires { count_of self.old f ≡ 1 }
         ensures set { OnOk result (Sets self.old self.new f (record (frame_at self.old f) { lent = false })) }
@@ -210,8 +211,8 @@ impl<const N: usize> Frames<N> {
         self.slots[f.index()].take_back(self.alloc)
     }
 
-    /// Writes bytes from `offset` on into the page of a frame with one user, where the page is nobody else's. This needs
-    /// no memory.
+    /// Writes bytes from `offset` on into the page of a frame with one user, where the page is nobody else's. This
+    /// needs no memory.
     pub fn write(&mut self, f: FrameNo, offset: usize, bytes: &[u8])
         requires own { count_of self.old f ≡ 1 }
         requires private { lent_at self.old f ≡ false }
@@ -274,7 +275,8 @@ fn make_room<const N: usize>(
     ensures pages { length slots.new.items ≤ vec_capacity spares.new }
     ensures room { OnOk result
         (HasRoom slots.new.items (vec_capacity slots.new) unused.new.items (vec_capacity unused.new)) }
-    ensures page_room { OnOk result (unused.new.items ≡ [] → length slots.new.items < vec_capacity spares.new) }
+    ensures page_room { OnOk result
+        (unused.new.items ≡ [] → length slots.new.items < vec_capacity spares.new) }
 {
     if unused.is_empty() {
         unused.reserve(slots.len() + 1)?;
@@ -332,7 +334,8 @@ fn put<const N: usize>(
     unused: &mut Vec<FrameNo>,
     slot: Slot<N>,
 ) -> FrameNo
-    requires room { HasRoom slots.old.items (vec_capacity slots.old) unused.old.items (vec_capacity unused.old) }
+    requires room { HasRoom slots.old.items (vec_capacity slots.old) unused.old.items
+        (vec_capacity unused.old) }
     requires room_kept { length slots.old.items ≤ vec_capacity unused.old }
     requires small { length slots.old.items < 2 ^ 32 }
     requires known { (f : ℕ) → 0 < occurrences f unused.old.items → f < length slots.old.items }

@@ -65,9 +65,11 @@ IsYtdAfter amount ytd = (refusal_of 1 (first_command amount) (generated 3) ≡ N
 -- why the payment of `first` isn't done: the warehouse refuses it, or memory or the frames run out
 abbrev pub IsFirstRefusal : ℕ → Refusal → Type 0
 IsFirstRefusal amount refusal =
-    (refusal_of 1 (first_command amount) (generated 3) ≡ Some refusal) ⊎ (refusal ≡ refusals.NoMemory) ⊎ (refusal ≡ refusals.NoFrame)
+    (refusal_of 1 (first_command amount) (generated 3) ≡ Some refusal) ⊎ (refusal ≡ refusals.NoMemory)
+    ⊎ (refusal ≡ refusals.NoFrame)
 
 -- why a payment isn't done: it isn't begun, or memory runs out, or the frames do beside an open snapshot
 abbrev pub IsPayRefusal : PartitionState → Payment → Refusal → Type 0
 IsPayRefusal p payment refusal =
-    (begin_refusal p (commands.Payment payment) ≡ Some refusal) ⊎ (refusal ≡ refusals.NoMemory) ⊎ ((refusal ≡ refusals.NoFrame) × HasSnapshot p)
+    (begin_refusal p (commands.Payment payment) ≡ Some refusal) ⊎ (refusal ≡ refusals.NoMemory)
+    ⊎ ((refusal ≡ refusals.NoFrame) × HasSnapshot p)

@@ -15,7 +15,8 @@ use Rattle.hy_hyper.specs.Generated.{generated, last_name, with_four_digits}
 
 -- the command that words name, with the text of `--amount`
 abbrev pub amount_text : List Text → Option (Text × Option Text)
-amount_text words = option_map (λ command. (command.0, one_of (codes "amount") command.1)) (subcommand_of program_app words)
+amount_text words =
+    option_map (λ command. (command.0, one_of (codes "amount") command.1)) (subcommand_of program_app words)
 
 -- `first` alone is a payment of 1.00
 pub first-says : Says (codes "first" ∷ []) (line.First 100)
@@ -27,7 +28,8 @@ pub amount-taken : fault_of program_app (codes "first" ∷ codes "--amount" ∷ 
 unfolding clap_on_literals
 amount-taken = refl
 
-pub amount-text : amount_text (codes "first" ∷ codes "--amount" ∷ codes "7" ∷ []) ≡ Some (codes "first", Some (codes "7"))
+pub amount-text : amount_text (codes "first" ∷ codes "--amount" ∷ codes "7" ∷ [])
+    ≡ Some (codes "first", Some (codes "7"))
 unfolding clap_on_literals
 amount-text = refl
 
@@ -40,11 +42,13 @@ unfolding clap_on_literals
 equals-text = refl
 
 -- 2^64 is no number of 64 bits, and `x` is no number
-pub large-refused : fault_of program_app (codes "first" ∷ codes "--amount" ∷ codes "18446744073709551616" ∷ []) ≡ kind.ValueValidation ∷ []
+pub large-refused : fault_of program_app (codes "first" ∷ codes "--amount" ∷ codes "18446744073709551616" ∷ [])
+    ≡ kind.ValueValidation ∷ []
 unfolding clap_on_literals
 large-refused = refl
 
-pub letter-refused : fault_of program_app (codes "first" ∷ codes "--amount" ∷ codes "x" ∷ []) ≡ kind.ValueValidation ∷ []
+pub letter-refused : fault_of program_app (codes "first" ∷ codes "--amount" ∷ codes "x" ∷ [])
+    ≡ kind.ValueValidation ∷ []
 unfolding clap_on_literals
 letter-refused = refl
 

@@ -28,8 +28,9 @@ const WAREHOUSE: u8 = 1;
 /// How many customers each district of the warehouse has.
 const CUSTOMERS: u16 = 3;
 
-/// W_YTD of a generated warehouse after a payment of an amount in cents, in cents, as a snapshot behind the payment has
-/// it. E8 where the amount is out of range, E2 where the frames are too few for the rows, and E1 where memory is refused.
+/// W_YTD of a generated warehouse after a payment of an amount in cents, in cents, as a snapshot behind the payment
+/// has it. E8 where the amount is out of range, E2 where the frames are too few for the rows, and E1 where memory is
+/// refused.
 pub fn first(alloc: Global, amount: u64) -> Result<i64, Refusal>
     ensures ytd { IfOk result (IsYtdAfter amount) }
     ensures refused { IfErr result (IsFirstRefusal amount) }
@@ -64,7 +65,8 @@ fn pay(partition: &mut Partition<PAGE_BYTES>, payment: Payment) -> Result<(), Re
 /// Runs a job of two slices: the first, and the second where the first isn't refused.
 fn run_slices(partition: &mut Partition<PAGE_BYTES>)
     requires { IsSomeAnd partition.old.running HasTwoSlices }
-    ensures { IsSomeAnd partition.old.running (λ job. Accepts (all_writes job.command) job.command partition.old partition.new
+    ensures { IsSomeAnd partition.old.running
+        (λ job. Accepts (all_writes job.command) job.command partition.old partition.new
         ⊎ Refuses (all_writes job.command) partition.old partition.new) }
 {
     match partition.step() {

@@ -27,7 +27,8 @@ impl Shelf {
 }
 
 impl Place for Shelf {
-    ghost files = { λ shelf. Some (λ path. option_map (λ bytes. bytes.items) (get_by_text shelf.files path)) };
+    ghost files = { λ shelf. Some (λ path. option_map (λ bytes. bytes.items)
+        (get_by_text shelf.files path)) };
 
     fn read(&mut self, _alloc: Global, path: &str) -> io::Result<Vec<u8>> {
         match self.files.get(path) {

@@ -86,7 +86,8 @@ fn read_amount(given: &ArgMatches<'_>) -> u64
 
 /// What the parser knows of the program.
 fn program<'a>(alloc: Global) -> Result<Command<'a>, AllocError>
-    ensures { IfOk result (λ command. (app_of command ≡ program_app) × ((fields_of command).has_globals ≡ false)
+    ensures { IfOk result (λ command. (app_of command ≡ program_app)
+        × ((fields_of command).has_globals ≡ false)
         × ((fields_of command).subcommand_required ≡ true)) }
 {
     Command::new(alloc, "hyper")
@@ -99,7 +100,8 @@ fn program<'a>(alloc: Global) -> Result<Command<'a>, AllocError>
 
 /// What the parser knows of `first`.
 fn first<'a>(alloc: Global) -> Result<Command<'a>, AllocError>
-    ensures { IfOk result (λ command. (app_of command ≡ first_app) × ((fields_of command).has_globals ≡ false)) }
+    ensures { IfOk result (λ command. (app_of command ≡ first_app)
+        × ((fields_of command).has_globals ≡ false)) }
 {
     let amount = Arg::new(alloc, "amount")
         .long("amount")

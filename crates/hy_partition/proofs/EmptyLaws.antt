@@ -1,5 +1,5 @@
 -- Tables without rows.
-use Rattle.std.proofs.Common.{◌≡◌, ℕ, ◌+◌, ◌≤◌, zero, suc, List, [], ◌∷◌, ◌++◌, length, replicate, refl, sym, ap, ap₂, ◌∙◌, subst, arith, length-append}
+use Rattle.std.proofs.Common.{◌≡◌, ℕ, ◌+◌, ◌≤◌, zero, suc, List, [], ◌∷◌, ◌++◌, length, replicate, refl, sym, ap, ap₂, ◌∙◌, subst, arith, length-append, lit≤}
 use Rattle.std.proofs.lemmas.List.{append-nil, get_or-replicate, length-replicate}
 use Rattle.hy_page.proofs.ByteLaws.{field_of_zeros}
 use Rattle.hy_schema.specs.Spelling.{HasSlots, HasTables, segments, tables_of, used_slots}
@@ -43,7 +43,7 @@ module _ (n : ℕ) (smallest : 256 ≤ n) where
 
   pub tables-zero : HasTables n zero_segments
   tables-zero = record {
-    all_segments = refl;
+    all_segments = lit≤ tt;
     slots = λ segment width table.
         subst (λ (pages : List (List ℕ)). HasSlots n width pages)
         (sym (get_or-replicate segments segment zero_segment [] (segment_there segment width table))) (slots-zero width);

@@ -79,7 +79,7 @@ module _ (n segment width : ℕ) (bytes : List (List (List ℕ))) (k : ℕ) (row
             (subst (λ (count : ℕ). used_slots (list_at bytes segment) ≤ slots_per_page n width * (count - 1)) (sym (length-slot_written n width (list_at bytes segment) k 1 row_bytes room whole page_there full)) old.slots);
       } in
       record {
-        all_segments = length-with_page bytes segment (slot_page n width k) _ ∙ tables.all_segments;
+        all_segments = subst (λ count. segments ≤ count) (sym (length-with_page bytes segment (slot_page n width k) _)) tables.all_segments;
         slots = λ s w is_table. elim (cases_eq s segment) [
           | inl same ↦
               let widths : width ≡ w = one_width segment width w table (subst (λ (x : ℕ). IsTable x w) same is_table) in
@@ -118,7 +118,7 @@ module _ (n segment : ℕ) (bytes : List (List (List ℕ))) (page : List ℕ) (s
 
   pub tables-page_added : HasTables n page_added
   tables-page_added = record {
-    all_segments = length-set bytes segment (list_at bytes segment ++ page ∷ []) ∙ tables.all_segments;
+    all_segments = omega (arith, length-set bytes segment (list_at bytes segment ++ page ∷ []), tables.all_segments);
     slots = λ s w is_table. elim (cases_eq s segment) [
       | inl same ↦
           let old = tables.slots s w is_table in
@@ -186,7 +186,7 @@ module _ (n segment width : ℕ) (bytes : List (List (List ℕ))) (k : ℕ) (row
 
   pub tables-row_pushed : HasTables n row_pushed
   tables-row_pushed = record {
-    all_segments = length-with_page slot_filled segment 0 _ ∙ length-with_page bytes segment (slot_page n width k) _ ∙ tables.all_segments;
+    all_segments = subst (λ count. segments ≤ count) (sym (length-with_page slot_filled segment 0 _ ∙ length-with_page bytes segment (slot_page n width k) _)) tables.all_segments;
     slots = λ s w is_table. elim (cases_eq s segment) [
       | inl same ↦
           let widths : width ≡ w = one_width segment width w table (subst (λ (x : ℕ). IsTable x w) same is_table) in

@@ -25,7 +25,7 @@ act-accepted warehouse command tables none = ap (λ refusal. outcome_of refusal 
 pub all_slices : (command : Command) (tables : Tables) → after_slices command (slice_count command) tables ≡ (accepted command tables).tables
 all_slices (commands.Payment payment) tables = refl
 
--- each command has a slice, and two at least
+-- each command has a slice
 pub first_slice : (command : Command) → 0 < slice_count command
 first_slice (commands.Payment payment) = omega arith
 

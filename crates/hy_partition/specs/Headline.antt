@@ -1,7 +1,7 @@
 -- The theorem that the database stands on. Whenever nobody holds a partition: each frame's count is the number of page
--- tables that map it; every open snapshot spells the warehouse's rows after a whole number of its kept commits, replayed
--- one by one; the live pages with the running transaction undone spell the replay of all kept commits, and nothing is to
--- be undone where nothing runs; and that replay meets the consistency conditions (TPC-C clause 3.3.2).
+-- tables that map it; every open snapshot spells the warehouse's rows after a whole number of its kept commits,
+-- replayed one by one; the live pages with the running transaction undone spell the replay of all kept commits, and
+-- nothing is to be undone where nothing runs; and that replay meets the consistency conditions (TPC-C clause 3.3.2).
 use Rattle.std.specs.Prelude.{◌≡◌, ℕ, ◌≤◌, length, take, MatchOption, None, IsNone, IsSomeAnd}
 use Rattle.hy_schema.specs.Spelling.{Spells}
 use Rattle.hy_schema.specs.Conditions.{MeetsConditions}
@@ -18,7 +18,8 @@ pub record FrameCountsAreExact (p : PartitionState) : Type 0 where
 abbrev pub SpellsBeginning : ℕ → PartitionState → ℕ → Type 0
 SpellsBeginning n p child =
     MatchOption (commits_of p child) (IsNone (child_bytes p.space child)) (λ commits.
-    (commits ≤ length p.kept) × IsSomeAnd (child_bytes p.space child) (λ bytes. Spells n bytes (rows_after p (take commits p.kept))))
+    (commits ≤ length p.kept) × IsSomeAnd (child_bytes p.space child)
+    (λ bytes. Spells n bytes (rows_after p (take commits p.kept))))
 
 -- with pages of n bytes
 pub record Headline (n : ℕ) (p : PartitionState) : Type 0 where

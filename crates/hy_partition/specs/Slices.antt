@@ -1,5 +1,5 @@
--- A transaction in slices: what each of them does to the rows. All slices of a command together do what an accepted command
--- does (`hy_schema`, `Transactions.accepted`).
+-- A transaction in slices: what each of them does to the rows. All slices of a command together do what an accepted
+-- command does (`hy_schema`, `Transactions.accepted`).
 use Rattle.std.specs.Prelude.{ℕ, zero, suc, ◌+◌, ◌==◌, Bool, Option, None, Some}
 use Rattle.hy_schema.specs.declared.command.Command.{Command}
 use Rattle.hy_schema.specs.declared.command.Command.TheVariants as commands
@@ -19,7 +19,8 @@ pub record SliceOutcome : Type 0 where
 abbrev pub home_paid : Payment → Tables → Tables
 home_paid payment tables = record tables {
   warehouses = with_changed (is_warehouse payment.warehouse) (warehouse_paid payment.amount) tables.warehouses;
-  districts = with_changed (is_district payment.warehouse payment.district) (district_paid payment.amount) tables.districts;
+  districts = with_changed (is_district payment.warehouse payment.district)
+      (district_paid payment.amount) tables.districts;
 }
 
 -- the rows after the customer of a payment has paid
@@ -32,8 +33,8 @@ payer_paid payment tables = record tables {
 abbrev pub slice_count : Command → ℕ
 slice_count (commands.Payment payment) = 2
 
--- what a command's next slice does, where so many are done: a payment's first is for the warehouse and the district, its
--- second for the customer
+-- what a command's next slice does, where so many are done: a payment's first is for the warehouse and the district,
+-- its second for the customer
 abbrev pub slice : Command → ℕ → Tables → SliceOutcome
 slice (commands.Payment payment) zero tables = record { tables = home_paid payment tables; reply = None }
 slice (commands.Payment payment) (suc done) tables =

@@ -31,12 +31,13 @@ pub record TakesFrames (most : ℕ) (old new : SpaceState) : Type 0 where
 abbrev pub is_busy : PartitionState → Bool
 is_busy p = is_some p.running || is_some p.finished
 
--- why a command isn't begun, the first that holds of these: another job is there; the warehouse refuses the command; the
--- kept list is full
+-- why a command isn't begun, the first that holds of these: another job is there; the warehouse refuses the command;
+-- the kept list is full
 abbrev pub begin_refusal : PartitionState → Command → Option Refusal
 begin_refusal p command =
     if is_busy p then Some refusals.Busy
-    else option_or (refusal_of p.warehouse command (rows_now p)) (if length p.kept == p.max_kept then Some refusals.HistoryFull else None)
+    else option_or (refusal_of p.warehouse command (rows_now p))
+    (if length p.kept == p.max_kept then Some refusals.HistoryFull else None)
 
 -- what no job changes: the warehouse, the rows that it began from, the limits, and every snapshot with its bytes
 pub record KeepsRest (old new : PartitionState) : Type 0 where
@@ -47,8 +48,8 @@ pub record KeepsRest (old new : PartitionState) : Type 0 where
   pub children : SameForChildren old.space new.space
   pub max_frames : new.space.frames.max ≡ old.space.frames.max
 
--- a slice was done, and more are to come: what is kept and what undoing gives stay, a record was kept for each write of the
--- slice at most, and a frame was taken for each at most
+-- a slice was done, and more are to come: what is kept and what undoing gives stay, a record was kept for each write
+-- of the slice at most, and a frame was taken for each at most
 pub record Continues (job : RunningJob) (old new : PartitionState) : Type 0 where
   pub running : new.running ≡ Some (record job { slices = job.slices + 1 })
   pub finished : new.finished ≡ old.finished
@@ -65,8 +66,8 @@ pub record Ends (old new : PartitionState) (reply : Reply) : Type 0 where
   pub finished : new.finished ≡ Some (record { reply = reply })
   pub rest : KeepsRest old new
 
--- with so many writes the command was accepted: it is kept, once and behind all others, the reply is the warehouse's to it,
--- and a frame was taken for each write at most
+-- with so many writes the command was accepted: it is kept, once and behind all others, the reply is the warehouse's
+-- to it, and a frame was taken for each write at most
 pub record Accepts (most : ℕ) (command : Command) (old new : PartitionState) : Type 0 where
   pub accepted : refusal_of old.warehouse command (rows_now old) ≡ None
   pub kept : new.kept ≡ old.kept ++ commits.Local command ∷ []
@@ -82,8 +83,9 @@ pub record LacksFrames (most : ℕ) (p : PartitionState) : Type 0 where
   pub few : free_of p.space.frames ≤ most
   pub open_snapshot : HasSnapshot p
 
--- with so many writes the command was refused for want of memory, or of a frame where too few were free and a snapshot was
--- open: what is kept stays, the pages are as they were when the job began, and a frame was taken for each write at most
+-- with so many writes the command was refused for want of memory, or of a frame where too few were free and a snapshot
+-- was open: what is kept stays, the pages are as they were when the job began, and a frame was taken for each write at
+-- most
 pub record Refuses (most : ℕ) (old new : PartitionState) : Type 0 where
   pub kept : new.kept ≡ old.kept
   pub bytes : owner_bytes new.space ≡ undone (owner_bytes old.space) old.undo
@@ -95,7 +97,8 @@ pub record Refuses (most : ℕ) (old new : PartitionState) : Type 0 where
 abbrev pub StepsTo : RunningJob → PartitionState → PartitionState → Progress → Type 0
 StepsTo job old new progress.More = (is_last job ≡ false) × Continues job old new
 StepsTo job old new progress.Finished =
-    ((is_last job ≡ true) × Accepts (writes job.command job.slices) job.command old new) ⊎ Refuses (writes job.command job.slices) old new
+    ((is_last job ≡ true) × Accepts (writes job.command job.slices) job.command old new)
+    ⊎ Refuses (writes job.command job.slices) old new
 
 -- what no snapshot changes: the warehouse with its job
 pub record KeepsJob (old new : PartitionState) : Type 0 where
@@ -143,7 +146,8 @@ pub record IsOpen (p : PartitionState) (snapshot : SnapshotState) : Type 0 where
   pub commits : commits_of p snapshot.child ≡ Some snapshot.commits
   pub bytes : child_bytes p.space snapshot.child ≡ Some snapshot.bytes
 
--- a snapshot was closed, and no other; each of its frames has a user less, so that those which only it had are free again
+-- a snapshot was closed, and no other; each of its frames has a user less, so that those which only it had are free
+-- again
 pub record Closes (old new : PartitionState) (child : ℕ) : Type 0 where
   pub bytes : child_bytes new.space child ≡ None
   pub commits : commits_of new child ≡ None

@@ -1,5 +1,5 @@
--- A small partition, which the checker computes: one warehouse without districts, on pages of 32 bytes, in the middle of a
--- payment of 1.00. W_YTD is written already; a snapshot that was taken before has the old page.
+-- A small partition, which the checker computes: one warehouse without districts, on pages of 32 bytes, in the middle
+-- of a payment of 1.00. W_YTD is written already; a snapshot that was taken before has the old page.
 use Rattle.std.specs.Prelude.{◌≡◌, ℕ, suc, pos, Bool, true, false, Some, None, List, [], ◌∷◌, ◌++◌, ◌+◌, ◌-◌, ◌&&◌, nat_lt, codes, count_by, length, map, replicate, refl}
 use Rattle.std.specs.List.{list_all, range_with_len}
 use Rattle.std.proofs.Common.{zero, ◌<◌, ◌≤◌, ◌==◌, inl, inr, ap, ap₂, sym, ◌∙◌, subst, arith, lit<, lit≤}
@@ -123,11 +123,13 @@ small-is_last = refl
 pub fresh-first_slice : (slice (commands.Payment (payment_of 100)) 0 fresh).reply ≡ None
 fresh-first_slice = refl
 
-pub fresh-second_slice : (slice (commands.Payment (payment_of 100)) 1 (after_slices (commands.Payment (payment_of 100)) 1 fresh)).reply
+pub fresh-second_slice : (slice (commands.Payment (payment_of 100)) 1
+    (after_slices (commands.Payment (payment_of 100)) 1 fresh)).reply
     ≡ Some (accepted (commands.Payment (payment_of 100)) fresh).reply
 fresh-second_slice = refl
 
-pub fresh-both_slices : after_slices (commands.Payment (payment_of 100)) 2 fresh ≡ (accepted (commands.Payment (payment_of 100)) fresh).tables
+pub fresh-both_slices : after_slices (commands.Payment (payment_of 100)) 2 fresh
+    ≡ (accepted (commands.Payment (payment_of 100)) fresh).tables
 fresh-both_slices = refl
 
 -- how many frames there are
@@ -145,14 +147,16 @@ passes test (suc count) zero all there = (and_parts _ _ all).0
 passes test (suc count) (suc k) all there = passes (λ k. test (suc k)) count k (and_parts _ _ all).1 (omega arith)
 
 -- a frame behind the last stands in no table
-count_behind : (n f : ℕ) (frames : List ℕ) → list_all (λ frame. nat_lt frame n) frames ≡ true → n ≤ f → count_by (λ frame. frame == f) frames ≡ 0
+count_behind : (n f : ℕ) (frames : List ℕ) → list_all (λ frame. nat_lt frame n) frames ≡ true → n ≤ f
+    → count_by (λ frame. frame == f) frames ≡ 0
 count_behind n f [] all behind = refl
 count_behind n f (frame ∷ frames) all behind =
     let parts = and_parts (nat_lt frame n) (list_all (λ frame. nat_lt frame n) frames) all in
     let differs : (frame == f) ≡ false = grind (arith, nat_tests, parts.0, behind) in
     rw differs (count_behind n f frames parts.1 behind)
 
-times_behind : (n f : ℕ) (table : List (List ℕ)) → list_all (λ segment. list_all (λ frame. nat_lt frame n) segment) table ≡ true → n ≤ f → times f table ≡ 0
+times_behind : (n f : ℕ) (table : List (List ℕ))
+    → list_all (λ segment. list_all (λ frame. nat_lt frame n) segment) table ≡ true → n ≤ f → times f table ≡ 0
 times_behind n f [] all behind = refl
 times_behind n f (segment ∷ table) all behind =
     let Below : List ℕ → Bool = λ frames. list_all (λ frame. nat_lt frame n) frames in
@@ -161,14 +165,18 @@ times_behind n f (segment ∷ table) all behind =
     ∙ ap₂ ◌+◌ (count_behind n f segment parts.0 behind) (times_behind n f table parts.1 behind)
 
 none_of : (f : ℕ) → frame_count ≤ f → (times f live_table ≡ 0) × (times f snapshot_table ≡ 0)
-none_of f behind = (times_behind frame_count f live_table refl behind, times_behind frame_count f snapshot_table refl behind)
+none_of f behind =
+    (times_behind frame_count f live_table refl behind, times_behind frame_count f snapshot_table refl behind)
 
 counts : CountsAreExact small.space
 counts f = elim (cases_lt f frame_count) [
-  | inl there ↦ eqb-true _ _ (passes (λ f. count_of small.space.frames f == count_by (maps f) (live_table ∷ snapshot_table ∷ [])) frame_count f refl there)
+  | inl there ↦ eqb-true _ _ (passes
+      (λ f. count_of small.space.frames f == count_by (maps f)
+      (live_table ∷ snapshot_table ∷ [])) frame_count f refl there)
   | inr behind ↦
       let none = none_of f behind in
-      ap (λ (frame : Frame). frame.count) (get_or_past small.space.frames.frames f empty_frame behind) ∙ sym (rw (none.0, none.1) refl)
+      ap (λ (frame : Frame). frame.count) (get_or_past small.space.frames.frames f empty_frame behind) ∙ sym
+      (rw (none.0, none.1) refl)
 ]
 
 once : NoFrameTwice small.space
@@ -176,8 +184,10 @@ once f =
     let Once : List (List ℕ) → Type 0 = λ table. times f table ≤ 1 in
     let each : Once live_table × Once snapshot_table = elim (cases_lt f frame_count) [
       | inl there ↦
-          let live : nat_lt (times f live_table) 2 ≡ true = passes (λ f. nat_lt (times f live_table) 2) frame_count f refl there in
-          let shared : nat_lt (times f snapshot_table) 2 ≡ true = passes (λ f. nat_lt (times f snapshot_table) 2) frame_count f refl there in
+          let live : nat_lt (times f live_table) 2 ≡ true =
+          passes (λ f. nat_lt (times f live_table) 2) frame_count f refl there in
+          let shared : nat_lt (times f snapshot_table) 2 ≡ true =
+          passes (λ f. nat_lt (times f snapshot_table) 2) frame_count f refl there in
           (grind (arith, nat_tests, live), grind (arith, nat_tests, shared))
       | inr behind ↦ let none = none_of f behind in (omega (arith, none.0), omega (arith, none.1))
     ] in
@@ -191,14 +201,16 @@ abbrev pub pages_before : List (List (List ℕ))
 pages_before = (page_of_count ∷ page_of_row before ∷ []) ∷ replicate empty_tables (page_of_zeros ∷ [])
 
 spelled : Spells 32 pages_before (rows_now small)
-spelled = record { whole = record { all_segments = refl; slots = slots }; rows = refl }
+spelled = record { whole = record { all_segments = lit≤ tt; slots = slots }; rows = refl }
   where
     slots : (segment row_bytes : ℕ) → IsTable segment row_bytes → HasSlots 32 row_bytes (list_at pages_before segment)
-    slots zero row_bytes table = subst (λ width. HasSlots 32 width (list_at pages_before 0)) (width_is table) (record { first = lit< tt; slots = lit≤ tt })
+    slots zero row_bytes table = subst (λ width. HasSlots 32 width (list_at pages_before 0)) (width_is table)
+        (record { first = lit< tt; slots = lit≤ tt })
     slots (suc segment) row_bytes table =
         let there : segment < empty_tables = omega (arith, segment_there (suc segment) row_bytes table) in
         let none : used_slots (page_of_zeros ∷ []) ≡ 0 = refl in
-        subst (HasSlots 32 row_bytes) (sym (get_or-replicate empty_tables segment (page_of_zeros ∷ []) [] there)) (record { first = lit< tt; slots = omega (arith, none) })
+        subst (HasSlots 32 row_bytes) (sym (get_or-replicate empty_tables segment (page_of_zeros ∷ []) [] there))
+        (record { first = lit< tt; slots = omega (arith, none) })
 
 -- the headline holds of it
 pub small-headline : Headline 32 small

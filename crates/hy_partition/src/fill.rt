@@ -66,8 +66,10 @@ fn push_all<R: Row, const N: usize>(space: &mut Space<N>, rows: &[R]) -> Result<
 fn push_row<R: Row, const N: usize>(space: &mut Space<N>, row: &R) -> Result<(), Shortage>
     requires { HasTables N (owner_bytes space.old) }
     ensures tables { OnOk result (HasTables N (owner_bytes space.new)) }
-    ensures rows { OnOk result (rows_of N R.BYTES R.row_of_bytes (owner_pages space.new R.SEGMENT) ≡ rows_of N R.BYTES R.row_of_bytes (owner_pages space.old R.SEGMENT) ++ row.now ∷ []) }
-    ensures others { OnOk result (KeepsOtherSegments (owner_bytes space.old) (owner_bytes space.new) R.SEGMENT) }
+    ensures rows { OnOk result (rows_of N R.BYTES R.row_of_bytes (owner_pages space.new R.SEGMENT)
+        ≡ rows_of N R.BYTES R.row_of_bytes (owner_pages space.old R.SEGMENT) ++ row.now ∷ []) }
+    ensures others { OnOk result (KeepsOtherSegments (owner_bytes space.old)
+        (owner_bytes space.new) R.SEGMENT) }
     ensures stays { OnOk result (StaysOpen space.old space.new) }
 {
     make_place::<R, N>(space)?;
@@ -78,9 +80,12 @@ fn push_row<R: Row, const N: usize>(space: &mut Space<N>, row: &R) -> Result<(),
 fn make_place<R: Row, const N: usize>(space: &mut Space<N>) -> Result<(), Shortage>
     requires { HasTables N (owner_bytes space.old) }
     ensures tables { OnOk result (HasTables N (owner_bytes space.new)) }
-    ensures place { OnOk result (slot_page N R.BYTES (used_slots (owner_pages space.new R.SEGMENT)) < length (owner_pages space.new R.SEGMENT)) }
-    ensures rows { OnOk result (rows_of N R.BYTES R.row_of_bytes (owner_pages space.new R.SEGMENT) ≡ rows_of N R.BYTES R.row_of_bytes (owner_pages space.old R.SEGMENT)) }
-    ensures others { OnOk result (KeepsOtherSegments (owner_bytes space.old) (owner_bytes space.new) R.SEGMENT) }
+    ensures place { OnOk result (slot_page N R.BYTES (used_slots (owner_pages space.new R.SEGMENT))
+        < length (owner_pages space.new R.SEGMENT)) }
+    ensures rows { OnOk result (rows_of N R.BYTES R.row_of_bytes (owner_pages space.new R.SEGMENT)
+        ≡ rows_of N R.BYTES R.row_of_bytes (owner_pages space.old R.SEGMENT)) }
+    ensures others { OnOk result (KeepsOtherSegments (owner_bytes space.old)
+        (owner_bytes space.new) R.SEGMENT) }
     ensures stays { OnOk result (StaysOpen space.old space.new) }
 {
     space.sound();
@@ -95,10 +100,13 @@ fn make_place<R: Row, const N: usize>(space: &mut Space<N>) -> Result<(), Shorta
 /// Fills the slot behind the used ones, whose page is there, and counts it.
 fn fill_place<R: Row, const N: usize>(space: &mut Space<N>, row: &R) -> Result<(), Shortage>
     requires tables { HasTables N (owner_bytes space.old) }
-    requires place { slot_page N R.BYTES (used_slots (owner_pages space.old R.SEGMENT)) < length (owner_pages space.old R.SEGMENT) }
+    requires place { slot_page N R.BYTES (used_slots (owner_pages space.old R.SEGMENT))
+        < length (owner_pages space.old R.SEGMENT) }
     ensures tables { OnOk result (HasTables N (owner_bytes space.new)) }
-    ensures rows { OnOk result (rows_of N R.BYTES R.row_of_bytes (owner_pages space.new R.SEGMENT) ≡ rows_of N R.BYTES R.row_of_bytes (owner_pages space.old R.SEGMENT) ++ row.now ∷ []) }
-    ensures others { OnOk result (KeepsOtherSegments (owner_bytes space.old) (owner_bytes space.new) R.SEGMENT) }
+    ensures rows { OnOk result (rows_of N R.BYTES R.row_of_bytes (owner_pages space.new R.SEGMENT)
+        ≡ rows_of N R.BYTES R.row_of_bytes (owner_pages space.old R.SEGMENT) ++ row.now ∷ []) }
+    ensures others { OnOk result (KeepsOtherSegments (owner_bytes space.old)
+        (owner_bytes space.new) R.SEGMENT) }
     ensures stays { OnOk result (StaysOpen space.old space.new) }
 {
     space.sound();
@@ -107,7 +115,6 @@ fn fill_place<R: Row, const N: usize>(space: &mut Space<N>, row: &R) -> Result<(
     let mut bytes = SlotBytes::new();
     bytes.push(1);
     row.encode(&mut bytes);
-    let _pages = space.pages(R::SEGMENT);
     space.write(
         R::SEGMENT,
         place.page as u32,

@@ -72,7 +72,8 @@ impl<const N: usize> Partition<N> {
         requires first { 1 ≤ warehouse }
         requires last { warehouse ≤ length load.now.warehouses }
         ensures begins { IfOk result (Begins load.now warehouse max_frames max_kept) }
-        ensures refused { IfErr result (λ refusal. (refusal ≡ Refusal.NoMemory) ⊎ (refusal ≡ Refusal.NoFrame)) }
+        ensures refused { IfErr result
+            (λ refusal. (refusal ≡ Refusal.NoMemory) ⊎ (refusal ≡ Refusal.NoFrame)) }
     {
         load.sound();
         let loaded = load.tables().of_warehouse(alloc, warehouse)?;
@@ -103,13 +104,16 @@ impl<const N: usize> Partition<N> {
         self.space.sound();
     }
 
-    /// Begins a job, and makes room for its commit. A refusal gives the job back and changes nothing. It is the first of
-    /// these that holds: E9 where a job runs or its answer wasn't taken; E8, E4, E5, E6 of the command; E3 where as many
-    /// commits are kept as may be; E1.
+    /// Begins a job, and makes room for its commit. A refusal gives the job back and changes nothing. It is the first
+    /// of these that holds: E9 where a job runs or its answer wasn't taken; E8, E4, E5, E6 of the command; E3 where as
+    /// many commits are kept as may be; E1.
     pub fn begin(&mut self, job: Job) -> Result<(), (Job, Refusal)>
-        ensures begun { OnOk result (self.new ≡ record self.old { running = Some (record { command = job.command; slices = 0 }) }) }
+        ensures begun { OnOk result (self.new
+            ≡ record self.old { running = Some (record { command = job.command; slices = 0 }) }) }
         ensures accepted { OnOk result (begin_refusal self.old job.command ≡ None) }
-        ensures refused { IfErr result (λ refused. (begin_refusal self.old job.command ≡ Some refused.1) ⊎ ((begin_refusal self.old job.command ≡ None) × (refused.1 ≡ Refusal.NoMemory))) }
+        ensures refused { IfErr result
+            (λ refused. (begin_refusal self.old job.command ≡ Some refused.1)
+            ⊎ ((begin_refusal self.old job.command ≡ None) × (refused.1 ≡ Refusal.NoMemory))) }
         ensures back { IfErr result (λ refused. refused.0 ≡ job) }
         ensures err { OnErr result (self.new ≡ self.old) }
     {
@@ -131,10 +135,11 @@ impl<const N: usize> Partition<N> {
         Ok(())
     }
 
-    /// Does one slice of the job that runs. The last one accepts the command; a slice that is refused for want of memory or
-    /// of a frame undoes what was done. In both cases the reply waits to be taken. E10 where nothing runs.
+    /// Does one slice of the job that runs. The last one accepts the command; a slice that is refused for want of
+    /// memory or of a frame undoes what was done. In both cases the reply waits to be taken. E10 where nothing runs.
     pub fn step(&mut self) -> Result<Progress, Refusal>
-        ensures { MatchOption self.old.running ((result ≡ Err Refusal.NotRunning) × (self.new ≡ self.old)) (λ job. IsOkAnd result (StepsTo job self.old self.new)) }
+        ensures { MatchOption self.old.running ((result ≡ Err Refusal.NotRunning) × (self.new ≡ self.old))
+            (λ job. IsOkAnd result (StepsTo job self.old self.new)) }
     {
         let Some(running) = self.running else {
             return Err(Refusal::NotRunning);
@@ -162,7 +167,9 @@ impl<const N: usize> Partition<N> {
 
     /// Steps until nothing runs.
     pub fn finish_running(&mut self)
-        ensures { MatchOption self.old.running (self.new ≡ self.old) (λ job. Accepts (all_writes job.command) job.command self.old self.new ⊎ Refuses (all_writes job.command) self.old self.new) }
+        ensures { MatchOption self.old.running (self.new ≡ self.old)
+            (λ job. Accepts (all_writes job.command) job.command self.old self.new
+            ⊎ Refuses (all_writes job.command) self.old self.new) }
     {
         while self.running.is_some() {
             let _progress = self.step();
@@ -177,12 +184,14 @@ impl<const N: usize> Partition<N> {
         self.finished.take()
     }
 
-    /// A snapshot of the rows after all kept commits. Where a job runs, the snapshot has it undone, and takes a frame for
-    /// each page that the job has touched. E2 exactly where fewer frames are free than that; else E1.
+    /// A snapshot of the rows after all kept commits. Where a job runs, the snapshot has it undone, and takes a frame
+    /// for each page that the job has touched. E2 exactly where fewer frames are free than that; else E1.
     pub fn fork(&mut self) -> Result<Snapshot<N>, Refusal>
         ensures forks { IfOk result (Forks N self.old self.new) }
-        ensures no_frame { result ≡ Err Refusal.NoFrame ↔ (free_of self.old.space.frames < touched self.old.undo) }
-        ensures refused { IfErr result (λ refusal. (refusal ≡ Refusal.NoFrame) ⊎ (refusal ≡ Refusal.NoMemory)) }
+        ensures no_frame { result ≡ Err Refusal.NoFrame
+            ↔ (free_of self.old.space.frames < touched self.old.undo) }
+        ensures refused { IfErr result
+            (λ refusal. (refusal ≡ Refusal.NoFrame) ⊎ (refusal ≡ Refusal.NoMemory)) }
         ensures err { OnErr result (StaysUnforked self.old self.new) }
     {
         self.space.sound();
@@ -215,13 +224,15 @@ impl<const N: usize> Partition<N> {
         let _commits = snapshot.commits();
     }
 
-    /// Closes a snapshot of this partition: the frames that only it had are free again. E11 where the snapshot is another
-    /// warehouse's, which comes back. Takes no memory.
+    /// Closes a snapshot of this partition: the frames that only it had are free again. E11 where the snapshot is
+    /// another warehouse's, which comes back. Takes no memory.
     pub fn close(&mut self, snapshot: Snapshot<N>) -> Result<(), (Snapshot<N>, Refusal)>
-        requires { snapshot.warehouse ≡ self.old.warehouse → commits_of self.old snapshot.child ≡ Some snapshot.commits }
+        requires { snapshot.warehouse ≡ self.old.warehouse
+            → commits_of self.old snapshot.child ≡ Some snapshot.commits }
         ensures mine { IsOk result ↔ (snapshot.entry.warehouse ≡ self.old.warehouse) }
         ensures closes { OnOk result (Closes self.old self.new snapshot.entry.child) }
-        ensures refused { IfErr result (λ refused. (refused.0 ≡ snapshot.entry) × (refused.1 ≡ Refusal.NotMine)) }
+        ensures refused { IfErr result
+            (λ refused. (refused.0 ≡ snapshot.entry) × (refused.1 ≡ Refusal.NotMine)) }
         ensures err { OnErr result (self.new ≡ self.old) }
     {
         if snapshot.warehouse() != self.warehouse {
@@ -262,7 +273,6 @@ impl<const N: usize> Partition<N> {
         ensures touched { result ≡ touched self.now.undo }
         ensures undo_log { IsUndoLog N self.now.space self.now.undo }
     {
-        let _space = &self.space;
         self.undo.touched()
     }
 
@@ -280,7 +290,8 @@ impl<const N: usize> Partition<N> {
         self.space.shared()
     }
 
-    /// Sets how many frames may be in use. E8 exactly where `max` isn't 1 to 10,000,000 or is less than the frames in use.
+    /// Sets how many frames may be in use. E8 exactly where `max` isn't 1 to 10,000,000 or is less than the frames in
+    /// use.
     pub fn set_max(&mut self, max: u64) -> Result<(), Refusal>
         ensures range { IsOk result ↔ IsLimitFor self.old.space.frames max }
         ensures max { OnOk result (self.new.space.frames.max ≡ max) }
@@ -302,7 +313,8 @@ fn open_snapshot(snapshots: &mut Vec<Option<u64>>, child: u64, commits: u64)
     requires within { child ≤ length snapshots.old.items }
     requires room { length snapshots.old.items < vec_capacity snapshots.old }
     ensures opened { slice_index_or snapshots.new.items child None ≡ Some commits }
-    ensures others { (other : ℕ) → other ≢ child → slice_index_or snapshots.new.items other None ≡ slice_index_or snapshots.old.items other None }
+    ensures others { (other : ℕ) → other ≢ child
+        → slice_index_or snapshots.new.items other None ≡ slice_index_or snapshots.old.items other None }
 {
     let place = child as usize;
     if place == snapshots.len() {

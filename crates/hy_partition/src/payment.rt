@@ -35,9 +35,11 @@ pub(crate) fn find_payer<const N: usize>(
 ) -> Result<u64, Refusal>
     requires tables { HasTables N (owner_bytes space.now) }
     requires in_range { is_payment_in_range payment.now ≡ true }
-    ensures found { IfOk result (IsCustomerSlot N (Command.Payment payment.now) (owner_pages space.now customer_segment)) }
+    ensures found { IfOk result (IsCustomerSlot N (Command.Payment payment.now)
+        (owner_pages space.now customer_segment)) }
     ensures accepted { OnOk result (payment_refusal warehouse payment.now (owner_rows N space.now) ≡ None) }
-    ensures refused { IfErr result (λ refusal. payment_refusal warehouse payment.now (owner_rows N space.now) ≡ Some refusal) }
+    ensures refused { IfErr result
+        (λ refusal. payment_refusal warehouse payment.now (owner_rows N space.now) ≡ Some refusal) }
 {
     let home = u64::from(warehouse);
     if payment.warehouse != home || payment.customer_warehouse != home {
@@ -86,7 +88,8 @@ pub(crate) fn pay_home<const N: usize>(
     requires amount { payment.now.amount ≤ max_payment }
     ensures tables { OnOk result (HasTables N (owner_bytes space.new)) }
     ensures rows { OnOk result (owner_rows N space.new ≡ home_paid payment.now (owner_rows N space.old)) }
-    ensures customers { OnOk result (owner_pages space.new customer_segment ≡ owner_pages space.old customer_segment) }
+    ensures customers { OnOk result
+        (owner_pages space.new customer_segment ≡ owner_pages space.old customer_segment) }
     ensures can_undo { CanUndo N 2 space.old space.new undo.old undo.new }
     ensures no_frame { result ≡ Err Shortage.NoFrame → IsOutOfFrames space.new }
 {
@@ -103,13 +106,15 @@ fn pay_warehouse<const N: usize>(
     requires tables { HasTables N (owner_bytes space.old) }
     requires undo_log { IsUndoLog N space.old undo.old }
     requires there { IsSome (find (is_warehouse payment.now.warehouse) (owner_rows N space.old).warehouses) }
-    requires grown { AllByRecursion (λ row. IsGrownMoney most_grown row.ytd) (owner_rows N space.old).warehouses }
+    requires grown { AllByRecursion (λ row. IsGrownMoney most_grown row.ytd)
+        (owner_rows N space.old).warehouses }
     requires amount { payment.now.amount ≤ max_payment }
     ensures tables { OnOk result (HasTables N (owner_bytes space.new)) }
     ensures rows { OnOk result (owner_rows N space.new ≡ record (owner_rows N space.old) {
       warehouses = with_changed (is_warehouse payment.now.warehouse) (warehouse_paid payment.now.amount) (owner_rows N space.old).warehouses;
     }) }
-    ensures customers { OnOk result (owner_pages space.new customer_segment ≡ owner_pages space.old customer_segment) }
+    ensures customers { OnOk result
+        (owner_pages space.new customer_segment ≡ owner_pages space.old customer_segment) }
     ensures can_undo { CanUndo N 1 space.old space.new undo.old undo.new }
     ensures no_frame { result ≡ Err Shortage.NoFrame → IsOutOfFrames space.new }
 {
@@ -126,14 +131,17 @@ fn pay_district<const N: usize>(
 ) -> Result<(), Shortage>
     requires tables { HasTables N (owner_bytes space.old) }
     requires undo_log { IsUndoLog N space.old undo.old }
-    requires there { IsSome (find (is_district payment.now.warehouse payment.now.district) (owner_rows N space.old).districts) }
-    requires grown { AllByRecursion (λ row. IsGrownMoney most_grown row.ytd) (owner_rows N space.old).districts }
+    requires there { IsSome (find (is_district payment.now.warehouse payment.now.district)
+        (owner_rows N space.old).districts) }
+    requires grown { AllByRecursion (λ row. IsGrownMoney most_grown row.ytd)
+        (owner_rows N space.old).districts }
     requires amount { payment.now.amount ≤ max_payment }
     ensures tables { OnOk result (HasTables N (owner_bytes space.new)) }
     ensures rows { OnOk result (owner_rows N space.new ≡ record (owner_rows N space.old) {
       districts = with_changed (is_district payment.now.warehouse payment.now.district) (district_paid payment.now.amount) (owner_rows N space.old).districts;
     }) }
-    ensures customers { OnOk result (owner_pages space.new customer_segment ≡ owner_pages space.old customer_segment) }
+    ensures customers { OnOk result
+        (owner_pages space.new customer_segment ≡ owner_pages space.old customer_segment) }
     ensures can_undo { CanUndo N 1 space.old space.new undo.old undo.new }
     ensures no_frame { result ≡ Err Shortage.NoFrame → IsOutOfFrames space.new }
 {
@@ -146,8 +154,8 @@ fn pay_district<const N: usize>(
     change(space, undo, found.slot, &row)
 }
 
-/// The second slice, for the customer in a slot: the balance falls by the amount, what was paid rises by it, and the number
-/// of payments by one. The reply has the customer's number, and the balance in cents.
+/// The second slice, for the customer in a slot: the balance falls by the amount, what was paid rises by it, and the
+/// number of payments by one. The reply has the customer's number, and the balance in cents.
 pub(crate) fn pay_customer<const N: usize>(
     space: &mut Space<N>,
     undo: &mut Undo<N>,
@@ -156,12 +164,14 @@ pub(crate) fn pay_customer<const N: usize>(
 ) -> Result<Reply, Shortage>
     requires tables { HasTables N (owner_bytes space.old) }
     requires undo_log { IsUndoLog N space.old undo.old }
-    requires payer { IsCustomerSlot N (Command.Payment payment.now) (owner_pages space.old customer_segment) slot }
+    requires payer { IsCustomerSlot N (Command.Payment payment.now)
+        (owner_pages space.old customer_segment) slot }
     requires grown { AllByRecursion (IsGrownCustomer most_grown) (owner_rows N space.old).customers }
     requires amount { payment.now.amount ≤ max_payment }
     ensures tables { OnOk result (HasTables N (owner_bytes space.new)) }
     ensures rows { OnOk result (owner_rows N space.new ≡ payer_paid payment.now (owner_rows N space.old)) }
-    ensures reply { IfOk result (λ reply. reply ≡ payment_reply payment.now (payer payment.now (owner_rows N space.old))) }
+    ensures reply { IfOk result (λ reply. reply
+        ≡ payment_reply payment.now (payer payment.now (owner_rows N space.old))) }
     ensures can_undo { CanUndo N 1 space.old space.new undo.old undo.new }
     ensures no_frame { result ≡ Err Shortage.NoFrame → IsOutOfFrames space.new }
 {

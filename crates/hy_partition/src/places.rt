@@ -66,7 +66,6 @@ pub(crate) fn used_of<R: Row, const N: usize>(space: &Space<N>) -> u64
     ensures small { result < 2 ^ 56 }
 {
     space.sound();
-    let _pages = space.pages(R::SEGMENT);
     space.read(R::SEGMENT, 0, 0, 8)
 }
 
@@ -81,7 +80,6 @@ pub(crate) fn place_in<R: Row, const N: usize>(space: &Space<N>, slot: u64) -> P
     ensures small { result.page < 2 ^ 32 }
 {
     space.sound();
-    let _pages = space.pages(R::SEGMENT);
     place_of(N, R::BYTES, slot)
 }
 
@@ -116,7 +114,8 @@ pub(crate) fn find_row<R: Keyed, const N: usize>(space: &Space<N>, key: &R::Key)
     ensures found { IfSome result (λ found. IsFirstMatch R.row_of_bytes (R.is_at key.now)
         (slot_at N R.BYTES (owner_pages space.now R.SEGMENT)) found.slot found.row) }
     ensures used { IfSome result (λ found. found.slot < used_slots (owner_pages space.now R.SEGMENT)) }
-    ensures row { IfSome result (λ found. find (R.is_at key.now) (R.rows_in (owner_rows N space.now)) ≡ Some found.row) }
+    ensures row { IfSome result (λ found. find (R.is_at key.now) (R.rows_in (owner_rows N space.now))
+        ≡ Some found.row) }
 {
     for slot in 0..used_of::<R, N>(space) {
         let Some(row) = row_in::<R, N>(space, slot) else {
@@ -157,7 +156,8 @@ pub(crate) fn change<R: Row, const N: usize>(
     ensures tables { OnOk result (HasTables N (owner_bytes space.new)) }
     ensures rows { OnOk result (ChangesRow N R.BYTES R.row_of_bytes R.rows_in R.with_rows
         (owner_pages space.old R.SEGMENT) (owner_rows N space.old) (owner_rows N space.new) slot row.now) }
-    ensures others { OnOk result (KeepsOtherSegments (owner_bytes space.old) (owner_bytes space.new) R.SEGMENT) }
+    ensures others { OnOk result (KeepsOtherSegments (owner_bytes space.old)
+        (owner_bytes space.new) R.SEGMENT) }
     ensures can_undo { CanUndo N 1 space.old space.new undo.old undo.new }
     ensures no_frame { result ≡ Err Shortage.NoFrame → IsOutOfFrames space.new }
 {

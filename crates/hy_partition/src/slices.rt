@@ -29,7 +29,8 @@ pub(crate) fn find_customer<const N: usize>(
     requires { HasTables N (owner_bytes space.now) }
     ensures found { IfOk result (IsCustomerSlot N command.now (owner_pages space.now customer_segment)) }
     ensures accepted { OnOk result (refusal_of warehouse command.now (owner_rows N space.now) ≡ None) }
-    ensures refused { IfErr result (λ refusal. refusal_of warehouse command.now (owner_rows N space.now) ≡ Some refusal) }
+    ensures refused { IfErr result
+        (λ refusal. refusal_of warehouse command.now (owner_rows N space.now) ≡ Some refusal) }
 {
     command.check()?;
     match command {
@@ -50,9 +51,11 @@ pub(crate) fn run_slice<const N: usize>(
     requires in_range { is_in_range running.now.command ≡ true }
     requires slices { running.now.slices < slice_count running.now.command }
     requires rows { HasRows running.now.command running.now.slices (owner_rows N space.old) }
-    requires customer { IsCustomerSlot N running.now.command (owner_pages space.old customer_segment) customer }
+    requires customer { IsCustomerSlot N running.now.command
+        (owner_pages space.old customer_segment) customer }
     ensures tables { OnOk result (HasTables N (owner_bytes space.new)) }
-    ensures slice { IfOk result (λ reply. slice running.now.command running.now.slices (owner_rows N space.old)
+    ensures slice { IfOk result (λ reply. slice running.now.command running.now.slices
+        (owner_rows N space.old)
         ≡ record { tables = owner_rows N space.new; reply = reply }) }
     ensures customer { IfOk result (λ reply. reply ≡ None
         → IsCustomerSlot N running.now.command (owner_pages space.new customer_segment) customer) }

@@ -10,8 +10,8 @@ use hy_schema::Row;
 use std::alloc::{AllocError, Global};
 use std::marker::Model;
 
-/// The rows of a warehouse after a number of its commits. It has a hold on its pages, so that no lock is needed to read it,
-/// and nothing changes it. It must be given back to its partition by `close`.
+/// The rows of a warehouse after a number of its commits. It has a hold on its pages, so that no lock is needed to
+/// read it, and nothing changes it. It must be given back to its partition by `close`.
 pub struct Snapshot<const N: usize> {
     warehouse: u8,
     child: u64,
@@ -45,7 +45,13 @@ impl<const N: usize> Snapshot<N> {
         pages: Vec<Vec<Hold<N>>>,
     ) -> Snapshot<N>
         requires { IsWhole N (map (λ segment. segment.items) pages.items) }
-        ensures { result ≡ record { warehouse = warehouse; child = child; commits = commits; bytes = map (λ segment. segment.items) pages.entry.items } }
+        ensures { result ≡ record {
+          warehouse = warehouse;
+          child = child;
+          commits = commits;
+          bytes = map
+              (λ segment. segment.items) pages.entry.items;
+        } }
     {
         Snapshot {
             warehouse,

@@ -54,7 +54,8 @@ HasAllDistricts warehouses rows = districts_per_warehouse * warehouses ≤ lengt
 
 abbrev pub HasAllCustomers : ℕ → List Customer → Type 0
 HasAllCustomers warehouses rows =
-    IsSomeAnd (row_before rows (length rows)) (λ row. (row.warehouse ≡ warehouses) × (row.district ≡ districts_per_warehouse))
+    IsSomeAnd (row_before rows (length rows))
+    (λ row. (row.warehouse ≡ warehouses) × (row.district ≡ districts_per_warehouse))
 
 -- each row is right at its place, and none is missing at the end
 pub record IsRight {Row : Type 0} (right : ℕ → Row → Type 0) (Whole : Type 0) (rows : List Row) : Type 0 where
@@ -67,7 +68,8 @@ pub record IsFirstFault {Row : Type 0} (right : ℕ → Row → Type 0) (Whole :
   pub before : (place : ℕ) → place + 1 < number → IfSome (slice_get rows place) (right place)
   pub counted : 0 < number
   pub fault :
-      MatchOption (slice_get rows (number - 1)) ((number ≡ length rows + 1) × ¬ Whole) (λ row. ¬ (right (number - 1) row))
+      MatchOption (slice_get rows (number - 1)) ((number ≡ length rows + 1) × ¬ Whole)
+      (λ row. ¬ (right (number - 1) row))
 
 -- each of the three lists is right
 abbrev pub AreWarehouses : Tables → Type 0
@@ -107,7 +109,8 @@ IsFault (faults.Row table.District number) tables =
     IsFirstFault (IsDistrictAt warehouses) (HasAllDistricts warehouses tables.districts) tables.districts number
 IsFault (faults.Row table.Customer number) tables =
     let warehouses = length tables.warehouses in
-    IsFirstFault (IsCustomerAt warehouses tables.customers) (HasAllCustomers warehouses tables.customers) tables.customers
+    IsFirstFault (IsCustomerAt warehouses tables.customers)
+    (HasAllCustomers warehouses tables.customers) tables.customers
     number
 IsFault (faults.Condition number) tables =
     ((number ≡ 1) × ¬ (Condition1 tables)) ⊎ ((number ≡ 12) × Condition1 tables × ¬ (Condition12 tables))

@@ -1,5 +1,5 @@
--- What the bytes of a row are, and which row bytes say. Numbers lie with their lowest byte first, signed ones in
--- eight bytes of two's complement, texts padded with zero bytes. The columns are those of TPC-C clause 1.3, in its order,
+-- What the bytes of a row are, and which row bytes say. Numbers lie with their lowest byte first, signed ones in eight
+-- bytes of two's complement, texts padded with zero bytes. The columns are those of TPC-C clause 1.3, in its order,
 -- without the ones that this database leaves out.
 use Rattle.std.specs.Prelude.{ℕ, ℤ, List, ◌++◌}
 use Rattle.std.specs.Int.{w64, cast_signed, cast_unsigned}
@@ -54,7 +54,8 @@ district_of bytes = record {
 -- CUSTOMER: 74 bytes
 abbrev pub customer_bytes : Customer → List ℕ
 customer_bytes row =
-    bytes_of 2 row.id ++ bytes_of 1 row.district ++ bytes_of 1 row.warehouse ++ padded 16 row.first ++ padded 2 row.middle
+    bytes_of 2 row.id ++ bytes_of 1 row.district ++ bytes_of 1 row.warehouse ++ padded 16 row.first
+    ++ padded 2 row.middle
     ++ padded 16 row.last ++ padded 2 row.credit ++ bytes_of 2 row.discount ++ signed_bytes row.balance
     ++ signed_bytes row.ytd_payment ++ bytes_of 8 row.payment_count ++ bytes_of 8 row.delivery_count
 

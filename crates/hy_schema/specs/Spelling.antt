@@ -1,5 +1,5 @@
 -- What the bytes of a page table say. The bytes are, for each segment, the list of its pages' bytes. Each table has
--- a segment. Page 0 of a segment begins with the number of used slots in eight bytes; the
+-- a segment, and others may follow them. Page 0 of a segment begins with the number of used slots in eight bytes; the
 -- slots lie on the pages from 1 on, from each page's first byte, and none across the end of a page. A slot is a mark,
 -- 1 for a live row and 0 for an erased one, and the bytes of the row.
 use Rattle.std.specs.Prelude.{◌≡◌, ℕ, ◌+◌, ◌-◌, ◌*◌, ◌/◌, ◌%◌, ◌<◌, ◌≤◌, ◌==◌, Bool, true, None, Some, find, List, [], ◌∷◌, ◌++◌, length, map, filter, drop, slice_get, slice_index, slice_index_or, zero, suc}
@@ -21,7 +21,7 @@ customer_segment = 2
 abbrev pub row_widths : List ℕ
 row_widths = 21 ∷ 26 ∷ 74 ∷ []
 
--- how many segments a page table has
+-- how many segments hold the tables; others may follow them
 abbrev pub segments : ℕ
 segments = length row_widths
 
@@ -53,7 +53,8 @@ used_slots pages = number_at (list_at pages 0) 0 8
 
 -- the bytes of slot k
 abbrev pub slot_at : ℕ → ℕ → List (List ℕ) → ℕ → List ℕ
-slot_at n row_bytes pages k = bytes_at (list_at pages (slot_page n row_bytes k)) (slot_offset n row_bytes k) (slot_width row_bytes)
+slot_at n row_bytes pages k =
+    bytes_at (list_at pages (slot_page n row_bytes k)) (slot_offset n row_bytes k) (slot_width row_bytes)
 
 -- the first items of a sequence, in order
 abbrev pub first_items : {Item : Type 0} → (ℕ → Item) → ℕ → List Item
@@ -91,7 +92,7 @@ tables_of n bytes = record {
 
 -- each table's segment is there, with its slots
 pub record HasTables (n : ℕ) (bytes : List (List (List ℕ))) : Type 0 where
-  pub all_segments : length bytes ≡ segments
+  pub all_segments : segments ≤ length bytes
   pub slots : (segment row_bytes : ℕ) → IsTable segment row_bytes → HasSlots n row_bytes (list_at bytes segment)
 
 -- the bytes of a page table, with pages of n bytes, spell these rows
@@ -100,7 +101,8 @@ pub record Spells (n : ℕ) (bytes : List (List (List ℕ))) (tables : Tables) :
   pub rows : tables_of n bytes ≡ tables
 
 -- slot k of a sequence of slots has a live row, and it is the first row that passes the test
-pub record IsFirstMatch {Row : Type 0} (row_of : List ℕ → Row) (test : Row → Bool) (slots : ℕ → List ℕ) (k : ℕ) (row : Row) : Type 0 where
+pub record IsFirstMatch {Row : Type 0} (row_of : List ℕ → Row) (test : Row → Bool) (slots : ℕ → List ℕ) (k : ℕ)
+    (row : Row) : Type 0 where
   pub live : is_live (slots k) ≡ true
   pub row_is : row_of (drop 1 (slots k)) ≡ row
   pub matches : test row ≡ true

@@ -71,7 +71,8 @@ customer_paid cents row = record row {
 abbrev pub paid : Payment → Tables → Tables
 paid payment tables = record tables {
   warehouses = with_changed (is_warehouse payment.warehouse) (warehouse_paid payment.amount) tables.warehouses;
-  districts = with_changed (is_district payment.warehouse payment.district) (district_paid payment.amount) tables.districts;
+  districts = with_changed (is_district payment.warehouse payment.district)
+      (district_paid payment.amount) tables.districts;
   customers = with_changed (is_payer payment) (customer_paid payment.amount) tables.customers;
 }
 

@@ -30,7 +30,8 @@ fresh_warehouse = record { id = 1; name = codes "W1"; tax = 500; ytd = pos 30_00
 
 -- a district of the fresh load, by its number and name
 abbrev pub fresh_district : ℕ → List ℕ → District
-fresh_district number name = record { id = number; warehouse = 1; name = name; tax = 100 * number; ytd = pos 3_000; next_order = 1 }
+fresh_district number name =
+    record { id = number; warehouse = 1; name = name; tax = 100 * number; ytd = pos 3_000; next_order = 1 }
 
 -- a customer of the fresh load, by district, number and names
 abbrev pub fresh_customer : ℕ → ℕ → List ℕ → List ℕ → Customer
@@ -89,7 +90,8 @@ fresh_customers-condition_12 (district ∷ districts) =
     let second = fresh_customer district 2 (codes "F0002") (codes "BARBAROUGHT") in
     let third = fresh_customer district 3 (codes "F0003") (codes "BARBARABLE") in
     All-append IsBalanced (fresh_customers district) (flat_map fresh_customers districts)
-    (All-cons IsBalanced first (second ∷ third ∷ []) refl (All-cons IsBalanced second (third ∷ []) refl (All-cons IsBalanced third [] refl (All-nil IsBalanced))))
+    (All-cons IsBalanced first (second ∷ third ∷ []) refl
+    (All-cons IsBalanced second (third ∷ []) refl (All-cons IsBalanced third [] refl (All-nil IsBalanced))))
     (fresh_customers-condition_12 districts)
 
 pub fresh-condition_12 : Condition12 fresh
@@ -164,7 +166,9 @@ least-districts = refl
 
 -- the customer's balance falls by it, the sum and the number of payments rise, and no other customer changes
 pub least-customers : paid_once.customers
-    ≡ record (fresh_customer 1 1 (codes "F0001") (codes "BARBARBAR")) { balance = negsuc 1_099; ytd_payment = pos 1_100; payment_count = 2 } ∷ drop 1 fresh.customers
+    ≡ record (fresh_customer 1 1 (codes "F0001") (codes "BARBARBAR"))
+    { balance = negsuc 1_099; ytd_payment = pos 1_100; payment_count = 2 }
+    ∷ drop 1 fresh.customers
 least-customers = refl
 
 -- 5,000.00 is the greatest payment
@@ -175,7 +179,9 @@ pub greatest-warehouses : paid_twice.warehouses ≡ record fresh_warehouse { ytd
 greatest-warehouses = refl
 
 -- the two payments as a list of commits
-pub replay-payments : replay 1 fresh (commits.Local (commands.Payment (payment_of 100)) ∷ commits.Local (commands.Payment (payment_of 500_000)) ∷ []) ≡ paid_twice
+pub replay-payments : replay 1 fresh
+    (commits.Local (commands.Payment (payment_of 100)) ∷ commits.Local (commands.Payment (payment_of 500_000)) ∷ [])
+    ≡ paid_twice
 replay-payments = refl
 
 -- condition 1 after them: 5,301.00 at the warehouse and at its districts together
@@ -214,7 +220,8 @@ elsewhere-districts = refl
 -- and in CUSTOMER the eighth row changes, that of the customer who paid
 pub elsewhere-customers : paid_elsewhere.tables.customers
     ≡ take 7 fresh.customers
-    ++ record (fresh_customer 3 2 (codes "F0002") (codes "BARBAROUGHT")) { balance = negsuc 1_099; ytd_payment = pos 1_100; payment_count = 2 }
+    ++ record (fresh_customer 3 2 (codes "F0002") (codes "BARBAROUGHT"))
+    { balance = negsuc 1_099; ytd_payment = pos 1_100; payment_count = 2 }
     ∷ drop 8 fresh.customers
 elsewhere-customers = refl
 
@@ -338,9 +345,9 @@ segment-rows = refl
 abbrev pub empty_segment : List (List ℕ)
 empty_segment = replicate 64 0 ∷ []
 
--- the page table of the first and of one without rows for each other table
+-- the page table of the first, of one without rows for each other table, and of one that is no table's
 abbrev pub small_table : List (List (List ℕ))
-small_table = small_segment ∷ replicate (segments - 1) empty_segment
+small_table = small_segment ∷ replicate segments empty_segment
 
 empty-slots : (row_bytes : ℕ) → HasSlots 64 row_bytes empty_segment
 empty-slots row_bytes =
@@ -355,9 +362,11 @@ pub small-slots : (segment row_bytes : ℕ) → IsTable segment row_bytes
 small-slots zero row_bytes table =
     subst (λ width. HasSlots 64 width small_segment) (width_is table) (record { first = lit< tt; slots = lit≤ tt })
 small-slots (suc segment) row_bytes table =
-    let there : segment < segments - 1 = omega (arith, segment_there (suc segment) row_bytes table) in
-    subst (HasSlots 64 row_bytes) (sym (get_or-replicate (segments - 1) segment empty_segment [] there)) (empty-slots row_bytes)
+    let there : segment < segments = omega (arith, segment_there (suc segment) row_bytes table) in
+    subst (HasSlots 64 row_bytes) (sym (get_or-replicate segments segment empty_segment [] there))
+    (empty-slots row_bytes)
 
 -- it spells the two rows
-pub small-spelled : Spells 64 small_table (record no_rows { warehouses = fresh_warehouse ∷ record fresh_warehouse { ytd = pos 30_100 } ∷ [] })
-small-spelled = record { whole = record { all_segments = refl; slots = small-slots }; rows = refl }
+pub small-spelled : Spells 64 small_table
+    (record no_rows { warehouses = fresh_warehouse ∷ record fresh_warehouse { ytd = pos 30_100 } ∷ [] })
+small-spelled = record { whole = record { all_segments = lit≤ tt; slots = small-slots }; rows = refl }

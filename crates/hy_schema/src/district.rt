@@ -115,7 +115,8 @@ impl District {
 
     /// Whether D_ID and D_W_ID are in range.
     fn has_key_in_range(&self) -> bool
-        ensures { IsTrue result ↔ (IsBetween 1 districts_per_warehouse self.now.id × IsBetween 1 max_warehouses self.now.warehouse) }
+        ensures { IsTrue result ↔ (IsBetween 1 districts_per_warehouse self.now.id
+            × IsBetween 1 max_warehouses self.now.warehouse) }
     {
         (1..=DISTRICTS_PER_WAREHOUSE).contains(&self.id)
             && (1..=MAX_WAREHOUSES).contains(&self.warehouse)

@@ -106,7 +106,8 @@ impl Load {
     /// No two rows of a table have the same key, in a load and in what a list of commits makes of a warehouse of it.
     pub fn keys_are_unique(&self)
         ensures loaded { HasUniqueKeys self.now }
-        ensures kept { (warehouse : ℕ) (commits : List Commit) → IsBetween 1 (length self.now.warehouses) warehouse
+        ensures kept { (warehouse : ℕ) (commits : List Commit)
+            → IsBetween 1 (length self.now.warehouses) warehouse
             → HasUniqueKeys (replay warehouse (of_warehouse warehouse self.now) commits) }
     {
         self.sound();
@@ -146,7 +147,8 @@ fn is_warehouse_at(place: usize, row: &Warehouse) -> bool
 /// The number of the first wrong row of DISTRICT, if there is one.
 fn fault_in_districts(warehouses: usize, rows: &[District]) -> Option<u64>
     requires { warehouses ≤ max_warehouses }
-    ensures none { IfNone result (IsRight (IsDistrictAt warehouses) (HasAllDistricts warehouses rows.now) rows.now) }
+    ensures none { IfNone result (IsRight (IsDistrictAt warehouses)
+        (HasAllDistricts warehouses rows.now) rows.now) }
     ensures fault { IfSome result
         (IsFirstFault (IsDistrictAt warehouses) (HasAllDistricts warehouses rows.now) rows.now) }
 {

@@ -9,7 +9,7 @@ ghost use Rattle.hy_schema.specs.declared.codec.TheConstants.{MAX_SLOT_BYTES};
 use crate::codec::SlotBytes;
 use crate::tables::Tables;
 
-/// How many segments a page table has: one for each table.
+/// How many segments hold the tables, one each; others may follow them.
 pub const SEGMENTS: u32 = 3;
 
 /// A row of a table: how it lies in the slots of its segment, and where lists of all tables have it.
@@ -79,7 +79,8 @@ pub trait Row: Copy {
         ≡ rows_of_pages n BYTES row_of_bytes (list_at bytes SEGMENT) };
 
     /// Where this segment has other pages, this table has their rows, and the other tables stay.
-    ghost respelled: { (n : ℕ) (bytes : List (List (List ℕ))) (pages : List (List ℕ)) → length bytes ≡ segments
+    ghost respelled: { (n : ℕ) (bytes : List (List (List ℕ))) (pages : List (List ℕ))
+        → segments ≤ length bytes
         → tables_of n (slice_set bytes SEGMENT pages)
         ≡ with_rows (tables_of n bytes) (rows_of_pages n BYTES row_of_bytes pages) };
 }

@@ -1,12 +1,15 @@
 -- What always holds of a space, in the words of its tables.
-use Rattle.std.proofs.Common.{◌≡◌, ℕ, zero, suc, ◌<◌, ◌≤◌, List, [], ◌∷◌, cond, ltb, length, get_or, map, refl, ap, arith, sum_by, count_by, All, Option, Some, None, option_to_list}
+use Rattle.std.proofs.Common.{◌≡◌, ℕ, zero, suc, ◌<◌, ◌≤◌, inl, inr, List, [], ◌∷◌, cond, ltb, length, get_or, map, refl, ap, arith, sum_by, count_by, All, Option, Some, None, option_to_list}
 use Rattle.std.specs.List.{flat_map}
+use Rattle.std.proofs.lemmas.Bool.{cases_lt}
+use Rattle.std.proofs.lemmas.List.{get_or_past}
 use Rattle.std.proofs.lemmas.List.Sums.{sum_by-cons}
 use Rattle.std.proofs.lemmas.List.Elements.{All-cons, All-nil}
 use Rattle.hy_frames.specs.FrameTable.{FrameTable, page_of, IsSoundTable, occurrences}
 use Rattle.hy_space.specs.Space.{SpaceState, times, maps, table_bytes, CountsAreExact, NoFrameTwice, HasPagesOf, IsSound}
 use Rattle.hy_space.specs.inside.Users.{IsCounted}
 use Rattle.hy_space.specs.Space.{child_times}
+use Rattle.hy_space.proofs.SizeLaws.{page_count-le}
 use Rattle.hy_space.proofs.UserLaws.{same_yes}
 use Rattle.hy_space.proofs.TableLaws.{occurrences-cons, times-cons, child_in_sum}
 
@@ -69,6 +72,10 @@ IsSound-from page_size s counted sound =
       once = NoFrameTwice-from page_size s counted;
       pages = All-cons P s.owner (flat_map option_to_list s.children) (table_sized page_size s.frames s.owner (λ f more. sound.pages f (omega (arith, counted.exact f)))) (all_children P s.children (λ child table is. table_sized page_size s.frames table (λ f more. sound.pages f (omega (arith, counted.exact f, child_in_sum f s.children child, ap (child_times f) is)))));
       size = sound.size;
+      page_counts = λ segment. elim (cases_lt segment (length s.owner)) [
+        | inl there ↦ page_count-le page_size s segment counted there
+        | inr none ↦ omega (arith, ap length (get_or_past s.owner segment [] none))
+      ];
       within = sound.within;
       some = sound.some;
       limit = sound.limit;

@@ -77,8 +77,10 @@ pub record IsPrivate (s : SpaceState) (segment page : ℕ) : Type 0 where
 
 -- each page that was the owner's own is so still, and each that no hold had either
 pub record KeepsOwn (old new : SpaceState) : Type 0 where
-  pub own : (segment page : ℕ) → HasPage old segment page → HasPage new segment page → IsOwn old segment page → IsOwn new segment page
-  pub private : (segment page : ℕ) → HasPage old segment page → HasPage new segment page → IsPrivate old segment page → IsPrivate new segment page
+  pub own : (segment page : ℕ) → HasPage old segment page → HasPage new segment page → IsOwn old segment page
+      → IsOwn new segment page
+  pub private : (segment page : ℕ) → HasPage old segment page → HasPage new segment page → IsPrivate old segment page
+      → IsPrivate new segment page
 
 -- a table with another frame at one place
 abbrev pub with_frame : List (List ℕ) → ℕ → ℕ → ℕ → List (List ℕ)
@@ -94,7 +96,8 @@ with_first_frames table segment count = slice_set table segment (take count (sli
 
 -- segments with other bytes in one page
 abbrev pub with_page : List (List (List ℕ)) → ℕ → ℕ → List ℕ → List (List (List ℕ))
-with_page segments segment page bytes = slice_set segments segment (slice_set (slice_index_or segments segment []) page bytes)
+with_page segments segment page bytes =
+    slice_set segments segment (slice_set (slice_index_or segments segment []) page bytes)
 
 -- segments with one more page at the end of one
 abbrev pub with_new_page : List (List (List ℕ)) → ℕ → List ℕ → List (List (List ℕ))
@@ -109,19 +112,26 @@ pub record SameForChildren (old new : SpaceState) : Type 0 where
   pub tables : new.children ≡ old.children
   pub bytes : (child : ℕ) → child_bytes new child ≡ child_bytes old child
 
--- the page's frame is a fresh one, which nothing had before; its frame from before has a user less, and is else the same
+-- the page's frame is a fresh one, which nothing had before; its frame from before has a user less, and is else the
+-- same
 pub record TakesFrame (old new : SpaceState) (segment page : ℕ) : Type 0 where
   pub unused : count_of old.frames (frame_no new segment page) ≡ 0
   pub table : new.owner ≡ with_frame old.owner segment page (frame_no new segment page)
-  pub left : frame_at new.frames (frame_no old segment page) ≡ record (frame_at old.frames (frame_no old segment page)) { count = count_of old.frames (frame_no old segment page) - 1 }
+  pub left : frame_at new.frames (frame_no old segment page)
+      ≡ record (frame_at old.frames (frame_no old segment page)) {
+        count = count_of old.frames (frame_no old segment page) - 1;
+      }
   pub free : free_of new.frames + 1 ≡ free_of old.frames
 
 -- no frame changes but those of one page, where it stood and where it stands; each page that was the owner's own is so
 -- still, and so is each other one that no hold had either
 pub record KeepsOthers (old new : SpaceState) (segment page : ℕ) : Type 0 where
-  pub frames : (f : ℕ) → f ≢ frame_no old segment page → f ≢ frame_no new segment page → frame_at new.frames f ≡ frame_at old.frames f
-  pub own : (segment' page' : ℕ) → HasPage old segment' page' → HasPage new segment' page' → IsOwn old segment' page' → IsOwn new segment' page'
-  pub private : (segment' page' : ℕ) → ¬ ((segment' ≡ segment) × (page' ≡ page)) → HasPage old segment' page' → HasPage new segment' page' → IsPrivate old segment' page' → IsPrivate new segment' page'
+  pub frames : (f : ℕ) → f ≢ frame_no old segment page → f ≢ frame_no new segment page
+      → frame_at new.frames f ≡ frame_at old.frames f
+  pub own : (segment' page' : ℕ) → HasPage old segment' page' → HasPage new segment' page' → IsOwn old segment' page'
+      → IsOwn new segment' page'
+  pub private : (segment' page' : ℕ) → ¬ ((segment' ≡ segment) × (page' ≡ page)) → HasPage old segment' page'
+      → HasPage new segment' page' → IsPrivate old segment' page' → IsPrivate new segment' page'
 
 -- the page is the owner's own afterwards: it stays where it is, or takes one fresh frame
 pub record MakesOwn (old new : SpaceState) (segment page : ℕ) : Type 0 where
@@ -132,13 +142,15 @@ pub record MakesOwn (old new : SpaceState) (segment page : ℕ) : Type 0 where
   pub children : SameForChildren old new
   pub limit : new.frames.max ≡ old.frames.max
 
--- the page is private afterwards: it stays where it is, or takes one fresh frame; no frame changes but those of this page
+-- the page is private afterwards: it stays where it is, or takes one fresh frame; no frame changes but those of this
+-- page
 pub record MakesPrivate (old new : SpaceState) (segment page : ℕ) : Type 0 where
   pub private : IsPrivate new segment page
   pub table : IsOwn old segment page → new.owner ≡ old.owner
   pub free : IsOwn old segment page → free_of new.frames ≡ free_of old.frames
   pub fresh : ¬ IsOwn old segment page → TakesFrame old new segment page
-  pub others : (f : ℕ) → f ≢ frame_no old segment page → f ≢ frame_no new segment page → frame_at new.frames f ≡ frame_at old.frames f
+  pub others : (f : ℕ) → f ≢ frame_no old segment page → f ≢ frame_no new segment page
+      → frame_at new.frames f ≡ frame_at old.frames f
   pub kept : KeepsOwn old new
   pub children : SameForChildren old new
   pub limit : new.frames.max ≡ old.frames.max
@@ -147,7 +159,8 @@ pub record MakesPrivate (old new : SpaceState) (segment page : ℕ) : Type 0 whe
 pub record WritesPage (old new : SpaceState) (segment page : ℕ) (content : List ℕ) (is_lent : Bool) : Type 0 where
   pub bytes : owner_bytes new ≡ with_page (owner_bytes old) segment page content
   pub table : new.owner ≡ old.owner
-  pub frame : Sets old.frames new.frames (frame_no old segment page) (record { count = 1; bytes = content; lent = is_lent })
+  pub frame : Sets old.frames new.frames (frame_no old segment page)
+      (record { count = 1; bytes = content; lent = is_lent })
   pub others : KeepsOthers old new segment page
   pub children : SameForChildren old new
   pub free : free_of new.frames ≡ free_of old.frames
@@ -159,7 +172,8 @@ pub record GrowsPage (page_size : ℕ) (old new : SpaceState) (segment page : �
   pub bytes : owner_bytes new ≡ with_new_page (owner_bytes old) segment (replicate page_size 0)
   pub table : new.owner ≡ with_new_frame old.owner segment (frame_no new segment page)
   pub unused : count_of old.frames (frame_no new segment page) ≡ 0
-  pub frame : Sets old.frames new.frames (frame_no new segment page) (record { count = 1; bytes = replicate page_size 0; lent = false })
+  pub frame : Sets old.frames new.frames (frame_no new segment page)
+      (record { count = 1; bytes = replicate page_size 0; lent = false })
   pub private : IsPrivate new segment page
   pub kept : KeepsOwn old new
   pub children : SameForChildren old new
@@ -190,7 +204,8 @@ pub record SameForOwner (old new : SpaceState) : Type 0 where
 -- the child is open, and its segment has this page
 abbrev pub HasChildPage : SpaceState → ℕ → ℕ → ℕ → Type 0
 HasChildPage s child segment page =
-    IsSomeAnd (child_table s child) (λ table. (segment < length table) × (page < length (slice_index_or table segment [])))
+    IsSomeAnd (child_table s child)
+    (λ table. (segment < length table) × (page < length (slice_index_or table segment [])))
 
 -- the frame of a page of a child
 abbrev pub child_frame_no : SpaceState → ℕ → ℕ → ℕ → ℕ
@@ -267,8 +282,11 @@ pub record ChangesBytesOf (old new : SpaceState) (child : ℕ) : Type 0 where
 
 -- a page of a child stands in another frame, and its user moved with it
 pub record MovesChildPage (old new : SpaceState) (child segment page : ℕ) : Type 0 where
-  pub table : child_table new child ≡ option_map (λ table. with_frame table segment page (child_frame_no new child segment page)) (child_table old child)
-  pub users : MovesUser old.frames new.frames (child_frame_no old child segment page) (child_frame_no new child segment page)
+  pub table : child_table new child
+      ≡ option_map (λ table. with_frame table segment page (child_frame_no new child segment page))
+      (child_table old child)
+  pub users : MovesUser old.frames new.frames (child_frame_no old child segment page)
+      (child_frame_no new child segment page)
 
 -- each page of a table has `page_size` bytes
 abbrev pub HasPagesOf : ℕ → List (List (List ℕ)) → Type 0
@@ -280,6 +298,7 @@ pub record IsSound (page_size : ℕ) (s : SpaceState) : Type 0 where
   pub once : NoFrameTwice s
   pub pages : All (λ table. HasPagesOf page_size (table_bytes s.frames table)) (tables s)
   pub size : IsPageSize page_size
+  pub page_counts : (segment : ℕ) → page_count s segment ≤ in_use s.frames
   pub within : in_use s.frames ≤ s.frames.max
   pub some : 1 ≤ s.frames.max
   pub limit : s.frames.max ≤ max_frames

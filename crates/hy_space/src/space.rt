@@ -103,8 +103,8 @@ impl<const N: usize> Space<N> {
         Ok(())
     }
 
-    /// Makes a page private: the owner's own, with bytes that no hold has. A page that a child sees too is copied into a
-    /// fresh frame; the owner's own page that a hold has is copied where it stands.
+    /// Makes a page private: the owner's own, with bytes that no hold has. A page that a child sees too is copied into
+    /// a fresh frame; the owner's own page that a hold has is copied where it stands.
     pub fn touch(&mut self, segment: u32, page: u32) -> Result<(), Shortage>
         requires { HasPage self.old segment page }
         ensures bytes { OnOk result (owner_bytes self.new ≡ owner_bytes self.old) }
@@ -177,7 +177,8 @@ impl<const N: usize> Space<N> {
         ensures bytes { IfOk result (λ child. child_bytes self.new child ≡ Some (owner_bytes self.old)) }
         ensures others { IfOk result (SameForOthers self.old self.new) }
         ensures owner { OnOk result (SameForOwner self.old self.new) }
-        ensures users { OnOk result (AddsUsers self.old.frames self.new.frames (λ f. times f self.old.owner)) }
+        ensures users { OnOk result (AddsUsers self.old.frames self.new.frames
+            (λ f. times f self.old.owner)) }
         ensures err { OnErr result (self.new ≡ self.old) }
     {
         let table = self.owner.try_clone(self.alloc)?;
@@ -193,7 +194,8 @@ impl<const N: usize> Space<N> {
         ensures closed { child_table self.new child ≡ None }
         ensures others { SameForOthers self.old self.new child }
         ensures owner { SameForOwner self.old self.new }
-        ensures users { DropsUsers self.old.frames self.new.frames (λ f. child_times f (child_table self.old child)) }
+        ensures users { DropsUsers self.old.frames self.new.frames
+            (λ f. child_times f (child_table self.old child)) }
         ensures kept { KeepsOwn self.old self.new }
     {
         match self.children[child as usize].take() {
@@ -338,7 +340,8 @@ impl<const N: usize> Space<N> {
             ≡ Some (map (λ segment. segment.items) holds.items)) }
         ensures lent { OnOk result ((f : ℕ) → 0 < child_times f (child_table self.old child)
             → lent_at self.new.frames f ≡ true) }
-        ensures lends { Lends self.old.frames self.new.frames (λ f. child_times f (child_table self.old child)) }
+        ensures lends { Lends self.old.frames self.new.frames
+            (λ f. child_times f (child_table self.old child)) }
         ensures unchanged { IsUnchanged self.old self.new }
         ensures kept { KeepsOwn self.old self.new }
     {

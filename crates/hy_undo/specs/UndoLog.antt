@@ -52,4 +52,9 @@ with_image log image = record { counts = log.counts; images = log.images ++ imag
 -- some bytes of a page of the owner, as they are now
 abbrev pub image_at : SpaceState → ℕ → ℕ → ℕ → ℕ → Image
 image_at s segment page offset count =
-    record { segment = segment; page = page; offset = offset; bytes = bytes_at (page_bytes s segment page) offset count }
+    record {
+      segment = segment;
+      page = page;
+      offset = offset;
+      bytes = bytes_at (page_bytes s segment page) offset count;
+    }

@@ -124,12 +124,13 @@ impl Images {
     pub(crate) fn image(&self, i: usize, end: usize) -> LastImage<'_>
         requires within { i < length self.now }
         requires end { end ≡ sum_by (λ image. length image.bytes) (take (i + 1) self.now) }
-        ensures { slice_index_or self.now i (record { segment = 0; page = 0; offset = 0; bytes = [] }) ≡ record {
-          segment = result.segment;
-          page = result.page;
-          offset = result.offset;
-          bytes = result.bytes.now;
-        } }
+        ensures { slice_index_or self.now i (record { segment = 0; page = 0; offset = 0; bytes = [] })
+            ≡ record {
+              segment = result.segment;
+              page = result.page;
+              offset = result.offset;
+              bytes = result.bytes.now;
+            } }
     {
         image_in(self.pieces.as_slice(), self.bytes.as_slice(), i, end)
     }
@@ -190,7 +191,8 @@ fn image_in<'a>(pieces: &[Piece], bytes: &'a [u8], i: usize, end: usize) -> Last
     requires within { i < length pieces.now }
     requires end { end ≡ byte_count (take (i + 1) pieces.now) }
     requires fits { byte_count pieces.now ≡ length bytes.now }
-    ensures { slice_index_or (images_of bytes.now pieces.now) i (record { segment = 0; page = 0; offset = 0; bytes = [] })
+    ensures { slice_index_or (images_of bytes.now pieces.now) i
+        (record { segment = 0; page = 0; offset = 0; bytes = [] })
         ≡ record {
           segment = result.segment;
           page = result.page;

@@ -23,7 +23,8 @@ use images::{Images, LastImage};
 use std::alloc::{AllocError, Global};
 use std::marker::Model;
 
-/// What the running transaction did to a space with pages of `N` bytes. One buffer serves one transaction after another.
+/// What the running transaction did to a space with pages of `N` bytes. One buffer serves one transaction after
+/// another.
 #[derive(Drop)]
 pub struct Undo<const N: usize> {
     counts: Vec<u32>,
@@ -57,8 +58,8 @@ impl<const N: usize> Undo<N> {
         })
     }
 
-    /// Writes bytes into the owner's page over those from `offset` on, and keeps those for an undo. Where the buffers have
-    /// room and the page is private, this needs no memory.
+    /// Writes bytes into the owner's page over those from `offset` on, and keeps those for an undo. Where the buffers
+    /// have room and the page is private, this needs no memory.
     pub fn write(
         &mut self,
         space: &mut Space<N>,
@@ -304,7 +305,8 @@ impl<const N: usize> Undo<N> {
         ensures shares { OnOk result ((segment : ℕ) → SharesGrown self.now.counts space.new child segment) }
         ensures split { OnOk result (AllSplit self.now space.new child) }
         ensures free { OnOk result (free_of space.new.frames + touched self.now ≡ free_of space.old.frames) }
-        ensures full_only_then { IsErrOf result Shortage.NoFrame → free_of space.old.frames < touched self.now }
+        ensures full_only_then { IsErrOf result Shortage.NoFrame
+            → free_of space.old.frames < touched self.now }
     {
         for i in 0..self.images.len() {
             if self.images.is_last_touched(i, self.counts.as_slice()) {
@@ -324,9 +326,11 @@ impl<const N: usize> Undo<N> {
         requires split { AllSplit self.now space.old child }
         ensures changes { ChangesChild space.old space.new child }
         ensures beside { IsBeside space.new child }
-        ensures bytes { child_pages space.new child ≡ first_pages self.now.counts (child_pages space.old child) }
+        ensures bytes { child_pages space.new child
+            ≡ first_pages self.now.counts (child_pages space.old child) }
         ensures short { (segment : ℕ) → segment < length self.now.counts
-            → length (slice_index_or (rows_of space.new child) segment []) ≡ slice_index self.now.counts segment }
+            → length (slice_index_or (rows_of space.new child) segment [])
+            ≡ slice_index self.now.counts segment }
         ensures split { AllSplit self.now space.new child }
         ensures apart { AllGrownApart self.now space.new child }
         ensures free { free_of space.new.frames ≡ free_of space.old.frames }

@@ -4,11 +4,13 @@ use Rattle.hy_frames.specs.FrameTable.{Frame, FrameTable, max_frames, empty_fram
 
 -- 1 at a number whose slot exists and is unused, else 0
 abbrev pub unused_at : List Frame → ℕ → ℕ
-unused_at slots f = if (slice_index_or slots f (record { count = 1; bytes = []; lent = false })).count == 0 then 1 else 0
+unused_at slots f =
+    if (slice_index_or slots f (record { count = 1; bytes = []; lent = false })).count == 0 then 1 else 0
 
--- the list names each unused slot once, has room for every slot, and the counters are right; there are no more spare pages
--- than unused slots, and there is room for one of every slot
-pub record IsSoundSlots (page_size : ℕ) (slots : FrameTable) (unused : List ℕ) (room shared spares spare_room : ℕ) : Type 0 where
+-- the list names each unused slot once, has room for every slot, and the counters are right; there are no more spare
+-- pages than unused slots, and there is room for one of every slot
+pub record IsSoundSlots (page_size : ℕ) (slots : FrameTable) (unused : List ℕ)
+    (room shared spares spare_room : ℕ) : Type 0 where
   pub table : IsSoundTable page_size slots
   pub each_once : (f : ℕ) → occurrences f unused ≡ unused_at slots.frames f
   pub partition : in_use slots + length unused ≡ length slots.frames

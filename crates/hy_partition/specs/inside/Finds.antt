@@ -10,7 +10,8 @@ use Rattle.hy_schema.specs.Tables.{Tables}
 use Rattle.hy_schema.specs.Transactions.{is_payer}
 
 -- a used slot of a segment has the first row that passes a test
-pub record IsSlotOf {Row : Type 0} (n row_bytes : ℕ) (row_of : List ℕ → Row) (test : Row → Bool) (pages : List (List ℕ)) (slot : ℕ) : Type 0 where
+pub record IsSlotOf {Row : Type 0} (n row_bytes : ℕ) (row_of : List ℕ → Row) (test : Row → Bool)
+    (pages : List (List ℕ)) (slot : ℕ) : Type 0 where
   pub used : slot < used_slots pages
   pub row : Row
   pub first : IsFirstMatch row_of test (slot_at n row_bytes pages) slot row

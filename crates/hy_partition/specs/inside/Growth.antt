@@ -1,4 +1,5 @@
--- How far the values of rows can grow past their loaded ranges with so many commits. So no stored number leaves its type.
+-- How far the values of rows can grow past their loaded ranges with so many commits. So no stored number leaves its
+-- type.
 use Rattle.std.specs.Prelude.{ℕ, ℤ, pos, ◌+◌, ◌*◌, ◌≤◌, ◌+ℤ◌, ◌≤ℤ◌}
 use Rattle.std.specs.List.{AllByRecursion}
 use Rattle.hy_schema.specs.declared.customer.Customer.{Customer}

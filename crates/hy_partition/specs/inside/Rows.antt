@@ -22,12 +22,13 @@ LiveRow row_of slot (Some row) = (is_live slot ≡ true) × (row_of (drop 1 slot
 abbrev pub KeepsOtherSegments : List (List (List ℕ)) → List (List (List ℕ)) → ℕ → Type 0
 KeepsOtherSegments old new segment = (other : ℕ) → other ≢ segment → list_at new other ≡ list_at old other
 
--- the row of a slot is replaced: where it was the first of its table that passes a test, that row is changed to the new one,
--- and no other row of any table
+-- the row of a slot is replaced: where it was the first of its table that passes a test, that row is changed to the
+-- new one, and no other row of any table
 abbrev pub ChangesRow : {Row : Type 0} → ℕ → ℕ → (List ℕ → Row) → (Tables → List Row) → (Tables → List Row → Tables)
     → List (List ℕ) → Tables → Tables → ℕ → Row → Type 0
 ChangesRow {Row} n row_bytes row_of rows_in with_rows pages old new slot row =
-    (test : Row → Bool) (step : Row → Row) (before : Row) → IsFirstMatch row_of test (slot_at n row_bytes pages) slot before
+    (test : Row → Bool) (step : Row → Row) (before : Row)
+    → IsFirstMatch row_of test (slot_at n row_bytes pages) slot before
     → row ≡ step before → new ≡ with_rows old (with_changed test step (rows_in old))
 
 -- no child comes or goes, and the limit of frames stays

@@ -18,10 +18,11 @@ use Rattle.hy_partition.specs.inside.Finds.{IsCustomerSlot}
 -- the rows are those of one warehouse of a load
 abbrev pub AreLoaded : ℕ → Tables → Type 0
 AreLoaded warehouse loaded =
-    (load : Tables) × IsLoad load × IsBetween 1 (length load.warehouses) warehouse × (loaded ≡ of_warehouse warehouse load)
+    (load : Tables) × IsLoad load × IsBetween 1 (length load.warehouses) warehouse
+    × (loaded ≡ of_warehouse warehouse load)
 
--- a job runs: the live pages spell the rows after its slices, its customer is in the slot that begin found, and its commit
--- has room
+-- a job runs: the live pages spell the rows after its slices, its customer is in the slot that begin found, and its
+-- commit has room
 pub record Runs (n places customer : ℕ) (p : PartitionState) (job : RunningJob) : Type 0 where
   pub no_reply : p.finished ≡ None
   pub accepted : refusal_of p.warehouse job.command (rows_now p) ≡ None

@@ -1,5 +1,5 @@
 -- A page table is known by its segments, one by one.
-use Rattle.std.specs.Prelude.{◌≡◌, ℕ, zero, suc, ◌<◌, Some, List, [], ◌∷◌, length, slice_get, refl}
+use Rattle.std.specs.Prelude.{◌≡◌, ℕ, zero, suc, ◌<◌, ◌≤◌, Some, List, [], ◌∷◌, ◌++◌, length, drop, slice_get, refl}
 use Rattle.std.proofs.Common.{ap, sym, subst, arith}
 use Rattle.hy_schema.specs.Spelling.{IsTable, list_at, row_widths, segments}
 
@@ -8,16 +8,17 @@ abbrev pub items : {Item : Type 0} → (ℕ → Item) → ℕ → List Item
 items item zero = []
 items item (suc count) = item 0 ∷ items (λ place. item (suc place)) count
 
--- a list of lists has those at its places
-same_places : (count : ℕ) (bytes : List (List (List ℕ))) → length bytes ≡ count → bytes ≡ items (list_at bytes) count
-same_places zero [] whole = refl
-same_places zero (segment ∷ bytes) whole = absurd (cc)
-same_places (suc count) [] whole = absurd (cc)
-same_places (suc count) (segment ∷ bytes) whole = ap (λ others. segment ∷ others) (same_places count bytes (cc))
+-- a list of lists has those at its places, and what follows them
+same_places : (count : ℕ) (bytes : List (List (List ℕ))) → count ≤ length bytes
+    → bytes ≡ items (list_at bytes) count ++ drop count bytes
+same_places zero bytes within = refl
+same_places (suc count) [] within = absurd (omega arith)
+same_places (suc count) (segment ∷ bytes) within =
+    ap (λ others. segment ∷ others) (same_places count bytes (omega (arith, within)))
 
--- what holds of the segments at their places holds of the page table
-pub by_places : (P : List (List (List ℕ)) → Type 0) (bytes : List (List (List ℕ))) → length bytes ≡ segments
-    → P (items (list_at bytes) segments) → P bytes
+-- what holds of the tables' segments at their places, and of any behind them, holds of the page table
+pub by_places : (P : List (List (List ℕ)) → Type 0) (bytes : List (List (List ℕ))) → segments ≤ length bytes
+    → P (items (list_at bytes) segments ++ drop segments bytes) → P bytes
 by_places P bytes whole holds = subst P (sym (same_places segments bytes whole)) holds
 
 -- a place of which there is an item

@@ -28,14 +28,16 @@ pub record IsBeside (s : SpaceState) (child : ℕ) : Type 0 where
 -- a segment of the child has as many pages as the owner's, and shares all behind the first ones
 pub record SharesGrown (counts : List ℕ) (s : SpaceState) (child segment : ℕ) : Type 0 where
   pub pages : length (slice_index_or (rows_of s child) segment []) ≡ page_count s segment
-  pub grown : drop (slice_index counts segment) (slice_index_or (rows_of s child) segment []) ≡ drop (slice_index counts segment) (slice_index_or s.owner segment [])
+  pub grown : drop (slice_index counts segment) (slice_index_or (rows_of s child) segment [])
+      ≡ drop (slice_index counts segment) (slice_index_or s.owner segment [])
 
--- only this child changes, each frame has as many users more as the child has it more often, and each that others use too
--- is lent as before
+-- only this child changes, each frame has as many users more as the child has it more often, and each that others use
+-- too is lent as before
 pub record ChangesChild (old new : SpaceState) (child : ℕ) : Type 0 where
   pub owner : SameForOwner old new
   pub others : SameForOthers old new child
-  pub counts : (f : ℕ) → count_of new.frames f + times f (rows_of old child) ≡ count_of old.frames f + times f (rows_of new child)
+  pub counts : (f : ℕ) → count_of new.frames f + times f (rows_of old child)
+      ≡ count_of old.frames f + times f (rows_of new child)
   pub lent : (f : ℕ) → times f (rows_of old child) < count_of old.frames f → lent_at new.frames f ≡ lent_at old.frames f
   pub limit : new.frames.max ≡ old.frames.max
 
@@ -51,11 +53,14 @@ pub record IsSplit (s : SpaceState) (child : ℕ) (place : PagePlace) : Type 0 w
 -- each page that the log touched is split
 abbrev pub AllSplit : UndoLog → SpaceState → ℕ → Type 0
 AllSplit log s child =
-    (place : PagePlace) → HasPage s place.segment place.page → was_there log.counts place ≡ true → list_any (is_same_place place) (places log.images) ≡ true → IsSplit s child place
+    (place : PagePlace) → HasPage s place.segment place.page → was_there log.counts place ≡ true
+    → list_any (is_same_place place) (places log.images) ≡ true → IsSplit s child place
 
 -- the child has no page that was grown
 abbrev pub AllGrownApart : UndoLog → SpaceState → ℕ → Type 0
-AllGrownApart log s child = (place : PagePlace) → HasPage s place.segment place.page → was_there log.counts place ≡ false → IsApart s child place
+AllGrownApart log s child =
+    (place : PagePlace) → HasPage s place.segment place.page → was_there log.counts place ≡ false
+    → IsApart s child place
 
 -- the pages that an open child sees
 abbrev pub child_pages : SpaceState → ℕ → List (List (List ℕ))
@@ -70,4 +75,5 @@ pub record IsWritableIn (n : ℕ) (counts : List ℕ) (s : SpaceState) (child : 
   pub segment : image.segment < length counts
   pub within : image.offset + length image.bytes ≤ n
   pub pages : length (slice_index_or (rows_of s child) image.segment []) ≡ slice_index counts image.segment
-  pub private : image.page < slice_index counts image.segment → (HasChildPage s child image.segment image.page) × (IsChildPrivate s child image.segment image.page)
+  pub private : image.page < slice_index counts image.segment
+      → (HasChildPage s child image.segment image.page) × (IsChildPrivate s child image.segment image.page)

@@ -1,12 +1,12 @@
 use Rattle.std.proofs.Common.{◌≡◌, ℕ, List, [], drop, Some, sym, ap, ◌∙◌, subst}
-use Rattle.std.specs.Prelude.{unwrap_or}
+use Rattle.std.specs.Prelude.{slice_index, unwrap_or}
 use Rattle.std.specs.List.{find}
 use Rattle.hy_schema.specs.declared.customer.Customer.{Customer}
 use Rattle.hy_schema.specs.declared.command.Command.TheVariants as commands
 use Rattle.hy_schema.specs.declared.command.Payment.{Payment}
 use Rattle.hy_schema.specs.declared.command.Reply.TheVariants as replies
 use Rattle.hy_schema.specs.Rows.{customer_of}
-use Rattle.hy_schema.specs.Spelling.{customer_segment, slot_at, used_slots}
+use Rattle.hy_schema.specs.Spelling.{customer_segment, row_widths, slot_at, used_slots}
 use Rattle.hy_schema.specs.Transactions.{customer_paid, is_payer, payment_reply}
 use Rattle.hy_schema.proofs.ChangedRows.{find-first_match}
 use Rattle.hy_space.specs.Space.{SpaceState}
@@ -18,10 +18,10 @@ use Rattle.hy_partition.proofs.payment.pay_customer.Goals as goal
 
 -- the slot has the row of the payer, who is there
 found : (n slot : ℕ) (payment : Payment) (space : SpaceState) → IsCustomerSlot n (commands.Payment payment) (owner_pages space customer_segment) slot
-    → (row : Customer) × (customer_of (drop 1 (slot_at n 74 (owner_pages space customer_segment) slot)) ≡ row) × (find (is_payer payment) (owner_rows n space).customers ≡ Some row)
+    → (row : Customer) × (customer_of (drop 1 (slot_at n (slice_index row_widths customer_segment) (owner_pages space customer_segment) slot)) ≡ row) × (find (is_payer payment) (owner_rows n space).customers ≡ Some row)
 found n slot payment space here =
     let pages : List (List ℕ) = owner_pages space customer_segment in
-    (here.row, here.first.row_is, find-first_match customer_of (is_payer payment) (slot_at n 74 pages) slot here.row here.first (used_slots pages) here.used)
+    (here.row, here.first.row_is, find-first_match customer_of (is_payer payment) (slot_at n (slice_index row_widths customer_segment) pages) slot here.row here.first (used_slots pages) here.used)
 
 pub customer_after-row-requires-clause-grown : goal.customer_after-row-requires-clause-grown
 customer_after-row-requires-clause-grown g c =

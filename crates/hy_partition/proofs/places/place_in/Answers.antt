@@ -6,7 +6,7 @@ use Rattle.hy_partition.proofs.places.place_in.Goals as goal
 
 pub place_of-requires-clause-number : goal.place_of-requires-clause-number
 place_of-requires-clause-number g c =
-    let few : page_count c.args.space.now g.R.Row.SEGMENT < 2 ^ 32 = omega (arith, c.pages-pages.type_inv, c.pages-pages.ensures, ap (page_count c.args.space.now) c.SEGMENT.ensures) in
+    let few : page_count c.args.space.now g.R.Row.SEGMENT < 2 ^ 32 = omega (arith, c.sound.ensures.page_counts g.R.Row.SEGMENT, c.sound.ensures.within, c.sound.ensures.limit) in
     omega (arith, used_slots-small g.row.N g.R.Row.SEGMENT g.R.Row.BYTES c.args.space.now c.sound.ensures.size.smallest g.met.R.Row.is_table c.requires.tables c.sound.ensures.size.largest few, c.requires.used)
 
 pub returns-clause-there : goal.returns-clause-there
@@ -17,4 +17,4 @@ returns-clause-there g c =
 
 pub returns-clause-small : goal.returns-clause-small
 returns-clause-small g c =
-    omega (arith, (returns-clause-there g c).1, c.pages-pages.type_inv, c.pages-pages.ensures, ap (page_count c.args.space.now) c.SEGMENT.ensures)
+    omega (arith, (returns-clause-there g c).1, c.sound.ensures.page_counts g.R.Row.SEGMENT, c.sound.ensures.within, c.sound.ensures.limit)
