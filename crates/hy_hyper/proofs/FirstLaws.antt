@@ -8,7 +8,7 @@ use Rattle.hy_schema.specs.declared.refusal.Refusal.TheVariants as refusals
 use Rattle.hy_schema.specs.declared.refusal.LoadFault.{LoadFault}
 use Rattle.hy_schema.specs.Loads.{HasFault, IsLoad}
 use Rattle.hy_schema.specs.Replay.{replay}
-use Rattle.hy_schema.specs.Tables.{Tables, of_warehouse}
+use Rattle.hy_rows.specs.Tables.{Tables, of_warehouse}
 use Rattle.hy_schema.specs.declared.command.Commit.TheVariants as commits
 use Rattle.hy_schema.specs.Transactions.{act, refusal_of}
 use Rattle.hy_partition.specs.Jobs.{DoneState, RunningJob}

@@ -1,13 +1,13 @@
 -- Laws of the generated rows.
 use Rattle.std.proofs.Common.{◌≡◌, ℕ, suc, ◌+◌, List, [], ◌∷◌, ◌++◌, Result, Ok, Err, IfOk, IsErrAnd, MatchResult, append_assoc, add-one, refl, ◌∙◌, inr, subst, ◌⊎◌}
-use Rattle.hy_schema.specs.declared.customer.Customer.{Customer}
-use Rattle.hy_schema.specs.declared.district.District.{District}
-use Rattle.hy_schema.specs.declared.warehouse.Warehouse.{Warehouse}
+use Rattle.hy_rows.specs.declared.customer.Customer.{Customer}
+use Rattle.hy_rows.specs.declared.district.District.{District}
+use Rattle.hy_rows.specs.declared.warehouse.Warehouse.{Warehouse}
 use Rattle.hy_schema.specs.declared.refusal.Refusal.{Refusal}
 use Rattle.hy_schema.specs.declared.refusal.Refusal.TheVariants as refusals
 use Rattle.hy_schema.specs.declared.refusal.LoadFault.{LoadFault}
 use Rattle.hy_schema.specs.Loads.{HasFault, IsLoad}
-use Rattle.hy_schema.specs.Tables.{Tables}
+use Rattle.hy_rows.specs.Tables.{Tables}
 use Rattle.hy_hyper.specs.Generated.{customers_up_to, generated, generated_district, generated_warehouse, rows_up_to}
 
 -- one more row

@@ -6,7 +6,7 @@ use Rattle.std.proofs.lemmas.Fmt.{decimal_by_steps, length-decimal-le}
 use Rattle.std.proofs.lemmas.List.{length-append}
 use Rattle.std.proofs.lemmas.List.Elements.{All-nil, All-cons, All-append}
 use Rattle.std.proofs.lemmas.List.Sums.{AllPass-from_list_all}
-use Rattle.hy_schema.specs.Texts.{IsText}
+use Rattle.hy_rows.specs.Texts.{IsText}
 use Rattle.hy_hyper.specs.Generated.{last_name, syllable, syllables}
 
 -- no byte is zero

@@ -6,13 +6,13 @@ use Rattle.hy_schema.specs.declared.command.Payment.{Payment}
 use Rattle.hy_schema.specs.declared.command.Who.TheVariants as who
 use Rattle.hy_schema.specs.Transactions.{act, refusal_of}
 use Rattle.hy_schema.specs.declared.command.Commit.TheVariants as commits
-use Rattle.hy_schema.specs.Tables.{Tables}
+use Rattle.hy_rows.specs.Tables.{Tables}
 use Rattle.hy_schema.specs.declared.refusal.Refusal.{Refusal}
 use Rattle.hy_schema.specs.declared.refusal.Refusal.TheVariants as refusals
 use Rattle.hy_partition.specs.Jobs.{RunningJob}
 use Rattle.hy_partition.specs.Slices.{slice_count}
 use Rattle.hy_partition.specs.Steps.{HasSnapshot, begin_refusal}
-use Rattle.hy_schema.specs.Spelling.{tables_of}
+use Rattle.hy_rows.specs.Spelling.{tables_of}
 use Rattle.hy_partition.specs.Partition.{PartitionState, rows_now}
 use Rattle.hy_partition.specs.Snapshots.{SnapshotState}
 use Rattle.hy_undo.specs.UndoLog.{empty_log}

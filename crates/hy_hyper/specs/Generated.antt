@@ -2,10 +2,10 @@
 use Rattle.std.specs.Prelude.{ℕ, pos, negsuc, ◌+◌, ◌-◌, ◌*◌, ◌/◌, ◌%◌, ◌==◌, if◌then◌else◌, zero, suc, List, [], ◌∷◌, ◌++◌, codes}
 use Rattle.std.specs.List.{slice_index_or}
 use Rattle.std.specs.Fmt.{decimal}
-use Rattle.hy_schema.specs.declared.warehouse.Warehouse.{Warehouse}
-use Rattle.hy_schema.specs.declared.district.District.{District}
-use Rattle.hy_schema.specs.declared.customer.Customer.{Customer}
-use Rattle.hy_schema.specs.Tables.{Tables}
+use Rattle.hy_rows.specs.declared.warehouse.Warehouse.{Warehouse}
+use Rattle.hy_rows.specs.declared.district.District.{District}
+use Rattle.hy_rows.specs.declared.customer.Customer.{Customer}
+use Rattle.hy_rows.specs.Tables.{Tables}
 
 -- the parts of a last name, one for each digit (TPC-C clause 4.3.2.3)
 abbrev pub syllables : List (List ℕ)

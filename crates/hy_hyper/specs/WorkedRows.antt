@@ -7,7 +7,7 @@ use Rattle.clap.proofs.OnLiterals.{clap_on_literals}
 use Rattle.clap.specs.declared.error.kind.ErrorKind.TheVariants as kind
 use Rattle.hy_schema.specs.declared.refusal.Refusal.TheVariants as refusals
 use Rattle.hy_schema.specs.Transactions.{refusal_of}
-use Rattle.hy_schema.specs.WorkedRows.{fresh}
+use Rattle.hy_rows.specs.WorkedRows.{fresh}
 use Rattle.hy_hyper.specs.declared.words.Line.TheVariants as line
 use Rattle.hy_hyper.specs.CommandLine.{Says, program_app}
 use Rattle.hy_hyper.specs.First.{IsYtdAfter, first_command}

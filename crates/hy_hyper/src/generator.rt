@@ -2,7 +2,7 @@
 
 ghost use Rattle.std.specs.Prelude.{◌≡◌, ◌⊎◌, ◌++◌, ◌∷◌, [], IfOk, OnOk, MatchResult};
 ghost use Rattle.std.specs.Fmt.{decimal};
-ghost use Rattle.hy_schema.specs.Texts.{IsText};
+ghost use Rattle.hy_rows.specs.Texts.{IsText};
 ghost use Rattle.hy_schema.specs.Loads.{HasFault};
 ghost use Rattle.hy_hyper.specs.Generated.{credit as credit_of, customers_of_district, customers_up_to, digit as digit_of, generated, generated_customer, generated_district, generated_warehouse, last_name as last_name_of, rows_up_to, syllable as syllable_of};
 

@@ -2,10 +2,10 @@
 use Rattle.std.proofs.Common.{◌≡◌, ℕ, ◌+◌, ◌≤◌, zero, suc, List, [], ◌∷◌, ◌++◌, length, replicate, refl, sym, ap, ap₂, ◌∙◌, subst, arith, length-append, lit≤}
 use Rattle.std.proofs.lemmas.List.{append-nil, get_or-replicate, length-replicate}
 use Rattle.hy_page.proofs.ByteLaws.{field_of_zeros}
-use Rattle.hy_schema.specs.Spelling.{HasSlots, HasTables, segments, tables_of, used_slots}
-use Rattle.hy_schema.specs.Tables.{no_rows}
+use Rattle.hy_rows.specs.Spelling.{HasSlots, HasTables, segments, tables_of, used_slots}
+use Rattle.hy_rows.specs.Tables.{no_rows}
 use Rattle.hy_space.specs.Space.{with_new_page}
-use Rattle.hy_schema.specs.inside.Places.{segment_there}
+use Rattle.hy_rows.specs.inside.Places.{segment_there}
 
 -- so many segments with one page of zeros, and others without a page
 abbrev pub filled : ℕ → ℕ → ℕ → List (List (List ℕ))

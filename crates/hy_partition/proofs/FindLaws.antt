@@ -1,8 +1,8 @@
 -- Looking for a row slot by slot.
 use Rattle.std.proofs.Common.{◌≡◌, ℕ, ◌+◌, Bool, true, false, List, [], ◌∷◌, drop, None, refl, ap, ◌∙◌}
 use Rattle.std.specs.List.{find}
-use Rattle.hy_schema.specs.Spelling.{first_items, is_live, live_rows}
-use Rattle.hy_schema.proofs.ChangedRows.{live_rows-next, live_rows-skip, find-append_none}
+use Rattle.hy_rows.specs.Spelling.{first_items, is_live, live_rows}
+use Rattle.hy_rows.proofs.ChangedRows.{live_rows-next, live_rows-skip, find-append_none}
 
 module _ {Row : Type 0} (row_of : List ℕ → Row) (test : Row → Bool) (slots : ℕ → List ℕ) (k : ℕ) (missing : find test (live_rows row_of (first_items slots k)) ≡ None) where
   -- a row that doesn't match leaves none that does

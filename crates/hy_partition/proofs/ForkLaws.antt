@@ -5,7 +5,7 @@ use Rattle.std.specs.Option.{option_map}
 use Rattle.std.proofs.lemmas.Bool.{cases_eq}
 use Rattle.std.proofs.lemmas.List.{append-nil}
 use Rattle.hy_frames.specs.FrameTable.{count_of, free_of}
-use Rattle.hy_schema.specs.Spelling.{HasTables, Spells}
+use Rattle.hy_rows.specs.Spelling.{HasTables, Spells}
 use Rattle.hy_space.specs.Space.{SpaceState, SameForOthers, SameForOwner, KeepsOwn, IsLeastFree, IsUnchanged, DropsUsers, child_bytes, child_table, child_times, owner_bytes, table_bytes}
 use Rattle.hy_space.proofs.TableLaws.{same_bytes, same_child_bytes}
 use Rattle.hy_undo.specs.UndoLog.{undone}

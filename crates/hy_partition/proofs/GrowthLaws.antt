@@ -3,16 +3,16 @@ use Rattle.std.proofs.Common.{◌≡◌, ℕ, ℤ, pos, ◌+◌, ◌≤◌, ◌+
 use Rattle.std.proofs.lemmas.Int.{ints}
 use Rattle.std.proofs.lemmas.Bool.Decides.{nat_tests}
 use Rattle.std.specs.List.{AllByRecursion, find}
-use Rattle.hy_schema.specs.declared.customer.Customer.{Customer}
+use Rattle.hy_rows.specs.declared.customer.Customer.{Customer}
 use Rattle.hy_schema.specs.declared.command.Payment.{Payment}
 use Rattle.hy_schema.specs.declared.command.Command.{Command}
 use Rattle.hy_schema.specs.declared.command.Command.TheVariants as commands
 use Rattle.hy_schema.specs.declared.command.Commit.{Commit}
 use Rattle.hy_schema.specs.declared.command.Commit.TheVariants as commit
 use Rattle.hy_schema.specs.declared.refusal.Refusal.{Refusal}
-use Rattle.hy_schema.specs.Limits.{max_payment, min_payment}
-use Rattle.hy_schema.specs.Tables.{Tables}
-use Rattle.hy_schema.specs.Finding.{with_changed, is_warehouse, is_district}
+use Rattle.hy_rows.specs.Limits.{max_payment, min_payment}
+use Rattle.hy_rows.specs.Tables.{Tables}
+use Rattle.hy_rows.specs.Finding.{with_changed, is_warehouse, is_district}
 use Rattle.hy_schema.specs.Commands.{is_payment_in_range}
 use Rattle.hy_schema.specs.Transactions.{act, outcome_of, accepted, payment_refusal, paid, warehouse_paid, district_paid, customer_paid, is_payer}
 use Rattle.hy_schema.specs.Replay.{replay}

@@ -3,10 +3,10 @@ use Rattle.std.proofs.Common.{ℕ, suc, ℤ, Bool, true, false, cond, List, [], 
 use Rattle.std.specs.Prelude.{IfSome, slice_get}
 use Rattle.std.specs.List.{AllByRecursion}
 use Rattle.std.proofs.lemmas.Int.{ints}
-use Rattle.hy_schema.specs.declared.customer.Customer.{Customer}
+use Rattle.hy_rows.specs.declared.customer.Customer.{Customer}
 use Rattle.hy_schema.specs.Loads.{IsLoad, IsWarehouseAt, IsDistrictAt, IsCustomerAt}
-use Rattle.hy_schema.specs.Ranges.{IsLoadedMoney, IsCustomerInRange}
-use Rattle.hy_schema.specs.Tables.{Tables, of_warehouse}
+use Rattle.hy_rows.specs.Ranges.{IsLoadedMoney, IsCustomerInRange}
+use Rattle.hy_rows.specs.Tables.{Tables, of_warehouse}
 use Rattle.hy_partition.specs.inside.Growth.{IsGrown, IsGrownCustomer, IsGrownMoney}
 
 -- what follows of each row at its place holds of all, and so of those that pass a test

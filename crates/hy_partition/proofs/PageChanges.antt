@@ -1,6 +1,6 @@
 -- Laws of changed pages.
 use Rattle.std.proofs.Common.{◌≡◌, ◌≢◌, ℕ, ◌<◌, List, [], length, set, get_or-set_other, get_or-set_same, length-set}
-use Rattle.hy_schema.specs.Spelling.{list_at}
+use Rattle.hy_rows.specs.Spelling.{list_at}
 use Rattle.hy_space.specs.Space.{with_page}
 
 -- the number of segments stays

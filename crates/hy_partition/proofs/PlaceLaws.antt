@@ -6,16 +6,16 @@ use Rattle.std.specs.List.{list_all}
 use Rattle.std.proofs.lemmas.Bool.{and_parts, cases_eq}
 use Rattle.std.proofs.lemmas.Bool.Decides.{nat_tests}
 use Rattle.hy_page.specs.Bytes.{bytes_of, overwritten}
-use Rattle.hy_schema.specs.Spelling.{IsTable, HasSlots, HasTables, IsFirstMatch, list_at, row_widths, rows_of, segments, slot_at, slot_offset, slot_page, slot_width, slots_per_page, used_slots}
-use Rattle.hy_schema.specs.inside.Slots.{slot_written, slots_counted}
-use Rattle.hy_schema.specs.Finding.{with_changed}
-use Rattle.hy_schema.proofs.SlotPlaces.{slots_per_page-some, slot_page-below, rows_of-changed, rows_of-grown, rows_of-pushed, used_slots-pushed, used_slots-written, length-slot_written}
-use Rattle.hy_schema.specs.Rows.{number_at}
+use Rattle.hy_rows.specs.Spelling.{IsTable, HasSlots, HasTables, IsFirstMatch, list_at, row_widths, rows_of, segments, slot_at, slot_offset, slot_page, slot_width, slots_per_page, used_slots}
+use Rattle.hy_rows.specs.inside.Slots.{slot_written, slots_counted}
+use Rattle.hy_rows.specs.Finding.{with_changed}
+use Rattle.hy_rows.proofs.SlotPlaces.{slots_per_page-some, slot_page-below, rows_of-changed, rows_of-grown, rows_of-pushed, used_slots-pushed, used_slots-written, length-slot_written}
+use Rattle.hy_rows.specs.Rows.{number_at}
 use Rattle.std.proofs.Math.Nat.{mod-lt, div-add-mod, div-le_self, div-le_of_le-mul, mul-le-mul_left, mul-le-mul_right}
 use Rattle.hy_space.specs.Space.{SpaceState, HasPage, HasPagesOf, owner_bytes, page_at, with_page, with_new_page, page_count}
 use Rattle.hy_partition.specs.inside.Rows.{KeepsOtherSegments}
 use Rattle.hy_frames.specs.FrameTable.{page_of}
-use Rattle.hy_schema.specs.inside.Places.{segment_there}
+use Rattle.hy_rows.specs.inside.Places.{segment_there}
 use Rattle.hy_partition.proofs.PageChanges.{segment-with_page, segment-with_page_other, length-with_page}
 
 -- a segment determines how many bytes the rows of its table have

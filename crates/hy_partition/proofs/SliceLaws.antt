@@ -8,7 +8,7 @@ use Rattle.hy_schema.specs.declared.command.Command.TheVariants as commands
 use Rattle.hy_schema.specs.declared.command.Reply.{Reply}
 use Rattle.hy_schema.specs.Commands.{is_in_range}
 use Rattle.hy_schema.specs.Keys.{IsOneWarehouse, district_key}
-use Rattle.hy_schema.specs.Tables.{Tables}
+use Rattle.hy_rows.specs.Tables.{Tables}
 use Rattle.hy_schema.specs.Transactions.{accepted, act, outcome_of, refusal_of}
 use Rattle.hy_schema.proofs.ChangedLists.{finds-key}
 use Rattle.hy_schema.proofs.KeptConditionLaws.{accepted-payment, finds-district}

@@ -9,8 +9,8 @@ use Rattle.hy_schema.specs.declared.command.Command.{Command}
 use Rattle.hy_schema.specs.declared.command.Commit.{Commit}
 use Rattle.hy_schema.specs.declared.command.Commit.TheVariants as commits
 use Rattle.hy_schema.specs.declared.command.Reply.{Reply}
-use Rattle.hy_schema.specs.Tables.{Tables}
-use Rattle.hy_schema.specs.Spelling.{HasTables, Spells, customer_segment, list_at, tables_of}
+use Rattle.hy_rows.specs.Tables.{Tables}
+use Rattle.hy_rows.specs.Spelling.{HasTables, Spells, customer_segment, list_at, tables_of}
 use Rattle.hy_schema.specs.Transactions.{Outcome, refusal_of}
 use Rattle.hy_schema.specs.Conditions.{IsConsistent}
 use Rattle.hy_schema.proofs.KeptConditionLaws.{IsConsistent-load, IsConsistent-replay}

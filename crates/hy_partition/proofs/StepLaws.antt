@@ -6,8 +6,8 @@ use Rattle.std.proofs.lemmas.List.Sums.{fold-append}
 use Rattle.hy_schema.specs.declared.command.Command.{Command}
 use Rattle.hy_schema.specs.declared.command.Commit.{Commit}
 use Rattle.hy_schema.specs.declared.command.Commit.TheVariants as commits
-use Rattle.hy_schema.specs.Tables.{Tables}
-use Rattle.hy_schema.specs.Spelling.{Spells}
+use Rattle.hy_rows.specs.Tables.{Tables}
+use Rattle.hy_rows.specs.Spelling.{Spells}
 use Rattle.hy_schema.specs.Transactions.{act}
 use Rattle.hy_schema.specs.Replay.{replay, committed}
 use Rattle.hy_space.specs.Space.{child_bytes}

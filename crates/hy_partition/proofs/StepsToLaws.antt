@@ -15,8 +15,8 @@ use Rattle.hy_schema.specs.declared.command.Reply.TheVariants as replies
 use Rattle.hy_schema.specs.declared.refusal.Refusal.{Refusal}
 use Rattle.hy_schema.specs.declared.refusal.Refusal.TheVariants as refusals
 use Rattle.hy_schema.specs.Commands.{is_in_range}
-use Rattle.hy_schema.specs.Tables.{Tables}
-use Rattle.hy_schema.specs.Spelling.{HasTables, Spells, customer_segment, list_at, tables_of}
+use Rattle.hy_rows.specs.Tables.{Tables}
+use Rattle.hy_rows.specs.Spelling.{HasTables, Spells, customer_segment, list_at, tables_of}
 use Rattle.hy_schema.specs.Transactions.{Outcome, act}
 use Rattle.hy_space.specs.Space.{SpaceState, SameForChildren, child_bytes, child_table, owner_bytes, table_bytes}
 use Rattle.hy_partition.specs.inside.Changes.{CanUndo}

@@ -1,8 +1,8 @@
 -- Where only the segment of one table changes, only its rows do.
 use Rattle.std.proofs.Common.{◌≡◌, ◌≢◌, ℕ, zero, suc, ◌<◌, ◌≤◌, List, ◌∷◌, length, set, refl, sym, ap, ◌∙◌, ap₂, arith, lit≤}
-use Rattle.hy_schema.specs.Spelling.{list_at, rows_of, segments, tables_of}
-use Rattle.hy_schema.specs.Tables.{Tables}
-use Rattle.hy_schema.specs.inside.Places.{by_places, items}
+use Rattle.hy_rows.specs.Spelling.{list_at, rows_of, segments, tables_of}
+use Rattle.hy_rows.specs.Tables.{Tables}
+use Rattle.hy_rows.specs.inside.Places.{by_places, items}
 use Rattle.hy_partition.specs.inside.Rows.{KeepsOtherSegments}
 
 -- sequences that are the same, item by item

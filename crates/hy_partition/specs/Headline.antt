@@ -3,7 +3,7 @@
 -- replayed one by one; the live pages with the running transaction undone spell the replay of all kept commits, and
 -- nothing is to be undone where nothing runs; and that replay meets the consistency conditions (TPC-C clause 3.3.2).
 use Rattle.std.specs.Prelude.{◌≡◌, ℕ, ◌≤◌, length, take, MatchOption, None, IsNone, IsSomeAnd}
-use Rattle.hy_schema.specs.Spelling.{Spells}
+use Rattle.hy_rows.specs.Spelling.{Spells}
 use Rattle.hy_schema.specs.Conditions.{MeetsConditions}
 use Rattle.hy_space.specs.Space.{CountsAreExact, NoFrameTwice, owner_bytes, child_bytes}
 use Rattle.hy_undo.specs.UndoLog.{undone, empty_log}

@@ -1,7 +1,7 @@
 -- One warehouse: the rows that it began from, what was kept since, the job that runs, the pages and the snapshots.
 use Rattle.std.specs.Prelude.{ℕ, List, Option, None, slice_index_or}
 use Rattle.hy_schema.specs.declared.command.Commit.{Commit}
-use Rattle.hy_schema.specs.Tables.{Tables}
+use Rattle.hy_rows.specs.Tables.{Tables}
 use Rattle.hy_schema.specs.Replay.{replay}
 use Rattle.hy_space.specs.Space.{SpaceState}
 use Rattle.hy_undo.specs.UndoLog.{UndoLog}

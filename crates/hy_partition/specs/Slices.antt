@@ -5,8 +5,8 @@ use Rattle.hy_schema.specs.declared.command.Command.{Command}
 use Rattle.hy_schema.specs.declared.command.Command.TheVariants as commands
 use Rattle.hy_schema.specs.declared.command.Payment.{Payment}
 use Rattle.hy_schema.specs.declared.command.Reply.{Reply}
-use Rattle.hy_schema.specs.Finding.{is_warehouse, is_district, with_changed}
-use Rattle.hy_schema.specs.Tables.{Tables}
+use Rattle.hy_rows.specs.Finding.{is_warehouse, is_district, with_changed}
+use Rattle.hy_rows.specs.Tables.{Tables}
 use Rattle.hy_schema.specs.Transactions.{warehouse_paid, district_paid, customer_paid, is_payer, payer, payment_reply}
 use Rattle.hy_partition.specs.Jobs.{RunningJob}
 

@@ -1,7 +1,7 @@
 -- Snapshots.
 use Rattle.std.specs.Prelude.{ℕ, List}
 use Rattle.hy_frames.specs.FrameTable.{IsPageSize}
-use Rattle.hy_schema.specs.Spelling.{HasTables}
+use Rattle.hy_rows.specs.Spelling.{HasTables}
 
 -- the warehouse, the child of its page tables, the number of commits, and the bytes of the pages by segment
 pub record SnapshotState : Type 0 where

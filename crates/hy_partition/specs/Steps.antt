@@ -7,9 +7,9 @@ use Rattle.hy_schema.specs.declared.command.Reply.{Reply}
 use Rattle.hy_schema.specs.declared.command.Reply.TheVariants as replies
 use Rattle.hy_schema.specs.declared.refusal.Refusal.{Refusal}
 use Rattle.hy_schema.specs.declared.refusal.Refusal.TheVariants as refusals
-use Rattle.hy_schema.specs.Tables.{Tables, of_warehouse}
+use Rattle.hy_rows.specs.Tables.{Tables, of_warehouse}
 use Rattle.hy_schema.specs.Transactions.{act, refusal_of}
-use Rattle.hy_schema.specs.Spelling.{Spells}
+use Rattle.hy_rows.specs.Spelling.{Spells}
 use Rattle.hy_frames.specs.FrameTable.{count_of, free_of}
 use Rattle.hy_space.specs.Space.{SpaceState, SameForChildren, SameForOwner, SameForOthers, IsLeastFree, DropsUsers, owner_bytes, child_bytes, child_table, child_times}
 use Rattle.hy_partition.specs.declared.job.Progress.{Progress}

@@ -10,15 +10,16 @@ use Rattle.std.proofs.lemmas.List.Elements.{All-nil, All-cons}
 use Rattle.std.proofs.lemmas.List.Sums.{sum_by-cons}
 use Rattle.hy_page.specs.Bytes.{overwritten}
 use Rattle.hy_frames.specs.FrameTable.{Frame, count_of, empty_frame}
-use Rattle.hy_schema.specs.declared.warehouse.Warehouse.{Warehouse}
+use Rattle.hy_rows.specs.declared.warehouse.Warehouse.{Warehouse}
 use Rattle.hy_schema.specs.declared.command.Command.TheVariants as commands
 use Rattle.hy_schema.specs.Conditions.{IsBalanced, IsSumOfDistricts, MeetsConditions}
-use Rattle.hy_schema.specs.Rows.{warehouse_bytes}
+use Rattle.hy_rows.specs.Rows.{warehouse_bytes}
 use Rattle.hy_schema.specs.Transactions.{accepted}
-use Rattle.hy_schema.specs.WorkedRows.{fresh, payment_of}
-use Rattle.hy_schema.specs.Spelling.{HasSlots, IsTable, Spells, list_at, segments, used_slots}
-use Rattle.hy_schema.specs.Tables.{no_rows}
-use Rattle.hy_schema.specs.inside.Places.{segment_there}
+use Rattle.hy_rows.specs.WorkedRows.{fresh}
+use Rattle.hy_schema.specs.WorkedRows.{payment_of}
+use Rattle.hy_rows.specs.Spelling.{HasSlots, IsTable, Spells, list_at, segments, used_slots}
+use Rattle.hy_rows.specs.Tables.{no_rows}
+use Rattle.hy_rows.specs.inside.Places.{segment_there}
 use Rattle.hy_space.specs.Space.{CountsAreExact, NoFrameTwice, maps, owner_bytes, child_bytes, times}
 use Rattle.hy_undo.specs.UndoLog.{undone, page_counts}
 use Rattle.hy_undo.specs.Touched.{touched}

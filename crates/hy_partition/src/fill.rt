@@ -2,8 +2,8 @@
 
 ghost use Rattle.std.specs.Prelude.{◌≡◌, ℕ, ◌<◌, ◌≤◌, ◌++◌, ◌∷◌, [], List, length, IfOk, OnOk};
 ghost use Rattle.hy_frames.specs.FrameTable.{IsPageSize, max_frames as most_frames};
-ghost use Rattle.hy_schema.specs.Spelling.{HasTables, Spells, rows_of, slot_page, used_slots};
-ghost use Rattle.hy_schema.specs.Tables.{no_rows};
+ghost use Rattle.hy_rows.specs.Spelling.{HasTables, Spells, rows_of, slot_page, used_slots};
+ghost use Rattle.hy_rows.specs.Tables.{no_rows};
 ghost use Rattle.hy_space.specs.Space.{owner_bytes};
 ghost use Rattle.hy_partition.specs.inside.Rows.{KeepsOtherSegments, StaysOpen, owner_pages, owner_rows};
 

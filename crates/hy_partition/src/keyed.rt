@@ -31,7 +31,7 @@ pub(crate) struct CustomerKey {
 }
 
 impl Keyed for Warehouse {
-    ghost use Rattle.hy_schema.specs.Finding.{is_warehouse};
+    ghost use Rattle.hy_rows.specs.Finding.{is_warehouse};
 
     type Key = u64;
 
@@ -43,7 +43,7 @@ impl Keyed for Warehouse {
 }
 
 impl Keyed for District {
-    ghost use Rattle.hy_schema.specs.Finding.{is_district};
+    ghost use Rattle.hy_rows.specs.Finding.{is_district};
 
     type Key = DistrictKey;
 
@@ -55,7 +55,7 @@ impl Keyed for District {
 }
 
 impl Keyed for Customer {
-    ghost use Rattle.hy_schema.specs.Finding.{is_customer};
+    ghost use Rattle.hy_rows.specs.Finding.{is_customer};
 
     type Key = CustomerKey;
 

@@ -10,7 +10,7 @@ ghost use Rattle.hy_partition.specs.Limits.{most_kept};
 ghost use Rattle.hy_partition.specs.Slices.{all_writes, is_last};
 ghost use Rattle.hy_undo.specs.Touched.{touched};
 ghost use Rattle.hy_undo.specs.PrivatePages.{IsUndoLog};
-ghost use Rattle.hy_schema.specs.Spelling.{Spells};
+ghost use Rattle.hy_rows.specs.Spelling.{Spells};
 ghost use Rattle.hy_partition.specs.Steps.{begin_refusal, Accepts, Begins, Closes, Forks, IsOpen, KeepsJob, Refuses, StaysUnforked, StepsTo};
 
 use crate::fill::pages_with;

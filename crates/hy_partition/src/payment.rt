@@ -5,9 +5,9 @@ ghost use Rattle.std.specs.Prelude.{◌≡◌, ℕ, ◌≤◌, pos, ◌+ℤ◌, 
 ghost use Rattle.std.specs.List.{AllByRecursion};
 ghost use Rattle.hy_schema.specs.declared.command.Command.{Command};
 ghost use Rattle.hy_schema.specs.Commands.{is_payment_in_range, number_of_who};
-ghost use Rattle.hy_schema.specs.Finding.{is_district, is_warehouse, with_changed};
-ghost use Rattle.hy_schema.specs.Limits.{max_payment};
-ghost use Rattle.hy_schema.specs.Spelling.{HasTables, customer_segment};
+ghost use Rattle.hy_rows.specs.Finding.{is_district, is_warehouse, with_changed};
+ghost use Rattle.hy_rows.specs.Limits.{max_payment};
+ghost use Rattle.hy_rows.specs.Spelling.{HasTables, customer_segment};
 ghost use Rattle.hy_schema.specs.Transactions.{customer_paid, district_paid, is_district_number, payer, payment_refusal, payment_reply, warehouse_paid};
 ghost use Rattle.hy_space.specs.Space.{owner_bytes};
 ghost use Rattle.hy_undo.specs.PrivatePages.{IsUndoLog};

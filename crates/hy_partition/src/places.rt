@@ -2,7 +2,7 @@
 
 ghost use Rattle.std.specs.Prelude.{◌≡◌, ℕ, ◌+◌, ◌^◌, ◌<◌, ◌≤◌, List, drop, Some, None, Err, find, true, IsSome, IfSome, IfNone, OnOk};
 ghost use Rattle.hy_page.specs.Bytes.{bytes_at};
-ghost use Rattle.hy_schema.specs.Spelling.{HasTables, IsFirstMatch, is_live, slot_at, slot_offset, slot_page, slot_width, used_slots};
+ghost use Rattle.hy_rows.specs.Spelling.{HasTables, IsFirstMatch, is_live, slot_at, slot_offset, slot_page, slot_width, used_slots};
 ghost use Rattle.hy_space.specs.Space.{owner_bytes, HasPage};
 ghost use Rattle.hy_undo.specs.PrivatePages.{IsUndoLog};
 ghost use Rattle.hy_partition.specs.inside.Changes.{CanUndo};

@@ -2,7 +2,7 @@
 
 ghost use Rattle.std.specs.Prelude.{◌≡◌, ℕ, ◌<◌, Err, IfOk, IfErr, OnOk, Some, None, true};
 ghost use Rattle.hy_schema.specs.Commands.{is_in_range};
-ghost use Rattle.hy_schema.specs.Spelling.{HasTables, customer_segment};
+ghost use Rattle.hy_rows.specs.Spelling.{HasTables, customer_segment};
 ghost use Rattle.hy_schema.specs.Transactions.{refusal_of};
 ghost use Rattle.hy_space.specs.Space.{owner_bytes};
 ghost use Rattle.hy_undo.specs.PrivatePages.{IsUndoLog};

@@ -1,7 +1,7 @@
 //! Snapshots: the committed rows of a warehouse at one moment.
 
 ghost use Rattle.std.specs.Prelude.{◌≡◌, ℕ, ◌<◌, ◌≤◌, List, length, map, IfOk};
-ghost use Rattle.hy_schema.specs.Spelling.{HasSlots, list_at, rows_of, segments, slot_width, tables_of};
+ghost use Rattle.hy_rows.specs.Spelling.{HasSlots, list_at, rows_of, segments, slot_width, tables_of};
 ghost use Rattle.hy_partition.specs.Snapshots.{SnapshotState, IsWhole};
 
 use crate::places::{place_of, row_at};

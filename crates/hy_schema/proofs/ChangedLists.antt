@@ -4,7 +4,7 @@ use Rattle.std.specs.Prelude.{All, fold}
 use Rattle.std.specs.List.{find}
 use Rattle.std.proofs.lemmas.Int.{ints}
 use Rattle.std.proofs.lemmas.List.Elements.{All-nil, All-cons, All-head, All-tail}
-use Rattle.hy_schema.specs.Finding.{with_changed}
+use Rattle.hy_rows.specs.Finding.{with_changed}
 use Rattle.hy_schema.specs.Conditions.{column_sum}
 
 module _ {Row : Type 0} (column : Row → ℤ) where

@@ -1,7 +1,7 @@
 -- A load has no fault.
 use Rattle.std.proofs.Common.{◌≡◌, ℕ, ◌+◌, ◌-◌, inl, inr, List, length, Option, Some, None}
 use Rattle.std.specs.Prelude.{IfSome, MatchOption, slice_get}
-use Rattle.hy_schema.specs.Tables.{Tables}
+use Rattle.hy_rows.specs.Tables.{Tables}
 use Rattle.hy_schema.specs.declared.refusal.LoadFault.{LoadFault}
 use Rattle.hy_schema.specs.declared.refusal.LoadFault.TheVariants as faults
 use Rattle.hy_schema.specs.declared.refusal.Table.TheVariants as table

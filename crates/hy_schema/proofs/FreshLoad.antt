@@ -1,11 +1,12 @@
 -- The fresh load of the worked examples is a load.
 use Rattle.std.proofs.Common.{◌≡◌, ℕ, zero, suc, ◌+◌, ◌<◌, List, [], ◌∷◌, slice_get, IfSome, codes, refl, subst, inl, inr, lit≤, lit<, arith}
 use Rattle.std.proofs.lemmas.Int.{ints}
-use Rattle.hy_schema.specs.Ranges.{IsBetween, IsLoadedText, IsCustomerInRange}
+use Rattle.hy_rows.specs.Ranges.{IsBetween, IsLoadedText, IsCustomerInRange}
 use Rattle.hy_schema.specs.Loads.{IsWarehouseAt, IsDistrictAt, IsCustomerAt, IsLoad}
-use Rattle.hy_schema.proofs.BetweenLaws.{IsBetween-bounds, bounds}
-use Rattle.hy_schema.proofs.PrintableLaws.{printable}
-use Rattle.hy_schema.specs.WorkedRows.{fresh, fresh_district, fresh_customer, fresh-condition_1, fresh-condition_12}
+use Rattle.hy_rows.proofs.BetweenLaws.{IsBetween-bounds, bounds}
+use Rattle.hy_rows.proofs.PrintableLaws.{printable}
+use Rattle.hy_rows.specs.WorkedRows.{fresh, fresh_district, fresh_customer}
+use Rattle.hy_schema.specs.WorkedRows.{fresh-condition_1, fresh-condition_12}
 
 -- the rows of a list are right, the first of them at a place
 abbrev AreRightFrom : {Row : Type 0} → (ℕ → Row → Type 0) → ℕ → List Row → Type 0

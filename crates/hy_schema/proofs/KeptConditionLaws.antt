@@ -6,25 +6,25 @@ use Rattle.std.proofs.lemmas.Int.{ints}
 use Rattle.std.proofs.lemmas.Bool.{and_parts, eq-eqb, eqb-true}
 use Rattle.std.proofs.lemmas.Bool.Decides.{nat_tests}
 use Rattle.std.proofs.lemmas.List.Elements.{All-nil, All-cons, All-head, All-filter}
-use Rattle.hy_schema.specs.declared.warehouse.Warehouse.{Warehouse}
-use Rattle.hy_schema.specs.declared.district.District.{District}
-use Rattle.hy_schema.specs.declared.customer.Customer.{Customer}
+use Rattle.hy_rows.specs.declared.warehouse.Warehouse.{Warehouse}
+use Rattle.hy_rows.specs.declared.district.District.{District}
+use Rattle.hy_rows.specs.declared.customer.Customer.{Customer}
 use Rattle.hy_schema.specs.declared.command.Command.{Command}
 use Rattle.hy_schema.specs.declared.command.Command.TheVariants as commands
 use Rattle.hy_schema.specs.declared.command.Commit.{Commit}
 use Rattle.hy_schema.specs.declared.command.Commit.TheVariants as commits
 use Rattle.hy_schema.specs.declared.command.Payment.{Payment}
 use Rattle.hy_schema.specs.declared.refusal.Refusal.{Refusal}
-use Rattle.hy_schema.specs.Ranges.{IsBetween}
-use Rattle.hy_schema.specs.Tables.{Tables, of_warehouse}
-use Rattle.hy_schema.specs.Finding.{is_warehouse, is_district, with_changed}
+use Rattle.hy_rows.specs.Ranges.{IsBetween}
+use Rattle.hy_rows.specs.Tables.{Tables, of_warehouse}
+use Rattle.hy_rows.specs.Finding.{is_warehouse, is_district, with_changed}
 use Rattle.hy_schema.specs.Keys.{AreUnique, IsOneWarehouse, customer_key, district_key, district_numbers}
 use Rattle.hy_schema.specs.Conditions.{IsConsistent, IsBalanced, IsSumOfDistricts, MeetsConditions, column_sum, ytd_of_districts}
 use Rattle.hy_schema.specs.Commands.{is_payment_in_range}
 use Rattle.hy_schema.specs.Transactions.{act, customer_paid, district_paid, is_district_number, is_payer, outcome_of, paid, payment_refusal, warehouse_paid}
 use Rattle.hy_schema.specs.Replay.{committed, replay}
 use Rattle.hy_schema.specs.Loads.{IsLoad}
-use Rattle.hy_schema.proofs.BetweenLaws.{bounds}
+use Rattle.hy_rows.proofs.BetweenLaws.{bounds}
 use Rattle.hy_schema.proofs.ChangedLists.{All-passing_also, All-with_changed, column_sum-changed, filter-again, finds-key, map-with_changed}
 use Rattle.hy_schema.proofs.KeyLaws.{IsOneWarehouse-load}
 

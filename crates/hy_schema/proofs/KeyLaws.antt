@@ -8,16 +8,16 @@ use Rattle.std.proofs.lemmas.List.{append-nil}
 use Rattle.std.proofs.lemmas.Bool.{eqb-true}
 use Rattle.std.proofs.lemmas.Bool.Decides.{nat_tests}
 use Rattle.std.proofs.lemmas.Option.{IfSome_then}
-use Rattle.hy_schema.specs.declared.warehouse.Warehouse.{Warehouse}
-use Rattle.hy_schema.specs.declared.district.District.{District}
-use Rattle.hy_schema.specs.declared.customer.Customer.{Customer}
-use Rattle.hy_schema.specs.Tables.{Tables, of_warehouse}
+use Rattle.hy_rows.specs.declared.warehouse.Warehouse.{Warehouse}
+use Rattle.hy_rows.specs.declared.district.District.{District}
+use Rattle.hy_rows.specs.declared.customer.Customer.{Customer}
+use Rattle.hy_rows.specs.Tables.{Tables, of_warehouse}
 use Rattle.hy_schema.specs.Keys.{AreUnique, HasUniqueKeys, IsOneWarehouse, customer_key, district_key, district_numbers}
-use Rattle.hy_schema.specs.Ranges.{IsBetween, IsCustomerInRange}
+use Rattle.hy_rows.specs.Ranges.{IsBetween, IsCustomerInRange}
 use Rattle.hy_schema.specs.Loads.{IsLoad, IsWarehouseAt, IsDistrictAt, IsCustomerAt, IsCustomerAfter, row_before}
-use Rattle.hy_schema.specs.Spelling.{first_items}
-use Rattle.hy_schema.proofs.BetweenLaws.{bounds}
-use Rattle.hy_schema.proofs.ChangedRows.{first_items-same}
+use Rattle.hy_rows.specs.Spelling.{first_items}
+use Rattle.hy_rows.proofs.BetweenLaws.{bounds}
+use Rattle.hy_rows.proofs.ChangedRows.{first_items-same}
 
 -- what a test says of the rows that pass it
 pub All-passing : {Row : Type 0} (test : Row → Bool) (P : Row → Type 0) (rows : List Row)

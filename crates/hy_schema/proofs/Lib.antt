@@ -1,12 +1,5 @@
-pub mod TextLaws
-pub mod BetweenLaws
-pub mod ColumnLaws
 pub mod LoadLaws
-pub mod RowLaws
-pub mod ChangedRows
-pub mod SlotPlaces
 pub mod FreshLoad
-pub mod PrintableLaws
 pub mod WorkedRanges
 pub mod FaultLaws
 pub mod ChangedLists

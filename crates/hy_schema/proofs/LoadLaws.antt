@@ -6,11 +6,11 @@ use Rattle.std.proofs.lemmas.Bool.{cases_lt}
 use Rattle.std.proofs.lemmas.Bool.Decides.{nat_tests}
 use Rattle.std.proofs.lemmas.Option.{slice_get_past, slice_get_read, slice_get_cases}
 use Rattle.hy_schema.specs.Conditions.{column_sum}
-use Rattle.hy_schema.specs.declared.warehouse.Warehouse.{Warehouse}
-use Rattle.hy_schema.specs.declared.customer.Customer.{Customer}
-use Rattle.hy_schema.specs.Limits.{districts_per_warehouse, max_warehouses}
-use Rattle.hy_schema.specs.Ranges.{IsCustomerInRange}
-use Rattle.hy_schema.proofs.BetweenLaws.{bounds}
+use Rattle.hy_rows.specs.declared.warehouse.Warehouse.{Warehouse}
+use Rattle.hy_rows.specs.declared.customer.Customer.{Customer}
+use Rattle.hy_rows.specs.Limits.{districts_per_warehouse, max_warehouses}
+use Rattle.hy_rows.specs.Ranges.{IsCustomerInRange}
+use Rattle.hy_rows.proofs.BetweenLaws.{bounds}
 use Rattle.hy_schema.specs.Loads.{IsRight, IsFirstFault, IsWarehouseAt, IsCustomerAfter, IsCustomerAt, HasAllWarehouses, HasAllCustomers, row_before}
 
 module _ {Row : Type 0} (test : Row → Bool) (column : Row → ℤ) (rows : List Row) (place : ℕ) (row : Row) (within : place < length rows) (read : row ≡ get_or rows place row) where

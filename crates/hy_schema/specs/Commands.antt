@@ -1,7 +1,7 @@
 -- Commands: the ranges of their values (TPC-C clause 2.5.1), and the warehouses that they name.
 use Rattle.std.specs.Prelude.{ℕ, Bool, ◌==◌, ◌&&◌, if◌then◌else◌, List, [], ◌∷◌}
-use Rattle.hy_schema.specs.Limits.{max_moment, max_payment, min_payment}
-use Rattle.hy_schema.specs.Ranges.{is_between}
+use Rattle.hy_rows.specs.Limits.{max_moment, max_payment, min_payment}
+use Rattle.hy_rows.specs.Ranges.{is_between}
 use Rattle.hy_schema.specs.declared.command.Command.{Command}
 use Rattle.hy_schema.specs.declared.command.Command.TheVariants as commands
 use Rattle.hy_schema.specs.declared.command.Payment.{Payment}

@@ -1,9 +1,9 @@
 -- Consistency conditions (TPC-C clause 3.3.2) over the lists of one or of all warehouses.
 use Rattle.std.specs.Prelude.{◌≡◌, ℕ, ℤ, pos, ◌+ℤ◌, ◌==◌, List, All, filter, fold}
-use Rattle.hy_schema.specs.declared.warehouse.Warehouse.{Warehouse}
-use Rattle.hy_schema.specs.declared.district.District.{District}
-use Rattle.hy_schema.specs.declared.customer.Customer.{Customer}
-use Rattle.hy_schema.specs.Tables.{Tables}
+use Rattle.hy_rows.specs.declared.warehouse.Warehouse.{Warehouse}
+use Rattle.hy_rows.specs.declared.district.District.{District}
+use Rattle.hy_rows.specs.declared.customer.Customer.{Customer}
+use Rattle.hy_rows.specs.Tables.{Tables}
 use Rattle.hy_schema.specs.Keys.{IsOneWarehouse}
 
 -- the sum of a column of signed numbers

@@ -1,10 +1,10 @@
 -- The keys of rows, and which rows are those of one warehouse.
 use Rattle.std.specs.Prelude.{◌≡◌, ◌≢◌, ℕ, List, [], ◌∷◌, map, All}
 use Rattle.std.specs.List.{AllPairs, range_with_len}
-use Rattle.hy_schema.specs.Limits.{districts_per_warehouse}
-use Rattle.hy_schema.specs.declared.district.District.{District}
-use Rattle.hy_schema.specs.declared.customer.Customer.{Customer}
-use Rattle.hy_schema.specs.Tables.{Tables}
+use Rattle.hy_rows.specs.Limits.{districts_per_warehouse}
+use Rattle.hy_rows.specs.declared.district.District.{District}
+use Rattle.hy_rows.specs.declared.customer.Customer.{Customer}
+use Rattle.hy_rows.specs.Tables.{Tables}
 
 -- (D_W_ID, D_ID) and (C_W_ID, C_D_ID, C_ID); the key of a row of WAREHOUSE is its W_ID
 abbrev pub district_key : District → ℕ × ℕ

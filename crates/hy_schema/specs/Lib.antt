@@ -1,15 +1,7 @@
-pub mod Limits
-pub mod Texts
-pub mod Rows
-pub mod Ranges
-pub mod Tables
 pub mod Keys
-pub mod Finding
 pub mod Commands
 pub mod Transactions
 pub mod Replay
 pub mod Conditions
 pub mod Loads
-pub mod Spelling
 pub mod WorkedRows
-pub mod inside

@@ -1,15 +1,15 @@
 -- Which three lists are a load, and where a list that is none has its first fault. Places count from 0, the numbers
 -- of rows in a fault from 1.
 use Rattle.std.specs.Prelude.{◌≡◌, ℕ, ◌+◌, ◌-◌, ◌*◌, ◌/◌, ◌%◌, ◌<◌, ◌≤◌, ◌==◌, ◌⊎◌, ⊤, if◌then◌else◌, List, length, Option, None, Some, slice_get, IfSome, MatchOption, IsSomeAnd}
-use Rattle.hy_schema.specs.declared.warehouse.Warehouse.{Warehouse}
-use Rattle.hy_schema.specs.declared.district.District.{District}
-use Rattle.hy_schema.specs.declared.customer.Customer.{Customer}
+use Rattle.hy_rows.specs.declared.warehouse.Warehouse.{Warehouse}
+use Rattle.hy_rows.specs.declared.district.District.{District}
+use Rattle.hy_rows.specs.declared.customer.Customer.{Customer}
 use Rattle.hy_schema.specs.declared.refusal.LoadFault.{LoadFault}
 use Rattle.hy_schema.specs.declared.refusal.LoadFault.TheVariants as faults
 use Rattle.hy_schema.specs.declared.refusal.Table.TheVariants as table
-use Rattle.hy_schema.specs.Limits.{districts_per_warehouse}
-use Rattle.hy_schema.specs.Tables.{Tables}
-use Rattle.hy_schema.specs.Ranges.{IsWarehouseInRange, IsDistrictInRange, IsCustomerInRange}
+use Rattle.hy_rows.specs.Limits.{districts_per_warehouse}
+use Rattle.hy_rows.specs.Tables.{Tables}
+use Rattle.hy_rows.specs.Ranges.{IsWarehouseInRange, IsDistrictInRange, IsCustomerInRange}
 use Rattle.hy_schema.specs.Conditions.{Condition1, Condition12, MeetsConditions}
 
 -- WAREHOUSE: the row at a place has the next number

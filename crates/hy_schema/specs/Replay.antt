@@ -2,7 +2,7 @@
 use Rattle.std.specs.Prelude.{ℕ, List, fold}
 use Rattle.hy_schema.specs.declared.command.Commit.{Commit}
 use Rattle.hy_schema.specs.declared.command.Commit.TheVariants as commits
-use Rattle.hy_schema.specs.Tables.{Tables}
+use Rattle.hy_rows.specs.Tables.{Tables}
 use Rattle.hy_schema.specs.Transactions.{act}
 
 -- the rows of a warehouse after one commit

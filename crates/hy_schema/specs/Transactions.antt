@@ -1,9 +1,9 @@
 -- What a command does to one warehouse, and its reply (TPC-C clause 2). Nothing here knows of slices of a
 -- transaction, of memory or of pages.
 use Rattle.std.specs.Prelude.{ℕ, pos, ◌+◌, ◌+ℤ◌, ◌-ℤ◌, Bool, ◌==◌, ◌&&◌, not, is_some, if◌then◌else◌, Option, Some, None, [], find}
-use Rattle.hy_schema.specs.declared.warehouse.Warehouse.{Warehouse}
-use Rattle.hy_schema.specs.declared.district.District.{District}
-use Rattle.hy_schema.specs.declared.customer.Customer.{Customer}
+use Rattle.hy_rows.specs.declared.warehouse.Warehouse.{Warehouse}
+use Rattle.hy_rows.specs.declared.district.District.{District}
+use Rattle.hy_rows.specs.declared.customer.Customer.{Customer}
 use Rattle.hy_schema.specs.declared.command.Command.{Command}
 use Rattle.hy_schema.specs.declared.command.Command.TheVariants as commands
 use Rattle.hy_schema.specs.declared.command.Payment.{Payment}
@@ -11,11 +11,11 @@ use Rattle.hy_schema.specs.declared.command.Reply.{Reply}
 use Rattle.hy_schema.specs.declared.command.Reply.TheVariants as replies
 use Rattle.hy_schema.specs.declared.refusal.Refusal.{Refusal}
 use Rattle.hy_schema.specs.declared.refusal.Refusal.TheVariants as refusals
-use Rattle.hy_schema.specs.Tables.{Tables}
-use Rattle.hy_schema.specs.Rows.{customer_of}
-use Rattle.hy_schema.specs.Finding.{is_warehouse, is_district, is_customer, first_or, with_changed}
-use Rattle.hy_schema.specs.Limits.{districts_per_warehouse}
-use Rattle.hy_schema.specs.Ranges.{is_between}
+use Rattle.hy_rows.specs.Tables.{Tables}
+use Rattle.hy_rows.specs.Rows.{customer_of}
+use Rattle.hy_rows.specs.Finding.{is_warehouse, is_district, is_customer, first_or, with_changed}
+use Rattle.hy_rows.specs.Limits.{districts_per_warehouse}
+use Rattle.hy_rows.specs.Ranges.{is_between}
 use Rattle.hy_schema.specs.Commands.{is_payment_in_range, number_of_who}
 
 -- what is left of a command: the rows after it, and the reply

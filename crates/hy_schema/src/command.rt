@@ -4,8 +4,8 @@ ghost use Rattle.std.specs.Prelude.{◌≡◌, ◌↔◌, IsTrue, IsOk, IsErrOf}
 ghost use Rattle.hy_schema.specs.Commands.{is_payment_in_range, is_in_range, warehouses_of};
 
 use crate::refusal::Refusal;
-use crate::warehouse::MAX_WAREHOUSES;
 use arrayvec::ArrayVec;
+use hy_rows::MAX_WAREHOUSES;
 
 /// How many warehouses a command can name.
 pub const MAX_NAMED: usize = MAX_WAREHOUSES as usize;

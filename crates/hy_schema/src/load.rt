@@ -2,17 +2,13 @@
 
 ghost use Rattle.std.specs.Prelude.{◌≡◌, ◌↔◌, ◌<◌, ◌≤◌, ◌+ℤ◌, ◌^◌, pos, All, IsTrue, IfSome, IfNone, IsSomeAnd, MatchResult};
 ghost use Rattle.std.specs.Option.{option_copied};
-ghost use Rattle.hy_schema.specs.Limits.{districts_per_warehouse, max_warehouses};
-ghost use Rattle.hy_schema.specs.Ranges.{IsCustomerInRange};
+ghost use Rattle.hy_rows.specs.Limits.{districts_per_warehouse, max_warehouses};
+ghost use Rattle.hy_rows.specs.Ranges.{IsCustomerInRange};
 ghost use Rattle.hy_schema.specs.Conditions.{IsBalanced, IsSumOfDistricts, ytd_of_districts};
 ghost use Rattle.hy_schema.specs.Loads.{IsWarehouseAt, IsDistrictAt, IsCustomerAt, IsCustomerAfter, HasAllWarehouses, HasAllDistricts, HasAllCustomers, IsRight, IsFirstFault, IsNextDistrict};
 
-use crate::customer::Customer;
-use crate::district::{DISTRICTS_PER_WAREHOUSE, District};
 use crate::refusal::{LoadFault, Refusal, Table};
-use crate::row::Row;
-use crate::tables::Tables;
-use crate::warehouse::Warehouse;
+use hy_rows::{Customer, DISTRICTS_PER_WAREHOUSE, District, Row, Tables, Warehouse};
 use std::marker::Model;
 
 /// The rows that a database begins with. Each load meets the rules of its lists and the consistency conditions 1 and 12
@@ -23,7 +19,7 @@ pub struct Load {
 }
 
 impl Model for Load {
-    ghost use Rattle.hy_schema.specs.Tables.{Tables};
+    ghost use Rattle.hy_rows.specs.Tables.{Tables};
     ghost use Rattle.hy_schema.specs.Loads.{IsLoad};
 
     ghost Value = { Tables };
@@ -36,9 +32,9 @@ impl Model for Load {
 impl Load {
     ghost use Rattle.std.specs.Prelude.{ℕ, List, length};
     ghost use Rattle.hy_schema.specs.declared.command.Commit.{Commit};
-    ghost use Rattle.hy_schema.specs.Tables.{Tables, of_warehouse};
+    ghost use Rattle.hy_rows.specs.Tables.{Tables, of_warehouse};
     ghost use Rattle.hy_schema.specs.Keys.{HasUniqueKeys};
-    ghost use Rattle.hy_schema.specs.Ranges.{IsBetween};
+    ghost use Rattle.hy_rows.specs.Ranges.{IsBetween};
     ghost use Rattle.hy_schema.specs.Conditions.{IsConsistent};
     ghost use Rattle.hy_schema.specs.Replay.{replay};
     ghost use Rattle.hy_schema.specs.Loads.{IsLoad, HasFault};

@@ -3,10 +3,10 @@ use Rattle.std.specs.Prelude.{ℕ, zero, suc, ⊤, ◌<◌, Bool, List, find, Is
 use Rattle.hy_schema.specs.declared.command.Command.{Command}
 use Rattle.hy_schema.specs.declared.command.Command.TheVariants as commands
 use Rattle.hy_schema.specs.declared.command.Payment.{Payment}
-use Rattle.hy_schema.specs.Finding.{is_warehouse, is_district}
-use Rattle.hy_schema.specs.Rows.{customer_of}
-use Rattle.hy_schema.specs.Spelling.{IsFirstMatch, row_widths, slot_at, used_slots}
-use Rattle.hy_schema.specs.Tables.{Tables}
+use Rattle.hy_rows.specs.Finding.{is_warehouse, is_district}
+use Rattle.hy_rows.specs.Rows.{customer_of}
+use Rattle.hy_rows.specs.Spelling.{IsFirstMatch, row_widths, slot_at, used_slots}
+use Rattle.hy_rows.specs.Tables.{Tables}
 use Rattle.hy_schema.specs.Transactions.{is_payer}
 
 -- a used slot of a segment has the first row that passes a test

@@ -2,9 +2,9 @@
 -- type.
 use Rattle.std.specs.Prelude.{ℕ, ℤ, pos, ◌+◌, ◌*◌, ◌≤◌, ◌+ℤ◌, ◌≤ℤ◌}
 use Rattle.std.specs.List.{AllByRecursion}
-use Rattle.hy_schema.specs.declared.customer.Customer.{Customer}
-use Rattle.hy_schema.specs.Limits.{max_cents, max_count, max_payment}
-use Rattle.hy_schema.specs.Tables.{Tables}
+use Rattle.hy_rows.specs.declared.customer.Customer.{Customer}
+use Rattle.hy_rows.specs.Limits.{max_cents, max_count, max_payment}
+use Rattle.hy_rows.specs.Tables.{Tables}
 use Rattle.hy_partition.specs.Limits.{most_kept}
 
 -- by how much an amount and a number of payments grow with one commit at most

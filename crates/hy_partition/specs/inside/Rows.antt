@@ -1,8 +1,8 @@
 -- Rows of one table in the bytes of a page table.
 use Rattle.std.specs.Prelude.{◌≡◌, ◌≢◌, ℕ, Bool, true, false, List, drop, Option, None, Some}
-use Rattle.hy_schema.specs.Finding.{with_changed}
-use Rattle.hy_schema.specs.Tables.{Tables}
-use Rattle.hy_schema.specs.Spelling.{IsFirstMatch, is_live, list_at, slot_at, tables_of}
+use Rattle.hy_rows.specs.Finding.{with_changed}
+use Rattle.hy_rows.specs.Tables.{Tables}
+use Rattle.hy_rows.specs.Spelling.{IsFirstMatch, is_live, list_at, slot_at, tables_of}
 use Rattle.hy_space.specs.Space.{SpaceState, owner_bytes}
 
 -- the bytes of the owner's pages in one segment

@@ -1,10 +1,10 @@
 -- What holds of every partition, beside the counts of its frames, which its pages keep by themselves.
 use Rattle.std.specs.Prelude.{◌≡◌, ℕ, ◌<◌, ◌≤◌, length, None, MatchOption}
-use Rattle.hy_schema.specs.Tables.{Tables, of_warehouse}
-use Rattle.hy_schema.specs.Ranges.{IsBetween}
+use Rattle.hy_rows.specs.Tables.{Tables, of_warehouse}
+use Rattle.hy_rows.specs.Ranges.{IsBetween}
 use Rattle.hy_schema.specs.Loads.{IsLoad}
 use Rattle.hy_schema.specs.Transactions.{refusal_of}
-use Rattle.hy_schema.specs.Spelling.{Spells, customer_segment, list_at}
+use Rattle.hy_rows.specs.Spelling.{Spells, customer_segment, list_at}
 use Rattle.hy_space.specs.Space.{owner_bytes}
 use Rattle.hy_undo.specs.UndoLog.{undone, empty_log}
 use Rattle.hy_undo.specs.PrivatePages.{IsUndoLog}

@@ -1,5 +1,5 @@
 use Rattle.std.proofs.Common.{rules, ◌≡◌, append_assoc, ◌∙◌, sym, subst, lit<}
-use Rattle.hy_schema.specs.Texts.{IsText}
+use Rattle.hy_rows.specs.Texts.{IsText}
 use Rattle.hy_hyper.specs.Generated.{last_name}
 use Rattle.hy_hyper.proofs.TextLaws.{last_name_text}
 use Rattle.hy_hyper.proofs.generator.last_name.Goals as goal

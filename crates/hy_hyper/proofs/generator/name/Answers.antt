@@ -1,6 +1,6 @@
 use Rattle.std.proofs.Common.{rules, ◌≡◌, ◌++◌, subst, lit<}
 use Rattle.std.specs.Fmt.{decimal}
-use Rattle.hy_schema.specs.Texts.{IsText}
+use Rattle.hy_rows.specs.Texts.{IsText}
 use Rattle.hy_hyper.proofs.TextLaws.{name_text}
 use Rattle.hy_hyper.proofs.generator.name.Goals as goal
 

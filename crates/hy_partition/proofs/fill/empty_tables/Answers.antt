@@ -1,7 +1,7 @@
 use Rattle.std.proofs.Common.{◌≡◌, ℕ, ◌+◌, ◌-◌, List, [], ◌∷◌, length, map, replicate, refl, sym, ap, ◌∙◌, subst, arith}
 use Rattle.std.proofs.lemmas.List.{length-map}
 use Rattle.hy_frames.specs.FrameTable.{page_of}
-use Rattle.hy_schema.specs.Spelling.{HasTables, segments, tables_of}
+use Rattle.hy_rows.specs.Spelling.{HasTables, segments, tables_of}
 use Rattle.hy_space.specs.Space.{owner_bytes, table_bytes, with_new_page}
 use Rattle.hy_partition.proofs.EmptyLaws.{filled-all, filled-more, length-filled, tables-zero, tables_of-zero, zero_segments}
 use Rattle.hy_partition.proofs.fill.empty_tables.Goals as goal

@@ -1,5 +1,5 @@
 use Rattle.std.proofs.Common.{◌≡◌, ◌-◌, ◌≤◌, []}
-use Rattle.hy_schema.specs.Spelling.{segments}
+use Rattle.hy_rows.specs.Spelling.{segments}
 use Rattle.hy_space.specs.Space.{owner_bytes}
 use Rattle.hy_partition.proofs.EmptyLaws.{filled}
 use Rattle.hy_partition.proofs.fill.empty_tables.Given as goal

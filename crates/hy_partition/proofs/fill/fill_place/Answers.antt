@@ -2,7 +2,7 @@ use Rattle.std.proofs.Common.{rules, ◌≡◌, ℕ, ◌+◌, ◌<◌, ◌^◌, 
 use Rattle.std.proofs.lemmas.Result.{on_ok_weaker}
 use Rattle.hy_page.specs.Bytes.{bytes_of, overwritten}
 use Rattle.hy_page.proofs.ByteLaws.{to_le_bytes-bytes_of}
-use Rattle.hy_schema.specs.Spelling.{HasTables, list_at, rows_of, slot_page, slot_offset, used_slots}
+use Rattle.hy_rows.specs.Spelling.{HasTables, list_at, rows_of, slot_page, slot_offset, used_slots}
 use Rattle.hy_space.specs.Space.{owner_bytes, page_at, with_page, HasPage, HasPagesOf}
 use Rattle.hy_undo.proofs.PrivatePageLaws.{HasPage-kept, KeepsPages-written}
 use Rattle.hy_partition.proofs.PlaceLaws.{has_first_page, length-segment, rows-row_pushed, tables-row_pushed, others-row_pushed}

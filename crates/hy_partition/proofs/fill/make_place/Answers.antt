@@ -1,7 +1,7 @@
 use Rattle.std.proofs.Common.{◌≡◌, ◌≢◌, ℕ, ◌<◌, ◌≤◌, List, replicate, sym, ap, ◌∙◌, subst, arith, length}
-use Rattle.hy_schema.specs.Spelling.{HasTables, list_at, rows_of, slot_page, used_slots}
+use Rattle.hy_rows.specs.Spelling.{HasTables, list_at, rows_of, slot_page, used_slots}
 use Rattle.hy_space.specs.Space.{owner_bytes, page_count, with_new_page}
-use Rattle.hy_schema.specs.inside.Places.{segment_there}
+use Rattle.hy_rows.specs.inside.Places.{segment_there}
 use Rattle.hy_partition.proofs.PlaceLaws.{length-segment, next_slot_page, rows-page_added, tables-page_added}
 use Rattle.hy_partition.proofs.fill.make_place.Goals as goal
 use Rattle.hy_partition.proofs.fill.make_place.Given as given

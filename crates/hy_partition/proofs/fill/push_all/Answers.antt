@@ -1,8 +1,8 @@
 use Rattle.std.proofs.Common.{ℕ, List, ◌++◌, take, sym, ap, ◌∙◌}
 use Rattle.std.proofs.lemmas.List.{take_all}
-use Rattle.hy_schema.specs.Spelling.{tables_of}
+use Rattle.hy_rows.specs.Spelling.{tables_of}
 use Rattle.hy_space.specs.Space.{owner_bytes}
-use Rattle.hy_schema.specs.inside.Places.{segment_there}
+use Rattle.hy_rows.specs.inside.Places.{segment_there}
 use Rattle.hy_partition.proofs.TablesLaws.{tables_respelled}
 use Rattle.hy_partition.proofs.fill.push_all.Goals as goal
 

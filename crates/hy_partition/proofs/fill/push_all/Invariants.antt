@@ -1,5 +1,5 @@
 use Rattle.std.proofs.Common.{◌≡◌, take, ◌++◌}
-use Rattle.hy_schema.specs.Spelling.{HasTables, list_at, rows_of}
+use Rattle.hy_rows.specs.Spelling.{HasTables, list_at, rows_of}
 use Rattle.hy_space.specs.Space.{owner_bytes}
 use Rattle.hy_partition.specs.inside.Rows.{KeepsOtherSegments, StaysOpen}
 use Rattle.hy_partition.proofs.fill.push_all.Given as goal

@@ -1,14 +1,14 @@
 use Rattle.std.proofs.Common.{◌≡◌, ℕ, List, [], drop, Some, sym, ap, ◌∙◌, subst}
 use Rattle.std.specs.Prelude.{slice_index, unwrap_or}
 use Rattle.std.specs.List.{find}
-use Rattle.hy_schema.specs.declared.customer.Customer.{Customer}
+use Rattle.hy_rows.specs.declared.customer.Customer.{Customer}
 use Rattle.hy_schema.specs.declared.command.Command.TheVariants as commands
 use Rattle.hy_schema.specs.declared.command.Payment.{Payment}
 use Rattle.hy_schema.specs.declared.command.Reply.TheVariants as replies
-use Rattle.hy_schema.specs.Rows.{customer_of}
-use Rattle.hy_schema.specs.Spelling.{customer_segment, row_widths, slot_at, used_slots}
+use Rattle.hy_rows.specs.Rows.{customer_of}
+use Rattle.hy_rows.specs.Spelling.{customer_segment, row_widths, slot_at, used_slots}
 use Rattle.hy_schema.specs.Transactions.{customer_paid, is_payer, payment_reply}
-use Rattle.hy_schema.proofs.ChangedRows.{find-first_match}
+use Rattle.hy_rows.proofs.ChangedRows.{find-first_match}
 use Rattle.hy_space.specs.Space.{SpaceState}
 use Rattle.hy_partition.specs.inside.Finds.{IsCustomerSlot}
 use Rattle.hy_partition.specs.inside.Growth.{IsGrownCustomer, most_grown}

@@ -1,5 +1,5 @@
 use Rattle.std.proofs.lemmas.Result.{on_ok_weaker}
-use Rattle.hy_schema.specs.Finding.{is_district}
+use Rattle.hy_rows.specs.Finding.{is_district}
 use Rattle.hy_schema.specs.Transactions.{district_paid}
 use Rattle.hy_partition.specs.inside.Growth.{IsGrownMoney, most_grown}
 use Rattle.hy_partition.specs.inside.Rows.{owner_rows}

@@ -1,13 +1,13 @@
 use Rattle.std.proofs.Common.{◌≡◌, ℕ, ◌+◌, List, [], ◌++◌, arith, sym, ap, ◌∙◌, subst}
 use Rattle.std.proofs.lemmas.Result.{on_ok_weaker}
 use Rattle.hy_page.specs.Bytes.{overwritten}
-use Rattle.hy_schema.specs.Spelling.{HasTables, list_at, slot_page, slot_offset, rows_of, tables_of}
-use Rattle.hy_schema.specs.Finding.{with_changed}
+use Rattle.hy_rows.specs.Spelling.{HasTables, list_at, slot_page, slot_offset, rows_of, tables_of}
+use Rattle.hy_rows.specs.Finding.{with_changed}
 use Rattle.hy_partition.specs.inside.Rows.{KeepsOtherSegments}
 use Rattle.hy_space.specs.Space.{owner_bytes, page_at, with_page, HasPage, HasPagesOf}
 use Rattle.hy_partition.specs.inside.Shortages.{IsOutOfFrames}
 use Rattle.hy_partition.proofs.PlaceLaws.{others-row_written, rows-row_written, tables-row_written}
-use Rattle.hy_schema.specs.inside.Places.{segment_there}
+use Rattle.hy_rows.specs.inside.Places.{segment_there}
 use Rattle.hy_partition.proofs.TablesLaws.{tables_respelled}
 use Rattle.hy_partition.proofs.FrameLaws.{out_of_frames}
 use Rattle.hy_partition.proofs.UndoLaws.{by_outcome, on_failure, can_undo-none, can_undo-written}

@@ -1,7 +1,7 @@
 use Rattle.std.proofs.Common.{◌≡◌, ℕ, List, sym, ap, ◌∙◌, arith}
 use Rattle.std.specs.List.{find}
-use Rattle.hy_schema.specs.Spelling.{IsFirstMatch, first_items, list_at, live_rows, slot_at, used_slots}
-use Rattle.hy_schema.proofs.ChangedRows.{find-first_match}
+use Rattle.hy_rows.specs.Spelling.{IsFirstMatch, first_items, list_at, live_rows, slot_at, used_slots}
+use Rattle.hy_rows.proofs.ChangedRows.{find-first_match}
 use Rattle.hy_space.specs.Space.{owner_bytes}
 use Rattle.hy_partition.proofs.FindLaws.{missing-next, missing-skip}
 use Rattle.hy_partition.proofs.places.find_row.Goals as goal

@@ -1,6 +1,6 @@
 use Rattle.std.proofs.Common.{◌≡◌, None}
 use Rattle.std.specs.List.{find}
-use Rattle.hy_schema.specs.Spelling.{first_items, list_at, live_rows, slot_at}
+use Rattle.hy_rows.specs.Spelling.{first_items, list_at, live_rows, slot_at}
 use Rattle.hy_space.specs.Space.{owner_bytes}
 use Rattle.hy_partition.proofs.places.find_row.Given as goal
 

@@ -1,5 +1,5 @@
 use Rattle.std.proofs.Common.{◌≡◌, ℕ, ◌<◌, ◌^◌, sym, ap, ◌∙◌, subst, arith}
-use Rattle.hy_schema.specs.Spelling.{slot_page}
+use Rattle.hy_rows.specs.Spelling.{slot_page}
 use Rattle.hy_space.specs.Space.{HasPage, page_count}
 use Rattle.hy_partition.proofs.PlaceLaws.{has_slot_page, used_slots-small}
 use Rattle.hy_partition.proofs.places.place_in.Goals as goal

@@ -1,6 +1,6 @@
 use Rattle.std.proofs.Common.{rules, ◌≡◌, ℕ, ◌<◌, ◌^◌, sym, ap, ◌∙◌, subst, arith}
 use Rattle.hy_space.specs.Space.{HasPage, owner_bytes, page_count}
-use Rattle.hy_schema.specs.Spelling.{list_at, used_slots}
+use Rattle.hy_rows.specs.Spelling.{list_at, used_slots}
 use Rattle.hy_partition.proofs.PlaceLaws.{has_first_page, used_slots-small}
 use Rattle.hy_partition.proofs.places.used_of.Goals as goal
 

@@ -1,9 +1,9 @@
 use Rattle.std.proofs.Common.{rules, ◌≡◌, ℕ, List, [], ◌∷◌, ◌++◌, drop, sym, ap, ◌∙◌, ap₂, arith}
 use Rattle.std.proofs.lemmas.List.{get_or_default}
 use Rattle.hy_page.specs.Bytes.{bytes_at}
-use Rattle.hy_schema.specs.Spelling.{is_live, list_at, slot_at, slot_offset, slot_page, slot_width}
-use Rattle.hy_schema.proofs.ChangedRows.{live_rows-next, live_rows-skip}
-use Rattle.hy_schema.proofs.SlotPlaces.{slot_page-below}
+use Rattle.hy_rows.specs.Spelling.{is_live, list_at, slot_at, slot_offset, slot_page, slot_width}
+use Rattle.hy_rows.proofs.ChangedRows.{live_rows-next, live_rows-skip}
+use Rattle.hy_rows.proofs.SlotPlaces.{slot_page-below}
 use Rattle.hy_partition.proofs.snapshot.rows_on_pages.Goals as goal
 use Rattle.hy_partition.proofs.snapshot.rows_on_pages.Goals.{in-Some+in_ok-push, in_default}
 

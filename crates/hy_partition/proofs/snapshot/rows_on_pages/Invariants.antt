@@ -1,5 +1,5 @@
 use Rattle.std.proofs.Common.{◌≡◌}
-use Rattle.hy_schema.specs.Spelling.{first_items, live_rows, slot_at, used_slots}
+use Rattle.hy_rows.specs.Spelling.{first_items, live_rows, slot_at, used_slots}
 use Rattle.hy_partition.proofs.snapshot.rows_on_pages.Given as goal
 
 -- the rows of the slots so far

@@ -3,7 +3,7 @@ use Rattle.std.proofs.lemmas.Bool.Decides.{nat_tests}
 use Rattle.std.proofs.lemmas.Int.{ints}
 use Rattle.std.specs.Int.{w64}
 use Rattle.std.specs.Int.RustNames.{FitsSigned}
-use Rattle.hy_schema.specs.declared.district.District.{District}
+use Rattle.hy_rows.specs.declared.district.District.{District}
 use Rattle.hy_schema.proofs.LoadLaws.{column_sum-pass, column_sum-skip}
 use Rattle.hy_schema.proofs.load.sum_of_districts.Goals as goal
 use Rattle.hy_schema.proofs.load.sum_of_districts.Goals.{then-row-warehouse, else-row-warehouse}

@@ -1,5 +1,5 @@
 use Rattle.std.proofs.Common.{rules, refl, ap, ◌∙◌}
-use Rattle.hy_schema.specs.Tables.{of_warehouse}
+use Rattle.hy_rows.specs.Tables.{of_warehouse}
 use Rattle.hy_partition.proofs.SoundLaws.{sound-new}
 use Rattle.hy_partition.proofs.partition.Partition.new.Goals as goal
 

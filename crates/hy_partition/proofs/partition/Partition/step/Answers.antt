@@ -5,7 +5,7 @@ use Rattle.hy_partition.specs.Partition.{PartitionState}
 use Rattle.std.proofs.Common.{Ok, Err}
 use Rattle.hy_schema.specs.declared.command.Reply.{Reply}
 use Rattle.hy_schema.specs.declared.command.Reply.TheVariants as replies
-use Rattle.hy_schema.specs.Spelling.{tables_of}
+use Rattle.hy_rows.specs.Spelling.{tables_of}
 use Rattle.hy_space.specs.Space.{owner_bytes, SameForChildren}
 use Rattle.hy_partition.specs.Slices.{slice, writes}
 use Rattle.hy_partition.specs.Steps.{LacksFrames}

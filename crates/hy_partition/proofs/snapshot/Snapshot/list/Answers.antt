@@ -1,6 +1,6 @@
 use Rattle.std.proofs.Common.{rules, ◌≡◌, ℕ, List, IfOk, sym, ap, subst, ◌∙◌, arith}
-use Rattle.hy_schema.specs.Spelling.{HasSlots, rows_of, list_at}
-use Rattle.hy_schema.specs.inside.Places.{segment_there}
+use Rattle.hy_rows.specs.Spelling.{HasSlots, rows_of, list_at}
+use Rattle.hy_rows.specs.inside.Places.{segment_there}
 use Rattle.hy_partition.proofs.snapshot.Snapshot.list.Goals as goal
 
 pub segment-requires : goal.segment-requires

@@ -1,6 +1,6 @@
 use Rattle.std.proofs.Common.{◌∙◌, ap, arith}
 use Rattle.std.proofs.lemmas.List.{length-map}
-use Rattle.hy_schema.specs.Spelling.{list_at}
+use Rattle.hy_rows.specs.Spelling.{list_at}
 use Rattle.hy_partition.proofs.SnapshotLaws.{segment_at}
 use Rattle.hy_partition.proofs.snapshot.Snapshot.segment.Goals as goal
 

@@ -1,4 +1,4 @@
-use Rattle.hy_schema.specs.Tables.{of_warehouse}
+use Rattle.hy_rows.specs.Tables.{of_warehouse}
 use Rattle.hy_schema.specs.Replay.{replay}
 use Rattle.hy_schema.proofs.KeyLaws.{HasUniqueKeys-load, HasUniqueKeys-one_warehouse}
 use Rattle.hy_schema.proofs.KeptConditionLaws.{IsConsistent-load, IsConsistent-replay}

@@ -1,0 +1,76 @@
+-- The laws of columns that lie one behind another in the bytes of a row.
+use Rattle.std.proofs.Common.{◌≡◌, ℕ, ℤ, ◌+◌, ◌/◌, ◌%◌, ◌^◌, ◌<◌, ◌≤◌, List, [], ◌∷◌, ◌++◌, length, take, drop, refl, sym, ap, ◌∙◌, arith, add-one, append_assoc, length-append, length-drop}
+use Rattle.std.proofs.lemmas.List.{take_all, take-append-le, drop_at, drop-append-le}
+use Rattle.std.proofs.lemmas.Int.{ints, to_z-of_z}
+use Rattle.std.specs.Int.{w64, cast_signed, cast_unsigned}
+use Rattle.std.specs.Int.RustNames.{FitsSigned}
+use Rattle.hy_page.specs.Bytes.{number_of, bytes_of, bytes_at}
+use Rattle.hy_page.proofs.ByteLaws.{length-bytes_of, number_of-bytes_of}
+use Rattle.hy_rows.specs.Rows.{number_at, signed_at, text_at, signed_bytes}
+use Rattle.hy_rows.specs.Texts.{text_of, padded, IsText}
+use Rattle.hy_rows.proofs.TextLaws.{text_of-padded, length-padded}
+
+-- a number's lowest byte behind a list, and then its other bytes
+pub append-lowest_byte : (list : List ℕ) (width more number : ℕ) → more ≡ width + 1 → (list ++ number % 256 ∷ []) ++ bytes_of width (number / 256) ≡ list ++ bytes_of more number
+append-lowest_byte list width more number one_more = rw (one_more, add-one, append_assoc) refl
+
+-- a first list with others behind it, one after another
+abbrev pub joined : List ℕ → List (List ℕ) → List ℕ
+joined first [] = first
+joined first (next ∷ others) = joined (first ++ next) others
+
+-- what stands in front of joined lists stands in front of the first
+pub append-joined : (front first : List ℕ) (others : List (List ℕ)) → front ++ joined first others ≡ joined (front ++ first) others
+append-joined front first [] = refl
+append-joined front first (next ∷ others) =
+    append-joined front (first ++ next) others ∙ ap (λ start. joined start others) (sym (append_assoc front first next))
+
+-- a list behind another, which itself was put together
+pub append-pushed : {before items more : List ℕ} (column : List ℕ) → items ≡ before → more ≡ items ++ column → more ≡ before ++ column
+append-pushed column first second = second ∙ ap (λ list. list ++ column) first
+
+-- two columns are as long as both together
+pub length-columns : (front column : List ℕ) (offset width end : ℕ) → length front ≡ offset → length column ≡ width → offset + width ≡ end → length (front ++ column) ≡ end
+length-columns front column offset width end before size sum = omega (arith, length-append front column)
+
+-- what stands behind a list doesn't change a part within it
+pub bytes_at-append : (first next : List ℕ) (offset count : ℕ) → offset + count ≤ length first → bytes_at (first ++ next) offset count ≡ bytes_at first offset count
+bytes_at-append first next offset count within =
+    ap (take count) (drop-append-le offset first next (omega arith))
+    ∙ take-append-le count (drop offset first) next (omega (arith, length-drop offset first))
+
+-- nor do several lists behind it
+pub bytes_at-joined : (first : List ℕ) (others : List (List ℕ)) (offset count : ℕ) → offset + count ≤ length first → bytes_at (joined first others) offset count ≡ bytes_at first offset count
+bytes_at-joined first [] offset count within = refl
+bytes_at-joined first (next ∷ others) offset count within =
+    bytes_at-joined (first ++ next) others offset count (omega (arith, length-append first next))
+    ∙ bytes_at-append first next offset count within
+
+-- a column stands where the ones in front of it end
+pub bytes_at-column : (front column : List ℕ) (others : List (List ℕ)) (offset width : ℕ) → length front ≡ offset → length column ≡ width → bytes_at (joined (front ++ column) others) offset width ≡ column
+bytes_at-column front column others offset width before size =
+    bytes_at-joined (front ++ column) others offset width (omega (arith, length-append front column))
+    ∙ ap (take width) (drop_at front column offset before)
+    ∙ take_all width column (omega arith)
+
+-- a column of a number reads as the number
+pub number_at-column : (front : List ℕ) (others : List (List ℕ)) (offset width number : ℕ) → length front ≡ offset → number < 256 ^ width → number_at (joined (front ++ bytes_of width number) others) offset width ≡ number
+number_at-column front others offset width number before fits =
+    ap number_of (bytes_at-column front (bytes_of width number) others offset width before (length-bytes_of width number))
+    ∙ number_of-bytes_of width number fits
+
+-- a signed number fits eight bytes
+pub cast_unsigned-below : (number : ℤ) → FitsSigned w64 number → cast_unsigned w64 number < 256 ^ 8
+cast_unsigned-below number fits = omega (arith, ints)
+
+-- a column of a signed number reads as the number
+pub signed_at-column : (front : List ℕ) (others : List (List ℕ)) (offset : ℕ) (number : ℤ) → length front ≡ offset → FitsSigned w64 number → signed_at (joined (front ++ signed_bytes number) others) offset ≡ number
+signed_at-column front others offset number before fits =
+    ap (cast_signed w64) (number_at-column front others offset 8 (cast_unsigned w64 number) before (cast_unsigned-below number fits))
+    ∙ to_z-of_z w64 number fits
+
+-- a column of a text reads as the text
+pub text_at-column : (front : List ℕ) (others : List (List ℕ)) (offset width : ℕ) (text : List ℕ) → length front ≡ offset → IsText width text → text_at (joined (front ++ padded width text) others) offset width ≡ text
+text_at-column front others offset width text before is_text =
+    ap text_of (bytes_at-column front (padded width text) others offset width before (length-padded width text is_text.fits))
+    ∙ text_of-padded width text is_text

@@ -1,0 +1,8 @@
+pub mod TextLaws
+pub mod BetweenLaws
+pub mod ColumnLaws
+pub mod RowLaws
+pub mod ChangedRows
+pub mod SlotPlaces
+pub mod PrintableLaws
+pub mod WorkedRanges

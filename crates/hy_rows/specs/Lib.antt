@@ -1,0 +1,9 @@
+pub mod Limits
+pub mod Texts
+pub mod Rows
+pub mod Ranges
+pub mod Tables
+pub mod Finding
+pub mod Spelling
+pub mod WorkedRows
+pub mod inside

@@ -1,0 +1,109 @@
+-- What the bytes of a page table say. The bytes are, for each segment, the list of its pages' bytes. Each table has
+-- a segment, and others may follow them. Page 0 of a segment begins with the number of used slots in eight bytes; the
+-- slots lie on the pages from 1 on, from each page's first byte, and none across the end of a page. A slot is a mark,
+-- 1 for a live row and 0 for an erased one, and the bytes of the row.
+use Rattle.std.specs.Prelude.{◌≡◌, ℕ, ◌+◌, ◌-◌, ◌*◌, ◌/◌, ◌%◌, ◌<◌, ◌≤◌, ◌==◌, Bool, true, None, Some, find, List, [], ◌∷◌, ◌++◌, length, map, filter, drop, slice_get, slice_index, slice_index_or, zero, suc}
+use Rattle.hy_page.specs.Bytes.{bytes_at}
+use Rattle.hy_rows.specs.Rows.{number_at, warehouse_of, district_of, customer_of}
+use Rattle.hy_rows.specs.Tables.{Tables}
+
+-- the segment of each table
+abbrev pub warehouse_segment : ℕ
+warehouse_segment = 0
+
+abbrev pub district_segment : ℕ
+district_segment = 1
+
+abbrev pub customer_segment : ℕ
+customer_segment = 2
+
+-- how many bytes a row of each table has, by segment
+abbrev pub row_widths : List ℕ
+row_widths = 21 ∷ 26 ∷ 74 ∷ []
+
+-- how many segments hold the tables; others may follow them
+abbrev pub segments : ℕ
+segments = length row_widths
+
+-- a segment is that of a table whose rows have so many bytes
+abbrev pub IsTable : ℕ → ℕ → Type 0
+IsTable segment row_bytes = slice_get row_widths segment ≡ Some row_bytes
+
+-- the list at a place of a list of lists, or the empty one
+abbrev pub list_at : {Item : Type 0} → List (List Item) → ℕ → List Item
+list_at lists place = slice_index_or lists place []
+
+-- how many bytes a slot has, and how many slots a page of n bytes
+abbrev pub slot_width : ℕ → ℕ
+slot_width row_bytes = 1 + row_bytes
+
+abbrev pub slots_per_page : ℕ → ℕ → ℕ
+slots_per_page n row_bytes = n / slot_width row_bytes
+
+-- where slot k lies: its page in the segment, and the offset of its first byte there
+abbrev pub slot_page : ℕ → ℕ → ℕ → ℕ
+slot_page n row_bytes k = 1 + k / slots_per_page n row_bytes
+
+abbrev pub slot_offset : ℕ → ℕ → ℕ → ℕ
+slot_offset n row_bytes k = k % slots_per_page n row_bytes * slot_width row_bytes
+
+-- how many slots a segment has used
+abbrev pub used_slots : List (List ℕ) → ℕ
+used_slots pages = number_at (list_at pages 0) 0 8
+
+-- the bytes of slot k
+abbrev pub slot_at : ℕ → ℕ → List (List ℕ) → ℕ → List ℕ
+slot_at n row_bytes pages k =
+    bytes_at (list_at pages (slot_page n row_bytes k)) (slot_offset n row_bytes k) (slot_width row_bytes)
+
+-- the first items of a sequence, in order
+abbrev pub first_items : {Item : Type 0} → (ℕ → Item) → ℕ → List Item
+first_items item zero = []
+first_items item (suc k) = first_items item k ++ item k ∷ []
+
+-- whether a slot has a live row
+abbrev pub is_live : List ℕ → Bool
+is_live slot = number_at slot 0 1 == 1
+
+-- the rows of a list of slots: those of the live ones, in order
+abbrev pub live_rows : {Row : Type 0} → (List ℕ → Row) → List (List ℕ) → List Row
+live_rows row_of slots = map (λ slot. row_of (drop 1 slot)) (filter is_live slots)
+
+-- the rows of a segment
+abbrev pub rows_of : {Row : Type 0} → ℕ → ℕ → (List ℕ → Row) → List (List ℕ) → List Row
+rows_of n row_bytes row_of pages = live_rows row_of (first_items (slot_at n row_bytes pages) (used_slots pages))
+
+-- a segment has its page 0, and its used slots lie on its other pages
+pub record HasSlots (n row_bytes : ℕ) (pages : List (List ℕ)) : Type 0 where
+  pub first : 0 < length pages
+  pub slots : used_slots pages ≤ slots_per_page n row_bytes * (length pages - 1)
+
+-- the rows of one segment of a page table
+abbrev pub segment_rows : {Row : Type 0} → ℕ → List (List (List ℕ)) → ℕ → (List ℕ → Row) → List Row
+segment_rows n bytes segment row_of = rows_of n (slice_index row_widths segment) row_of (list_at bytes segment)
+
+-- the rows that the bytes of a page table say
+abbrev pub tables_of : ℕ → List (List (List ℕ)) → Tables
+tables_of n bytes = record {
+  warehouses = segment_rows n bytes warehouse_segment warehouse_of;
+  districts = segment_rows n bytes district_segment district_of;
+  customers = segment_rows n bytes customer_segment customer_of;
+}
+
+-- each table's segment is there, with its slots
+pub record HasTables (n : ℕ) (bytes : List (List (List ℕ))) : Type 0 where
+  pub all_segments : segments ≤ length bytes
+  pub slots : (segment row_bytes : ℕ) → IsTable segment row_bytes → HasSlots n row_bytes (list_at bytes segment)
+
+-- the bytes of a page table, with pages of n bytes, spell these rows
+pub record Spells (n : ℕ) (bytes : List (List (List ℕ))) (tables : Tables) : Type 0 where
+  pub whole : HasTables n bytes
+  pub rows : tables_of n bytes ≡ tables
+
+-- slot k of a sequence of slots has a live row, and it is the first row that passes the test
+pub record IsFirstMatch {Row : Type 0} (row_of : List ℕ → Row) (test : Row → Bool) (slots : ℕ → List ℕ) (k : ℕ)
+    (row : Row) : Type 0 where
+  pub live : is_live (slots k) ≡ true
+  pub row_is : row_of (drop 1 (slots k)) ≡ row
+  pub matches : test row ≡ true
+  pub first : find test (live_rows row_of (first_items slots k)) ≡ None

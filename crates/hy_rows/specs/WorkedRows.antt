@@ -1,0 +1,187 @@
+-- Worked examples, which the checker computes: a fresh load of one warehouse with three customers in each district, the
+-- bytes of one row of each table, and a small page table.
+use Rattle.std.specs.Prelude.{◌≡◌, ℕ, pos, negsuc, ◌*◌, ◌<◌, List, [], ◌∷◌, ◌++◌, map, replicate, codes, refl}
+use Rattle.std.specs.List.{flat_map}
+use Rattle.std.proofs.Common.{subst, sym, zero, suc, Some, arith, lit<, lit≤}
+use Rattle.std.proofs.lemmas.List.{get_or-replicate}
+use Rattle.hy_rows.specs.declared.warehouse.Warehouse.{Warehouse}
+use Rattle.hy_rows.specs.declared.district.District.{District}
+use Rattle.hy_rows.specs.declared.customer.Customer.{Customer}
+use Rattle.hy_rows.specs.Texts.{text_of, padded}
+use Rattle.hy_rows.specs.Rows.{warehouse_bytes, warehouse_of, district_bytes, district_of, customer_bytes, customer_of}
+use Rattle.hy_rows.specs.Tables.{Tables, no_rows, of_warehouse}
+use Rattle.hy_rows.specs.Spelling.{HasSlots, IsTable, Spells, list_at, segments, slots_per_page, rows_of, used_slots}
+use Rattle.hy_rows.specs.inside.Places.{segment_there}
+
+-- the warehouse of the fresh load
+abbrev pub fresh_warehouse : Warehouse
+fresh_warehouse = record { id = 1; name = codes "W1"; tax = 500; ytd = pos 30_000 }
+
+-- a district of the fresh load, by its number and name
+abbrev pub fresh_district : ℕ → List ℕ → District
+fresh_district number name =
+    record { id = number; warehouse = 1; name = name; tax = 100 * number; ytd = pos 3_000; next_order = 1 }
+
+-- a customer of the fresh load, by district, number and names
+abbrev pub fresh_customer : ℕ → ℕ → List ℕ → List ℕ → Customer
+fresh_customer district number first last = record {
+  id = number;
+  district = district;
+  warehouse = 1;
+  first = first;
+  middle = codes "OE";
+  last = last;
+  credit = codes "GC";
+  discount = 100 * number;
+  balance = negsuc 999;
+  ytd_payment = pos 1_000;
+  payment_count = 1;
+  delivery_count = 0;
+}
+
+-- the three customers of a district
+abbrev pub fresh_customers : ℕ → List Customer
+fresh_customers district =
+    fresh_customer district 1 (codes "F0001") (codes "BARBARBAR")
+    ∷ fresh_customer district 2 (codes "F0002") (codes "BARBAROUGHT")
+    ∷ fresh_customer district 3 (codes "F0003") (codes "BARBARABLE")
+    ∷ []
+
+-- the fresh load
+abbrev pub fresh : Tables
+fresh = record no_rows {
+  warehouses = fresh_warehouse ∷ [];
+  districts =
+      fresh_district 1 (codes "D1")
+      ∷ fresh_district 2 (codes "D2")
+      ∷ fresh_district 3 (codes "D3")
+      ∷ fresh_district 4 (codes "D4")
+      ∷ fresh_district 5 (codes "D5")
+      ∷ fresh_district 6 (codes "D6")
+      ∷ fresh_district 7 (codes "D7")
+      ∷ fresh_district 8 (codes "D8")
+      ∷ fresh_district 9 (codes "D9")
+      ∷ fresh_district 10 (codes "D10")
+      ∷ [];
+  customers = flat_map fresh_customers (1 ∷ 2 ∷ 3 ∷ 4 ∷ 5 ∷ 6 ∷ 7 ∷ 8 ∷ 9 ∷ 10 ∷ []);
+}
+
+-- all its rows are of warehouse 1, and none of warehouse 2
+pub fresh-of_warehouse_1 : of_warehouse 1 fresh ≡ fresh
+fresh-of_warehouse_1 = refl
+
+pub fresh-of_warehouse_2 : of_warehouse 2 fresh ≡ no_rows
+fresh-of_warehouse_2 = refl
+
+-- the rows of a second warehouse like the first
+abbrev pub second : Tables
+second = record no_rows {
+  warehouses = record fresh_warehouse { id = 2 } ∷ [];
+  districts = map (λ (row : District). record row { warehouse = 2 }) fresh.districts;
+  customers = map (λ (row : Customer). record row { warehouse = 2 }) fresh.customers;
+}
+
+-- the rows of both
+abbrev pub two_warehouses : Tables
+two_warehouses = record no_rows {
+  warehouses = fresh.warehouses ++ second.warehouses;
+  districts = fresh.districts ++ second.districts;
+  customers = fresh.customers ++ second.customers;
+}
+
+-- each warehouse has its own rows of them, in their order
+pub two-of_warehouse_1 : of_warehouse 1 two_warehouses ≡ fresh
+two-of_warehouse_1 = refl
+
+pub two-of_warehouse_2 : of_warehouse 2 two_warehouses ≡ second
+two-of_warehouse_2 = refl
+
+-- a text ends before the first zero byte of its field
+pub text-ends : text_of (65 ∷ 66 ∷ 0 ∷ 67 ∷ []) ≡ codes "AB"
+text-ends = refl
+
+pub text-padded : padded 4 (codes "AB") ≡ 65 ∷ 66 ∷ 0 ∷ 0 ∷ []
+text-padded = refl
+
+-- the bytes of the warehouse: 1, "W1", 500, 30000
+abbrev pub bytes_of_warehouse : List ℕ
+bytes_of_warehouse =
+    1 ∷ 87 ∷ 49 ∷ 0 ∷ 0 ∷ 0 ∷ 0 ∷ 0 ∷ 0 ∷ 0 ∷ 0 ∷ 244 ∷ 1 ∷ 48 ∷ 117 ∷ 0 ∷ 0 ∷ 0 ∷ 0 ∷ 0 ∷ 0 ∷ []
+
+pub warehouse-bytes : warehouse_bytes fresh_warehouse ≡ bytes_of_warehouse
+warehouse-bytes = refl
+
+pub warehouse-reads : warehouse_of bytes_of_warehouse ≡ fresh_warehouse
+warehouse-reads = refl
+
+-- the bytes of district 3: 3, 1, "D3", 300, 3000, 1
+abbrev pub bytes_of_district : List ℕ
+bytes_of_district =
+    3 ∷ 1 ∷ 68 ∷ 51 ∷ 0 ∷ 0 ∷ 0 ∷ 0 ∷ 0 ∷ 0 ∷ 0 ∷ 0 ∷ 44 ∷ 1 ∷ 184 ∷ 11 ∷ 0 ∷ 0 ∷ 0 ∷ 0 ∷ 0 ∷ 0 ∷ 1 ∷ 0 ∷ 0 ∷ 0 ∷ []
+
+pub district-bytes : district_bytes (fresh_district 3 (codes "D3")) ≡ bytes_of_district
+district-bytes = refl
+
+pub district-reads : district_of bytes_of_district ≡ fresh_district 3 (codes "D3")
+district-reads = refl
+
+-- the bytes of customer 2 of district 3: 2, 3, 1, "F0002", "OE", "BARBAROUGHT", "GC", 200, -1000, 1000, 1, 0
+abbrev pub bytes_of_customer : List ℕ
+bytes_of_customer =
+    2 ∷ 0 ∷ 3 ∷ 1 ∷ 70 ∷ 48 ∷ 48 ∷ 48 ∷ 50 ∷ 0 ∷ 0 ∷ 0 ∷ 0 ∷ 0 ∷ 0 ∷ 0 ∷ 0 ∷ 0 ∷ 0 ∷ 0 ∷ 79 ∷ 69 ∷ 66 ∷ 65
+    ∷ 82 ∷ 66 ∷ 65
+    ∷ 82 ∷ 79 ∷ 85 ∷ 71 ∷ 72 ∷ 84 ∷ 0 ∷ 0 ∷ 0 ∷ 0 ∷ 0 ∷ 71 ∷ 67 ∷ 200 ∷ 0 ∷ 24 ∷ 252 ∷ 255 ∷ 255 ∷ 255 ∷ 255
+    ∷ 255 ∷ 255
+    ∷ 232 ∷ 3 ∷ 0 ∷ 0 ∷ 0 ∷ 0 ∷ 0 ∷ 0 ∷ 1 ∷ 0 ∷ 0 ∷ 0 ∷ 0 ∷ 0 ∷ 0 ∷ 0 ∷ 0 ∷ 0 ∷ 0 ∷ 0 ∷ 0 ∷ 0 ∷ 0 ∷ 0 ∷ []
+
+pub customer-bytes : customer_bytes (fresh_customer 3 2 (codes "F0002") (codes "BARBAROUGHT")) ≡ bytes_of_customer
+customer-bytes = refl
+
+pub customer-reads : customer_of bytes_of_customer ≡ fresh_customer 3 2 (codes "F0002") (codes "BARBAROUGHT")
+customer-reads = refl
+
+-- two slots of a warehouse lie on a page of 64 bytes
+pub page-slots : slots_per_page 64 21 ≡ 2
+page-slots = refl
+
+-- a segment of three pages with three used slots: a warehouse, an erased one, and the warehouse after the least payment
+abbrev pub small_segment : List (List ℕ)
+small_segment =
+    (3 ∷ replicate 63 0)
+    ∷ (1 ∷ bytes_of_warehouse ++ 0 ∷ bytes_of_warehouse ++ replicate 20 0)
+    ∷ (1 ∷ warehouse_bytes (record fresh_warehouse { ytd = pos 30_100 }) ++ replicate 42 0)
+    ∷ []
+
+pub segment-rows : rows_of 64 21 warehouse_of small_segment
+    ≡ fresh_warehouse ∷ record fresh_warehouse { ytd = pos 30_100 } ∷ []
+segment-rows = refl
+
+-- a segment with one page has no rows
+abbrev pub empty_segment : List (List ℕ)
+empty_segment = replicate 64 0 ∷ []
+
+-- the page table of the first, of one without rows for each other table, and of one that is no table's
+abbrev pub small_table : List (List (List ℕ))
+small_table = small_segment ∷ replicate segments empty_segment
+
+empty-slots : (row_bytes : ℕ) → HasSlots 64 row_bytes empty_segment
+empty-slots row_bytes =
+    let none : used_slots empty_segment ≡ 0 = refl in
+    record { first = lit< tt; slots = omega (arith, none) }
+
+width_is : {one other : ℕ} → Some one ≡ Some other → one ≡ other
+width_is same = cc
+
+pub small-slots : (segment row_bytes : ℕ) → IsTable segment row_bytes
+    → HasSlots 64 row_bytes (list_at small_table segment)
+small-slots zero row_bytes table =
+    subst (λ width. HasSlots 64 width small_segment) (width_is table) (record { first = lit< tt; slots = lit≤ tt })
+small-slots (suc segment) row_bytes table =
+    let there : segment < segments = omega (arith, segment_there (suc segment) row_bytes table) in
+    subst (HasSlots 64 row_bytes) (sym (get_or-replicate segments segment empty_segment [] there))
+    (empty-slots row_bytes)
+
+-- it spells the two rows
+pub small-spelled : Spells 64 small_table
+    (record no_rows { warehouses = fresh_warehouse ∷ record fresh_warehouse { ytd = pos 30_100 } ∷ [] })
+small-spelled = record { whole = record { all_segments = lit≤ tt; slots = small-slots }; rows = refl }

@@ -1,0 +1,184 @@
+//! Rows of CUSTOMER.
+
+ghost use Rattle.std.specs.Prelude.{◌≤◌, ◌↔◌, IsTrue};
+ghost use Rattle.hy_rows.specs.Ranges.{IsCredit};
+
+use crate::codec::{
+    SlotBytes, push_number, push_signed, push_text, read_number, read_signed, read_text,
+};
+use crate::district::DISTRICTS_PER_WAREHOUSE;
+use crate::row::Row;
+use crate::tables::Tables;
+use crate::text::Text;
+use crate::warehouse::{MAX_RATE, MAX_WAREHOUSES, is_loaded_money};
+
+/// The greatest C_ID (TPC-C clause 1.2.1).
+pub const MAX_CUSTOMERS: u16 = 3_000;
+
+/// The greatest number of payments and of deliveries that a loaded row may have.
+pub const MAX_COUNT: u64 = 1_000_000_000_000_000;
+
+/// A row of CUSTOMER (TPC-C clause 1.3.1).
+#[derive(Clone, Copy, Debug, PartialEq, Eq)]
+pub struct Customer {
+    /// C_ID, from 1 to `MAX_CUSTOMERS`.
+    pub id: u16,
+    /// C_D_ID, from 1 to `DISTRICTS_PER_WAREHOUSE`.
+    pub district: u8,
+    /// C_W_ID, from 1 to `MAX_WAREHOUSES`.
+    pub warehouse: u8,
+    /// C_FIRST.
+    pub first: Text<16>,
+    /// C_MIDDLE.
+    pub middle: Text<2>,
+    /// C_LAST.
+    pub last: Text<16>,
+    /// C_CREDIT, `GC` or `BC`.
+    pub credit: Text<2>,
+    /// C_DISCOUNT in ten-thousandths.
+    pub discount: u16,
+    /// C_BALANCE in cents.
+    pub balance: i64,
+    /// C_YTD_PAYMENT in cents.
+    pub ytd_payment: i64,
+    /// C_PAYMENT_CNT.
+    pub payment_count: u64,
+    /// C_DELIVERY_CNT.
+    pub delivery_count: u64,
+}
+
+impl Row for Customer {
+    ghost use Rattle.std.specs.Prelude.{◌≡◌, ◌==◌, slice_set};
+    ghost use Rattle.std.proofs.Common.{refl, rules};
+    ghost use Rattle.hy_rows.specs.Spelling.{rows_of, tables_of};
+    ghost use Rattle.hy_rows.specs.inside.Places.{by_places};
+    ghost use Rattle.hy_rows.specs.Rows.{customer_bytes, customer_of};
+
+    const SEGMENT: u32 = 2;
+
+    const BYTES: usize = 74;
+
+    ghost SEGMENT = { 2 };
+
+    ghost BYTES = { 74 };
+
+    ghost bytes_of_row = { customer_bytes };
+
+    ghost row_of_bytes = { customer_of };
+
+    ghost rows_in = { λ tables. tables.customers };
+
+    ghost is_of = { λ warehouse row. row.warehouse == warehouse };
+
+    ghost with_rows = { λ tables rows. record tables { customers = rows } };
+
+    fn encode(&self, slot: &mut SlotBytes) {
+        push_number(slot, self.id.into(), 2);
+        push_number(slot, self.district.into(), 1);
+        push_number(slot, self.warehouse.into(), 1);
+        push_text(slot, &self.first);
+        push_text(slot, &self.middle);
+        push_text(slot, &self.last);
+        push_text(slot, &self.credit);
+        push_number(slot, self.discount.into(), 2);
+        push_signed(slot, self.balance);
+        push_signed(slot, self.ytd_payment);
+        push_number(slot, self.payment_count, 8);
+        push_number(slot, self.delivery_count, 8);
+    }
+
+    fn decode(bytes: &[u8]) -> Customer {
+        Customer {
+            id: read_number(bytes, 0, 2) as u16,
+            district: read_number(bytes, 2, 1) as u8,
+            warehouse: read_number(bytes, 3, 1) as u8,
+            first: read_text(bytes, 4),
+            middle: read_text(bytes, 20),
+            last: read_text(bytes, 22),
+            credit: read_text(bytes, 38),
+            discount: read_number(bytes, 40, 2) as u16,
+            balance: read_signed(bytes, 42),
+            ytd_payment: read_signed(bytes, 50),
+            payment_count: read_number(bytes, 58, 8),
+            delivery_count: read_number(bytes, 66, 8),
+        }
+    }
+
+    fn rows_of(tables: &Tables) -> &[Customer] {
+        tables.customers.as_slice()
+    }
+
+    fn belongs_to(&self, warehouse: u8) -> bool {
+        self.warehouse == warehouse
+    }
+
+    ghost fits = { Prim.search rules };
+
+    ghost is_table = { refl };
+
+    ghost own_rows = { λ tables rows. refl };
+
+    ghost own_rows_again = { λ tables. refl };
+
+    ghost last_rows = { λ tables rows others. refl };
+
+    ghost spelled = { λ n bytes. refl };
+
+    ghost respelled = { λ n bytes pages whole. by_places (λ all. tables_of n (slice_set all 2 pages)
+        ≡ record (tables_of n all) { customers = rows_of n 74 customer_of pages }) bytes whole refl };
+}
+
+impl Customer {
+    ghost use Rattle.hy_rows.specs.Limits.{districts_per_warehouse, max_count, max_customers, max_warehouses};
+    ghost use Rattle.hy_rows.specs.Ranges.{IsBetween, IsRate, IsLoadedMoney, IsLoadedText, IsCredit, IsCustomerInRange};
+
+    /// Whether each column has a value that a load may have.
+    pub fn is_in_range(&self) -> bool
+        ensures { IsTrue result ↔ IsCustomerInRange self.now }
+    {
+        self.has_key_in_range() && self.has_texts_in_range() && self.has_numbers_in_range()
+    }
+
+    /// Whether C_ID, C_D_ID and C_W_ID are in range.
+    fn has_key_in_range(&self) -> bool
+        ensures { IsTrue result
+            ↔ (IsBetween 1 max_customers self.now.id × IsBetween 1 districts_per_warehouse self.now.district
+            × IsBetween 1 max_warehouses self.now.warehouse) }
+    {
+        (1..=MAX_CUSTOMERS).contains(&self.id)
+            && (1..=DISTRICTS_PER_WAREHOUSE).contains(&self.district)
+            && (1..=MAX_WAREHOUSES).contains(&self.warehouse)
+    }
+
+    /// Whether the names and C_CREDIT are in range.
+    fn has_texts_in_range(&self) -> bool
+        ensures { IsTrue result
+            ↔ (IsLoadedText 16 self.now.first × IsLoadedText 2 self.now.middle × IsLoadedText 16 self.now.last
+            × IsCredit self.now.credit) }
+    {
+        self.first.is_printable()
+            && self.middle.is_printable()
+            && self.last.is_printable()
+            && is_credit(&self.credit)
+    }
+
+    /// Whether C_DISCOUNT, the amounts and the counts are in range.
+    fn has_numbers_in_range(&self) -> bool
+        ensures { IsTrue result
+            ↔ (IsRate self.now.discount × IsLoadedMoney self.now.balance × IsLoadedMoney self.now.ytd_payment
+            × (self.now.payment_count ≤ max_count) × (self.now.delivery_count ≤ max_count)) }
+    {
+        self.discount <= MAX_RATE
+            && is_loaded_money(self.balance)
+            && is_loaded_money(self.ytd_payment)
+            && self.payment_count <= MAX_COUNT
+            && self.delivery_count <= MAX_COUNT
+    }
+}
+
+/// Whether a text is `GC` or `BC`.
+fn is_credit(text: &Text<2>) -> bool
+    ensures { IsTrue result ↔ IsCredit text.now }
+{
+    text.as_bytes() == b"GC".as_slice() || text.as_bytes() == b"BC".as_slice()
+}

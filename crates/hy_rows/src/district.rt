@@ -1,0 +1,136 @@
+//! Rows of DISTRICT.
+
+ghost use Rattle.std.specs.Prelude.{◌↔◌, IsTrue};
+
+use crate::codec::{
+    SlotBytes, push_number, push_signed, push_text, read_number, read_signed, read_text,
+};
+use crate::row::Row;
+use crate::tables::Tables;
+use crate::text::Text;
+use crate::warehouse::{MAX_RATE, MAX_WAREHOUSES, is_loaded_money};
+
+/// How many districts a warehouse has (TPC-C clause 1.2.1).
+pub const DISTRICTS_PER_WAREHOUSE: u8 = 10;
+
+/// The greatest number of an order.
+pub const MAX_ORDER: u32 = 1_000_000_000;
+
+/// A row of DISTRICT (TPC-C clause 1.3.1).
+#[derive(Clone, Copy, Debug, PartialEq, Eq)]
+pub struct District {
+    /// D_ID, from 1 to `DISTRICTS_PER_WAREHOUSE`.
+    pub id: u8,
+    /// D_W_ID, from 1 to `MAX_WAREHOUSES`.
+    pub warehouse: u8,
+    /// D_NAME.
+    pub name: Text<10>,
+    /// D_TAX in ten-thousandths.
+    pub tax: u16,
+    /// D_YTD in cents.
+    pub ytd: i64,
+    /// D_NEXT_O_ID.
+    pub next_order: u32,
+}
+
+impl Row for District {
+    ghost use Rattle.std.specs.Prelude.{◌≡◌, ◌==◌, slice_set};
+    ghost use Rattle.std.proofs.Common.{refl, rules};
+    ghost use Rattle.hy_rows.specs.Spelling.{rows_of, tables_of};
+    ghost use Rattle.hy_rows.specs.inside.Places.{by_places};
+    ghost use Rattle.hy_rows.specs.Rows.{district_bytes, district_of};
+
+    const SEGMENT: u32 = 1;
+
+    const BYTES: usize = 26;
+
+    ghost SEGMENT = { 1 };
+
+    ghost BYTES = { 26 };
+
+    ghost bytes_of_row = { district_bytes };
+
+    ghost row_of_bytes = { district_of };
+
+    ghost rows_in = { λ tables. tables.districts };
+
+    ghost is_of = { λ warehouse row. row.warehouse == warehouse };
+
+    ghost with_rows = { λ tables rows. record tables { districts = rows } };
+
+    fn encode(&self, slot: &mut SlotBytes) {
+        push_number(slot, self.id.into(), 1);
+        push_number(slot, self.warehouse.into(), 1);
+        push_text(slot, &self.name);
+        push_number(slot, self.tax.into(), 2);
+        push_signed(slot, self.ytd);
+        push_number(slot, self.next_order.into(), 4);
+    }
+
+    fn decode(bytes: &[u8]) -> District {
+        District {
+            id: read_number(bytes, 0, 1) as u8,
+            warehouse: read_number(bytes, 1, 1) as u8,
+            name: read_text(bytes, 2),
+            tax: read_number(bytes, 12, 2) as u16,
+            ytd: read_signed(bytes, 14),
+            next_order: read_number(bytes, 22, 4) as u32,
+        }
+    }
+
+    fn rows_of(tables: &Tables) -> &[District] {
+        tables.districts.as_slice()
+    }
+
+    fn belongs_to(&self, warehouse: u8) -> bool {
+        self.warehouse == warehouse
+    }
+
+    ghost fits = { Prim.search rules };
+
+    ghost is_table = { refl };
+
+    ghost own_rows = { λ tables rows. refl };
+
+    ghost own_rows_again = { λ tables. refl };
+
+    ghost last_rows = { λ tables rows others. refl };
+
+    ghost spelled = { λ n bytes. refl };
+
+    ghost respelled = { λ n bytes pages whole. by_places (λ all. tables_of n (slice_set all 1 pages)
+        ≡ record (tables_of n all) { districts = rows_of n 26 district_of pages }) bytes whole refl };
+}
+
+impl District {
+    ghost use Rattle.hy_rows.specs.Limits.{districts_per_warehouse, max_order, max_warehouses};
+    ghost use Rattle.hy_rows.specs.Ranges.{IsBetween, IsRate, IsLoadedMoney, IsLoadedText, IsDistrictInRange};
+
+    /// Whether each column has a value that a load may have.
+    pub fn is_in_range(&self) -> bool
+        ensures { IsTrue result ↔ IsDistrictInRange self.now }
+    {
+        self.has_key_in_range() && self.has_columns_in_range()
+    }
+
+    /// Whether D_ID and D_W_ID are in range.
+    fn has_key_in_range(&self) -> bool
+        ensures { IsTrue result ↔ (IsBetween 1 districts_per_warehouse self.now.id
+            × IsBetween 1 max_warehouses self.now.warehouse) }
+    {
+        (1..=DISTRICTS_PER_WAREHOUSE).contains(&self.id)
+            && (1..=MAX_WAREHOUSES).contains(&self.warehouse)
+    }
+
+    /// Whether the columns behind the key are in range.
+    fn has_columns_in_range(&self) -> bool
+        ensures { IsTrue result
+            ↔ (IsLoadedText 10 self.now.name × IsRate self.now.tax × IsLoadedMoney self.now.ytd
+            × IsBetween 1 max_order self.now.next_order) }
+    {
+        self.name.is_printable()
+            && self.tax <= MAX_RATE
+            && is_loaded_money(self.ytd)
+            && (1..=MAX_ORDER).contains(&self.next_order)
+    }
+}

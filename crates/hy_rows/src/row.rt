@@ -1,0 +1,86 @@
+//! What the rows of all tables have in common.
+
+ghost use Rattle.std.specs.Prelude.{◌≡◌, ℕ, ◌+◌, ◌<◌, ◌≤◌, ◌++◌, Bool, List, length, slice_set};
+ghost use Rattle.arrayvec.specs.ArrayVec.{array_vec_len};
+ghost use Rattle.hy_rows.specs.Tables.{Tables};
+ghost use Rattle.hy_rows.specs.Spelling.{IsTable, list_at, rows_of as rows_of_pages, segments, tables_of};
+ghost use Rattle.hy_rows.specs.declared.codec.TheConstants.{MAX_SLOT_BYTES};
+
+use crate::codec::SlotBytes;
+use crate::tables::Tables;
+
+/// How many segments hold the tables, one each; others may follow them.
+pub const SEGMENTS: u32 = 3;
+
+/// A row of a table: how it lies in the slots of its segment, and where lists of all tables have it.
+pub trait Row: Copy {
+    /// The segment of the table.
+    const SEGMENT: u32;
+
+    /// How many bytes a row has.
+    const BYTES: usize;
+
+    /// The segment and the number of bytes, as clauses name them.
+    ghost SEGMENT: { ℕ };
+
+    ghost BYTES: { ℕ };
+
+    /// The bytes of a row.
+    ghost bytes_of_row: { Self → List ℕ };
+
+    /// The row that bytes say.
+    ghost row_of_bytes: { List ℕ → Self };
+
+    /// The rows of this table.
+    ghost rows_in: { Tables → List Self };
+
+    /// The rows of all tables, with these as the rows of this one.
+    ghost with_rows: { Tables → List Self → Tables };
+
+    /// The rows of a table stand by themselves beside those of the others.
+    ghost own_rows: { (tables : Tables) (rows : List Self) → rows_in (with_rows tables rows) ≡ rows };
+
+    ghost own_rows_again: { (tables : Tables) → with_rows tables (rows_in tables) ≡ tables };
+
+    ghost last_rows: { (tables : Tables) (rows others : List Self)
+        → with_rows (with_rows tables rows) others ≡ with_rows tables others };
+
+    /// Whether a row belongs to a warehouse.
+    ghost is_of: { ℕ → Self → Bool };
+
+    /// Appends the bytes of the row to a slot.
+    fn encode(&self, slot: &mut SlotBytes)
+        requires { array_vec_len slot.old + BYTES ≤ MAX_SLOT_BYTES }
+        ensures bytes { slot.new.items ≡ slot.old.items ++ bytes_of_row self.now }
+        ensures width { length (bytes_of_row self.now) ≡ BYTES }
+        ensures reads_back { row_of_bytes (bytes_of_row self.now) ≡ self.now };
+
+    /// The row that these bytes say.
+    fn decode(bytes: &[u8]) -> Self
+        requires { length bytes.now ≡ BYTES }
+        ensures { result ≡ row_of_bytes bytes.now };
+
+    /// The rows of this table.
+    fn rows_of(tables: &Tables) -> &[Self]
+        ensures { result.now ≡ rows_in tables.now };
+
+    /// Whether the row belongs to a warehouse.
+    fn belongs_to(&self, warehouse: u8) -> bool
+        ensures { result ≡ is_of warehouse self.now };
+
+    /// A row and its mark fit a slot, and a slot fits every page.
+    ghost fits: { BYTES < MAX_SLOT_BYTES };
+
+    /// The segment and the width are those of one of the tables.
+    ghost is_table: { IsTable SEGMENT BYTES };
+
+    /// Of the rows that the bytes of a page table say, those of this table are the rows of its segment.
+    ghost spelled: { (n : ℕ) (bytes : List (List (List ℕ))) → rows_in (tables_of n bytes)
+        ≡ rows_of_pages n BYTES row_of_bytes (list_at bytes SEGMENT) };
+
+    /// Where this segment has other pages, this table has their rows, and the other tables stay.
+    ghost respelled: { (n : ℕ) (bytes : List (List (List ℕ))) (pages : List (List ℕ))
+        → segments ≤ length bytes
+        → tables_of n (slice_set bytes SEGMENT pages)
+        ≡ with_rows (tables_of n bytes) (rows_of_pages n BYTES row_of_bytes pages) };
+}

@@ -1,0 +1,119 @@
+//! Rows of WAREHOUSE.
+
+ghost use Rattle.std.specs.Prelude.{◌↔◌, IsTrue};
+ghost use Rattle.hy_rows.specs.Ranges.{IsLoadedMoney};
+
+use crate::codec::{
+    SlotBytes, push_number, push_signed, push_text, read_number, read_signed, read_text,
+};
+use crate::row::Row;
+use crate::tables::Tables;
+use crate::text::Text;
+
+/// The greatest W_ID.
+pub const MAX_WAREHOUSES: u8 = 16;
+
+/// The greatest amount in cents that a loaded row may have.
+pub const MAX_CENTS: i64 = 1_000_000_000_000_000;
+
+/// The whole, in ten-thousandths.
+pub const MAX_RATE: u16 = 10_000;
+
+/// A row of WAREHOUSE (TPC-C clause 1.3.1).
+#[derive(Clone, Copy, Debug, PartialEq, Eq)]
+pub struct Warehouse {
+    /// W_ID, from 1 to `MAX_WAREHOUSES`.
+    pub id: u8,
+    /// W_NAME.
+    pub name: Text<10>,
+    /// W_TAX in ten-thousandths.
+    pub tax: u16,
+    /// W_YTD in cents.
+    pub ytd: i64,
+}
+
+impl Row for Warehouse {
+    ghost use Rattle.std.specs.Prelude.{◌≡◌, ◌==◌, slice_set};
+    ghost use Rattle.std.proofs.Common.{refl, rules};
+    ghost use Rattle.hy_rows.specs.Spelling.{rows_of, tables_of};
+    ghost use Rattle.hy_rows.specs.inside.Places.{by_places};
+    ghost use Rattle.hy_rows.specs.Rows.{warehouse_bytes, warehouse_of};
+
+    const SEGMENT: u32 = 0;
+
+    const BYTES: usize = 21;
+
+    ghost SEGMENT = { 0 };
+
+    ghost BYTES = { 21 };
+
+    ghost bytes_of_row = { warehouse_bytes };
+
+    ghost row_of_bytes = { warehouse_of };
+
+    ghost rows_in = { λ tables. tables.warehouses };
+
+    ghost is_of = { λ warehouse row. row.id == warehouse };
+
+    ghost with_rows = { λ tables rows. record tables { warehouses = rows } };
+
+    fn encode(&self, slot: &mut SlotBytes) {
+        push_number(slot, self.id.into(), 1);
+        push_text(slot, &self.name);
+        push_number(slot, self.tax.into(), 2);
+        push_signed(slot, self.ytd);
+    }
+
+    fn decode(bytes: &[u8]) -> Warehouse {
+        Warehouse {
+            id: read_number(bytes, 0, 1) as u8,
+            name: read_text(bytes, 1),
+            tax: read_number(bytes, 11, 2) as u16,
+            ytd: read_signed(bytes, 13),
+        }
+    }
+
+    fn rows_of(tables: &Tables) -> &[Warehouse] {
+        tables.warehouses.as_slice()
+    }
+
+    fn belongs_to(&self, warehouse: u8) -> bool {
+        self.id == warehouse
+    }
+
+    ghost fits = { Prim.search rules };
+
+    ghost is_table = { refl };
+
+    ghost own_rows = { λ tables rows. refl };
+
+    ghost own_rows_again = { λ tables. refl };
+
+    ghost last_rows = { λ tables rows others. refl };
+
+    ghost spelled = { λ n bytes. refl };
+
+    ghost respelled = { λ n bytes pages whole. by_places (λ all. tables_of n (slice_set all 0 pages)
+        ≡ record (tables_of n all) { warehouses = rows_of n 21 warehouse_of pages }) bytes whole refl };
+}
+
+impl Warehouse {
+    ghost use Rattle.hy_rows.specs.Ranges.{IsWarehouseInRange};
+
+    /// Whether each column has a value that a load may have.
+    pub fn is_in_range(&self) -> bool
+        ensures { IsTrue result ↔ IsWarehouseInRange self.now }
+    {
+        (1..=MAX_WAREHOUSES).contains(&self.id)
+            && self.name.is_printable()
+            && self.tax <= MAX_RATE
+            && is_loaded_money(self.ytd)
+    }
+}
+
+/// Whether a loaded row may have an amount in cents.
+pub fn is_loaded_money(cents: i64) -> bool
+    ensures { IsTrue result ↔ IsLoadedMoney cents }
+{
+    (-MAX_CENTS..=MAX_CENTS).contains(&cents)
+}
