@@ -1,5 +1,5 @@
 -- The bytes of a row say that row.
-use Rattle.std.proofs.Common.{◌≡◌, ◌^◌, ◌<◌, [], ◌∷◌, ◌++◌, refl}
+use Rattle.std.proofs.Common.{◌≡◌, ℕ, ◌^◌, ◌<◌, List, [], ◌∷◌, ◌++◌, refl, ap}
 use Rattle.std.specs.Int.{w64}
 use Rattle.std.specs.Int.RustNames.{FitsSigned}
 use Rattle.hy_page.specs.Bytes.{bytes_of}
@@ -7,10 +7,11 @@ use Rattle.hy_page.proofs.ByteLaws.{length-bytes_of}
 use Rattle.hy_rows.specs.declared.warehouse.Warehouse.{Warehouse}
 use Rattle.hy_rows.specs.declared.district.District.{District}
 use Rattle.hy_rows.specs.declared.customer.Customer.{Customer}
-use Rattle.hy_rows.specs.Rows.{warehouse_bytes, warehouse_of, district_bytes, district_of, customer_bytes, customer_of, signed_bytes}
+use Rattle.hy_rows.specs.declared.history.History.{History}
+use Rattle.hy_rows.specs.Rows.{warehouse_bytes, warehouse_of, district_bytes, district_of, customer_bytes, customer_of, history_bytes, history_of, signed_bytes}
 use Rattle.hy_rows.specs.Texts.{padded, IsText}
 use Rattle.hy_rows.proofs.TextLaws.{length-padded}
-use Rattle.hy_rows.proofs.ColumnLaws.{length-columns, number_at-column, signed_at-column, text_at-column}
+use Rattle.hy_rows.proofs.ColumnLaws.{length-columns, number_at-column, signed_at-column, text_at-column, widths_of, number_at-place, signed_at-place, text_at-place}
 
 -- the numbers and texts of a warehouse fit their columns
 pub record FitsWarehouse (row : Warehouse) : Type 0 where
@@ -133,4 +134,37 @@ customer_of-bytes row fits =
       ytd_payment = signed_at-column front_9 others_10 50 row.ytd_payment at_9 fits.ytd_payment i;
       payment_count = number_at-column front_10 (delivery_count ∷ []) 58 8 row.payment_count at_10 fits.payment_count i;
       delivery_count = number_at-column front_11 [] 66 8 row.delivery_count at_11 fits.delivery_count i;
+    }
+
+-- the columns of a row of HISTORY, and that its numbers and texts fit them
+abbrev pub history_columns : History → List (List ℕ)
+history_columns row =
+    bytes_of 2 row.customer ∷ bytes_of 1 row.customer_district ∷ bytes_of 1 row.customer_warehouse
+    ∷ bytes_of 1 row.district ∷ bytes_of 1 row.warehouse ∷ bytes_of 8 row.date ∷ signed_bytes row.amount
+    ∷ padded 24 row.information ∷ []
+
+pub record FitsHistory (row : History) : Type 0 where
+  pub customer : row.customer < 256 ^ 2
+  pub customer_district : row.customer_district < 256 ^ 1
+  pub customer_warehouse : row.customer_warehouse < 256 ^ 1
+  pub district : row.district < 256 ^ 1
+  pub warehouse : row.warehouse < 256 ^ 1
+  pub date : row.date < 256 ^ 8
+  pub amount : FitsSigned w64 row.amount
+  pub information : IsText 24 row.information
+
+pub history_of-bytes : (row : History) → FitsHistory row → history_of (history_bytes row) ≡ row
+history_of-bytes row fits =
+    let columns = history_columns row in
+    let sizes : widths_of columns ≡ 2 ∷ 1 ∷ 1 ∷ 1 ∷ 1 ∷ 8 ∷ 8 ∷ 24 ∷ [] =
+    ap (λ size. 2 ∷ 1 ∷ 1 ∷ 1 ∷ 1 ∷ 8 ∷ 8 ∷ size ∷ []) (length-padded 24 row.information fits.information.fits) in
+    λ i. record {
+      customer = number_at-place columns _ sizes 0 2 row.customer refl fits.customer i;
+      customer_district = number_at-place columns _ sizes 1 1 row.customer_district refl fits.customer_district i;
+      customer_warehouse = number_at-place columns _ sizes 2 1 row.customer_warehouse refl fits.customer_warehouse i;
+      district = number_at-place columns _ sizes 3 1 row.district refl fits.district i;
+      warehouse = number_at-place columns _ sizes 4 1 row.warehouse refl fits.warehouse i;
+      date = number_at-place columns _ sizes 5 8 row.date refl fits.date i;
+      amount = signed_at-place columns _ sizes 6 row.amount refl fits.amount i;
+      information = text_at-place columns _ sizes 7 24 row.information refl fits.information i;
     }

@@ -21,7 +21,7 @@ max_order = 1_000_000_000
 abbrev pub max_cents : ℕ
 max_cents = 1_000_000_000_000_000
 
--- the greatest number of payments and of deliveries that a loaded customer may have
+-- the greatest number that a loaded row may count: payments and deliveries of a customer, sales and orders of a stock
 abbrev pub max_count : ℕ
 max_count = 1_000_000_000_000_000
 
@@ -39,3 +39,38 @@ max_payment = 500_000
 -- the last moment
 abbrev pub max_moment : ℕ
 max_moment = 1_000_000_000_000_000
+
+-- O_CARRIER_ID goes from 1 up to this (TPC-C clause 2.7.1.2)
+abbrev pub max_carriers : ℕ
+max_carriers = 10
+
+-- the least and the greatest number of lines of an order (TPC-C clause 2.4.1.3)
+abbrev pub min_lines : ℕ
+min_lines = 5
+
+abbrev pub max_lines : ℕ
+max_lines = 15
+
+-- the greatest quantity of an order line (TPC-C clause 2.4.1.5)
+abbrev pub max_quantity : ℕ
+max_quantity = 10
+
+-- the greatest amount of an order line in cents
+abbrev pub max_line_cents : ℕ
+max_line_cents = 10_000_000
+
+-- the greatest quantity of an item that a loaded row has in stock
+abbrev pub max_stock : ℕ
+max_stock = 9_999
+
+-- I_ID goes from 1 up to this (TPC-C clause 1.2.1)
+abbrev pub max_items : ℕ
+max_items = 100_000
+
+-- I_IM_ID goes from 1 up to this (TPC-C clause 4.3.3.1)
+abbrev pub max_images : ℕ
+max_images = 10_000
+
+-- the greatest price of an item in cents
+abbrev pub max_price : ℕ
+max_price = 1_000_000

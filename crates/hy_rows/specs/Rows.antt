@@ -8,6 +8,11 @@ use Rattle.hy_rows.specs.Texts.{text_of, padded}
 use Rattle.hy_rows.specs.declared.warehouse.Warehouse.{Warehouse}
 use Rattle.hy_rows.specs.declared.district.District.{District}
 use Rattle.hy_rows.specs.declared.customer.Customer.{Customer}
+use Rattle.hy_rows.specs.declared.history.History.{History}
+use Rattle.hy_rows.specs.declared.new_order.NewOrder.{NewOrder}
+use Rattle.hy_rows.specs.declared.order.Order.{Order}
+use Rattle.hy_rows.specs.declared.order_line.OrderLine.{OrderLine}
+use Rattle.hy_rows.specs.declared.stock.Stock.{Stock}
 
 -- the number, the signed number and the text that stand at an offset
 abbrev pub number_at : List ℕ → ℕ → ℕ → ℕ
@@ -73,4 +78,90 @@ customer_of bytes = record {
   ytd_payment = signed_at bytes 50;
   payment_count = number_at bytes 58 8;
   delivery_count = number_at bytes 66 8;
+}
+
+-- HISTORY: 46 bytes
+abbrev pub history_bytes : History → List ℕ
+history_bytes row =
+    bytes_of 2 row.customer ++ bytes_of 1 row.customer_district ++ bytes_of 1 row.customer_warehouse
+    ++ bytes_of 1 row.district ++ bytes_of 1 row.warehouse ++ bytes_of 8 row.date ++ signed_bytes row.amount
+    ++ padded 24 row.information
+
+abbrev pub history_of : List ℕ → History
+history_of bytes = record {
+  customer = number_at bytes 0 2;
+  customer_district = number_at bytes 2 1;
+  customer_warehouse = number_at bytes 3 1;
+  district = number_at bytes 4 1;
+  warehouse = number_at bytes 5 1;
+  date = number_at bytes 6 8;
+  amount = signed_at bytes 14;
+  information = text_at bytes 22 24;
+}
+
+-- NEW-ORDER: 6 bytes
+abbrev pub new_order_bytes : NewOrder → List ℕ
+new_order_bytes row =
+    bytes_of 4 row.order ++ bytes_of 1 row.district ++ bytes_of 1 row.warehouse
+
+abbrev pub new_order_of : List ℕ → NewOrder
+new_order_of bytes = record {
+  order = number_at bytes 0 4;
+  district = number_at bytes 4 1;
+  warehouse = number_at bytes 5 1;
+}
+
+-- ORDER: 19 bytes
+abbrev pub order_bytes : Order → List ℕ
+order_bytes row =
+    bytes_of 4 row.id ++ bytes_of 1 row.district ++ bytes_of 1 row.warehouse ++ bytes_of 2 row.customer
+    ++ bytes_of 8 row.entry_date ++ bytes_of 1 row.carrier ++ bytes_of 1 row.line_count
+    ++ bytes_of 1 row.all_local
+
+abbrev pub order_of : List ℕ → Order
+order_of bytes = record {
+  id = number_at bytes 0 4;
+  district = number_at bytes 4 1;
+  warehouse = number_at bytes 5 1;
+  customer = number_at bytes 6 2;
+  entry_date = number_at bytes 8 8;
+  carrier = number_at bytes 16 1;
+  line_count = number_at bytes 17 1;
+  all_local = number_at bytes 18 1;
+}
+
+-- ORDER-LINE: 29 bytes
+abbrev pub order_line_bytes : OrderLine → List ℕ
+order_line_bytes row =
+    bytes_of 4 row.order ++ bytes_of 1 row.district ++ bytes_of 1 row.warehouse ++ bytes_of 1 row.number
+    ++ bytes_of 4 row.item ++ bytes_of 1 row.supply_warehouse ++ bytes_of 8 row.delivery_date
+    ++ bytes_of 1 row.quantity ++ signed_bytes row.amount
+
+abbrev pub order_line_of : List ℕ → OrderLine
+order_line_of bytes = record {
+  order = number_at bytes 0 4;
+  district = number_at bytes 4 1;
+  warehouse = number_at bytes 5 1;
+  number = number_at bytes 6 1;
+  item = number_at bytes 7 4;
+  supply_warehouse = number_at bytes 11 1;
+  delivery_date = number_at bytes 12 8;
+  quantity = number_at bytes 20 1;
+  amount = signed_at bytes 21;
+}
+
+-- STOCK: 31 bytes
+abbrev pub stock_bytes : Stock → List ℕ
+stock_bytes row =
+    bytes_of 4 row.item ++ bytes_of 1 row.warehouse ++ bytes_of 2 row.quantity ++ bytes_of 8 row.ytd
+    ++ bytes_of 8 row.order_count ++ bytes_of 8 row.remote_count
+
+abbrev pub stock_of : List ℕ → Stock
+stock_of bytes = record {
+  item = number_at bytes 0 4;
+  warehouse = number_at bytes 4 1;
+  quantity = number_at bytes 5 2;
+  ytd = number_at bytes 7 8;
+  order_count = number_at bytes 15 8;
+  remote_count = number_at bytes 23 8;
 }

@@ -4,7 +4,7 @@
 -- 1 for a live row and 0 for an erased one, and the bytes of the row.
 use Rattle.std.specs.Prelude.{◌≡◌, ℕ, ◌+◌, ◌-◌, ◌*◌, ◌/◌, ◌%◌, ◌<◌, ◌≤◌, ◌==◌, Bool, true, None, Some, find, List, [], ◌∷◌, ◌++◌, length, map, filter, drop, slice_get, slice_index, slice_index_or, zero, suc}
 use Rattle.hy_page.specs.Bytes.{bytes_at}
-use Rattle.hy_rows.specs.Rows.{number_at, warehouse_of, district_of, customer_of}
+use Rattle.hy_rows.specs.Rows.{number_at, warehouse_of, district_of, customer_of, history_of, new_order_of, order_of, order_line_of, stock_of}
 use Rattle.hy_rows.specs.Tables.{Tables}
 
 -- the segment of each table
@@ -17,9 +17,24 @@ district_segment = 1
 abbrev pub customer_segment : ℕ
 customer_segment = 2
 
+abbrev pub history_segment : ℕ
+history_segment = 3
+
+abbrev pub new_order_segment : ℕ
+new_order_segment = 4
+
+abbrev pub order_segment : ℕ
+order_segment = 5
+
+abbrev pub order_line_segment : ℕ
+order_line_segment = 6
+
+abbrev pub stock_segment : ℕ
+stock_segment = 7
+
 -- how many bytes a row of each table has, by segment
 abbrev pub row_widths : List ℕ
-row_widths = 21 ∷ 26 ∷ 74 ∷ []
+row_widths = 21 ∷ 26 ∷ 74 ∷ 46 ∷ 6 ∷ 19 ∷ 29 ∷ 31 ∷ []
 
 -- how many segments hold the tables; others may follow them
 abbrev pub segments : ℕ
@@ -88,6 +103,11 @@ tables_of n bytes = record {
   warehouses = segment_rows n bytes warehouse_segment warehouse_of;
   districts = segment_rows n bytes district_segment district_of;
   customers = segment_rows n bytes customer_segment customer_of;
+  history = segment_rows n bytes history_segment history_of;
+  new_orders = segment_rows n bytes new_order_segment new_order_of;
+  orders = segment_rows n bytes order_segment order_of;
+  order_lines = segment_rows n bytes order_line_segment order_line_of;
+  stock = segment_rows n bytes stock_segment stock_of;
 }
 
 -- each table's segment is there, with its slots

@@ -1,5 +1,5 @@
 -- Worked examples, which the checker computes: a fresh load of one warehouse with three customers in each district, the
--- bytes of one row of each table, and a small page table.
+-- bytes of one row of each table on pages, and a small page table.
 use Rattle.std.specs.Prelude.{◌≡◌, ℕ, pos, negsuc, ◌*◌, ◌<◌, List, [], ◌∷◌, ◌++◌, map, replicate, codes, refl}
 use Rattle.std.specs.List.{flat_map}
 use Rattle.std.proofs.Common.{subst, sym, zero, suc, Some, arith, lit<, lit≤}
@@ -7,8 +7,13 @@ use Rattle.std.proofs.lemmas.List.{get_or-replicate}
 use Rattle.hy_rows.specs.declared.warehouse.Warehouse.{Warehouse}
 use Rattle.hy_rows.specs.declared.district.District.{District}
 use Rattle.hy_rows.specs.declared.customer.Customer.{Customer}
+use Rattle.hy_rows.specs.declared.history.History.{History}
+use Rattle.hy_rows.specs.declared.new_order.NewOrder.{NewOrder}
+use Rattle.hy_rows.specs.declared.order.Order.{Order}
+use Rattle.hy_rows.specs.declared.order_line.OrderLine.{OrderLine}
+use Rattle.hy_rows.specs.declared.stock.Stock.{Stock}
 use Rattle.hy_rows.specs.Texts.{text_of, padded}
-use Rattle.hy_rows.specs.Rows.{warehouse_bytes, warehouse_of, district_bytes, district_of, customer_bytes, customer_of}
+use Rattle.hy_rows.specs.Rows.{warehouse_bytes, warehouse_of, district_bytes, district_of, customer_bytes, customer_of, history_bytes, history_of, new_order_bytes, new_order_of, order_bytes, order_of, order_line_bytes, order_line_of, stock_bytes, stock_of}
 use Rattle.hy_rows.specs.Tables.{Tables, no_rows, of_warehouse}
 use Rattle.hy_rows.specs.Spelling.{HasSlots, IsTable, Spells, list_at, segments, slots_per_page, rows_of, used_slots}
 use Rattle.hy_rows.specs.inside.Places.{segment_there}
@@ -139,6 +144,134 @@ customer-bytes = refl
 
 pub customer-reads : customer_of bytes_of_customer ≡ fresh_customer 3 2 (codes "F0002") (codes "BARBAROUGHT")
 customer-reads = refl
+
+-- the bytes of a payment of 2 of district 3 of warehouse 4, to district 5 of warehouse 6 at 1700000000, of -300 cents
+abbrev pub some_history : History
+some_history = record {
+  customer = 2;
+  customer_district = 3;
+  customer_warehouse = 4;
+  district = 5;
+  warehouse = 6;
+  date = 1_700_000_000;
+  amount = negsuc 299;
+  information = codes "W6    D5";
+}
+
+abbrev pub bytes_of_history : List ℕ
+bytes_of_history =
+    2 ∷ 0 ∷ 3 ∷ 4 ∷ 5 ∷ 6 ∷ 0 ∷ 241 ∷ 83 ∷ 101 ∷ 0 ∷ 0 ∷ 0 ∷ 0 ∷ 212 ∷ 254 ∷ 255 ∷ 255 ∷ 255 ∷ 255 ∷ 255 ∷ 255
+    ∷ 87 ∷ 54 ∷ 32 ∷ 32 ∷ 32 ∷ 32 ∷ 68 ∷ 53 ∷ 0 ∷ 0 ∷ 0 ∷ 0 ∷ 0 ∷ 0 ∷ 0 ∷ 0 ∷ 0 ∷ 0 ∷ 0 ∷ 0 ∷ 0 ∷ 0 ∷ 0 ∷ 0 ∷ []
+
+pub history-bytes : history_bytes some_history ≡ bytes_of_history
+history-bytes = refl
+
+pub history-reads : history_of bytes_of_history ≡ some_history
+history-reads = refl
+
+-- the bytes of new order 3001 of district 5 of warehouse 6
+abbrev pub some_new_order : NewOrder
+some_new_order = record { order = 3_001; district = 5; warehouse = 6 }
+
+abbrev pub bytes_of_new_order : List ℕ
+bytes_of_new_order =
+    185 ∷ 11 ∷ 0 ∷ 0 ∷ 5 ∷ 6 ∷ []
+
+pub new_order-bytes : new_order_bytes some_new_order ≡ bytes_of_new_order
+new_order-bytes = refl
+
+pub new_order-reads : new_order_of bytes_of_new_order ≡ some_new_order
+new_order-reads = refl
+
+-- the bytes of order 3001 of customer 300, entered at 1700000000, delivered by carrier 7, of 12 lines, all of them local
+abbrev pub some_order : Order
+some_order = record {
+  id = 3_001;
+  district = 5;
+  warehouse = 6;
+  customer = 300;
+  entry_date = 1_700_000_000;
+  carrier = 7;
+  line_count = 12;
+  all_local = 1;
+}
+
+abbrev pub bytes_of_order : List ℕ
+bytes_of_order =
+    185 ∷ 11 ∷ 0 ∷ 0 ∷ 5 ∷ 6 ∷ 44 ∷ 1 ∷ 0 ∷ 241 ∷ 83 ∷ 101 ∷ 0 ∷ 0 ∷ 0 ∷ 0 ∷ 7 ∷ 12 ∷ 1 ∷ []
+
+pub order-bytes : order_bytes some_order ≡ bytes_of_order
+order-bytes = refl
+
+pub order-reads : order_of bytes_of_order ≡ some_order
+order-reads = refl
+
+-- the bytes of line 8 of that order: 9 of item 70000 from warehouse 10, delivered at 1700000001, for 1234.56
+abbrev pub some_order_line : OrderLine
+some_order_line = record {
+  order = 3_001;
+  district = 5;
+  warehouse = 6;
+  number = 8;
+  item = 70_000;
+  supply_warehouse = 10;
+  delivery_date = 1_700_000_001;
+  quantity = 9;
+  amount = pos 123_456;
+}
+
+abbrev pub bytes_of_order_line : List ℕ
+bytes_of_order_line =
+    185 ∷ 11 ∷ 0 ∷ 0 ∷ 5 ∷ 6 ∷ 8 ∷ 112 ∷ 17 ∷ 1 ∷ 0 ∷ 10 ∷ 1 ∷ 241 ∷ 83 ∷ 101 ∷ 0 ∷ 0 ∷ 0 ∷ 0 ∷ 9 ∷ 64 ∷ 226 ∷ 1
+    ∷ 0 ∷ 0 ∷ 0 ∷ 0 ∷ 0 ∷ []
+
+pub order_line-bytes : order_line_bytes some_order_line ≡ bytes_of_order_line
+order_line-bytes = refl
+
+pub order_line-reads : order_line_of bytes_of_order_line ≡ some_order_line
+order_line-reads = refl
+
+-- the bytes of the stock of item 70000 in warehouse 10: 91 there, 1000 sold in 300 orders, 2 of them remote
+abbrev pub some_stock : Stock
+some_stock = record {
+  item = 70_000;
+  warehouse = 10;
+  quantity = 91;
+  ytd = 1_000;
+  order_count = 300;
+  remote_count = 2;
+}
+
+abbrev pub bytes_of_stock : List ℕ
+bytes_of_stock =
+    112 ∷ 17 ∷ 1 ∷ 0 ∷ 10 ∷ 91 ∷ 0 ∷ 232 ∷ 3 ∷ 0 ∷ 0 ∷ 0 ∷ 0 ∷ 0 ∷ 0 ∷ 44 ∷ 1 ∷ 0 ∷ 0 ∷ 0 ∷ 0 ∷ 0 ∷ 0 ∷ 2 ∷ 0
+    ∷ 0 ∷ 0 ∷ 0 ∷ 0 ∷ 0 ∷ 0 ∷ []
+
+pub stock-bytes : stock_bytes some_stock ≡ bytes_of_stock
+stock-bytes = refl
+
+pub stock-reads : stock_of bytes_of_stock ≡ some_stock
+stock-reads = refl
+
+-- one row of each of these tables
+abbrev pub some_rows : Tables
+some_rows = record no_rows {
+  history = some_history ∷ [];
+  new_orders = some_new_order ∷ [];
+  orders = some_order ∷ [];
+  order_lines = some_order_line ∷ [];
+  stock = some_stock ∷ [];
+}
+
+-- a payment belongs to the warehouse that was paid, and a line to that of its order
+pub some-of_warehouse_6 : of_warehouse 6 some_rows ≡ record some_rows { stock = [] }
+some-of_warehouse_6 = refl
+
+pub some-of_warehouse_4 : of_warehouse 4 some_rows ≡ no_rows
+some-of_warehouse_4 = refl
+
+pub some-of_warehouse_10 : of_warehouse 10 some_rows ≡ record no_rows { stock = some_stock ∷ [] }
+some-of_warehouse_10 = refl
 
 -- two slots of a warehouse lie on a page of 64 bytes
 pub page-slots : slots_per_page 64 21 ≡ 2

@@ -15,7 +15,7 @@ use crate::warehouse::{MAX_RATE, MAX_WAREHOUSES, is_loaded_money};
 /// The greatest C_ID (TPC-C clause 1.2.1).
 pub const MAX_CUSTOMERS: u16 = 3_000;
 
-/// The greatest number of payments and of deliveries that a loaded row may have.
+/// The greatest number that a loaded row may count: of payments, deliveries, sales or orders.
 pub const MAX_COUNT: u64 = 1_000_000_000_000_000;
 
 /// A row of CUSTOMER (TPC-C clause 1.3.1).

@@ -2,15 +2,16 @@
 
 ghost use Rattle.std.specs.Prelude.{◌≡◌, ℕ, ◌+◌, ◌<◌, ◌≤◌, ◌++◌, Bool, List, length, slice_set};
 ghost use Rattle.arrayvec.specs.ArrayVec.{array_vec_len};
-ghost use Rattle.hy_rows.specs.Tables.{Tables};
+ghost use Rattle.hy_rows.specs.Tables.{Lists, Tables};
 ghost use Rattle.hy_rows.specs.Spelling.{IsTable, list_at, rows_of as rows_of_pages, segments, tables_of};
 ghost use Rattle.hy_rows.specs.declared.codec.TheConstants.{MAX_SLOT_BYTES};
 
 use crate::codec::SlotBytes;
+use crate::lists::Lists;
 use crate::tables::Tables;
 
 /// How many segments hold the tables, one each; others may follow them.
-pub const SEGMENTS: u32 = 3;
+pub const SEGMENTS: u32 = 8;
 
 /// A row of a table: how it lies in the slots of its segment, and where lists of all tables have it.
 pub trait Row: Copy {
@@ -83,4 +84,23 @@ pub trait Row: Copy {
         → segments ≤ length bytes
         → tables_of n (slice_set bytes SEGMENT pages)
         ≡ with_rows (tables_of n bytes) (rows_of_pages n BYTES row_of_bytes pages) };
+}
+
+/// A row of any table, also of one that no pages hold: where the lists of a load have it.
+pub trait Listed: Copy {
+    /// The rows of this table.
+    ghost list_in: { Lists → List Self };
+
+    /// The rows of this table.
+    fn list_of(lists: &Lists) -> &[Self]
+        ensures { result.now ≡ list_in lists.now };
+}
+
+// The rows of a table in a segment are those of its list.
+impl<R: Row> Listed for R {
+    ghost list_in = { λ lists. R.rows_in lists.tables };
+
+    fn list_of(lists: &Lists) -> &[R] {
+        R::rows_of(&lists.tables)
+    }
 }

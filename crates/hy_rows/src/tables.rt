@@ -4,17 +4,28 @@ ghost use Rattle.std.specs.Prelude.{◌≡◌, filter, IfOk};
 
 use crate::customer::Customer;
 use crate::district::District;
+use crate::history::History;
+use crate::new_order::NewOrder;
+use crate::order::Order;
+use crate::order_line::OrderLine;
 use crate::row::Row;
+use crate::stock::Stock;
 use crate::warehouse::Warehouse;
 use std::alloc::{AllocError, Global};
 use std::marker::Model;
 
-/// The rows of each table in their order (TPC-C clause 1.2): those of a load, or of one warehouse of it.
+/// The rows of each table that lies on pages, in their order (TPC-C clause 1.2): those of a load, or of one warehouse
+/// of it.
 #[derive(Drop)]
 pub struct Tables {
     pub warehouses: Vec<Warehouse>,
     pub districts: Vec<District>,
     pub customers: Vec<Customer>,
+    pub history: Vec<History>,
+    pub new_orders: Vec<NewOrder>,
+    pub orders: Vec<Order>,
+    pub order_lines: Vec<OrderLine>,
+    pub stock: Vec<Stock>,
 }
 
 // Clauses see the lists.
@@ -27,6 +38,11 @@ impl Model for Tables {
       warehouses = tables.warehouses.items;
       districts = tables.districts.items;
       customers = tables.customers.items;
+      history = tables.history.items;
+      new_orders = tables.new_orders.items;
+      orders = tables.orders.items;
+      order_lines = tables.order_lines.items;
+      stock = tables.stock.items;
     } };
 }
 
@@ -48,6 +64,11 @@ impl Tables {
             warehouses: rows_of_one(alloc, self.list(), warehouse)?,
             districts: rows_of_one(alloc, self.list(), warehouse)?,
             customers: rows_of_one(alloc, self.list(), warehouse)?,
+            history: rows_of_one(alloc, self.list(), warehouse)?,
+            new_orders: rows_of_one(alloc, self.list(), warehouse)?,
+            orders: rows_of_one(alloc, self.list(), warehouse)?,
+            order_lines: rows_of_one(alloc, self.list(), warehouse)?,
+            stock: rows_of_one(alloc, self.list(), warehouse)?,
         })
     }
 }

@@ -1,0 +1,38 @@
+use Rattle.std.proofs.Common.{◌≡◌, ◌++◌, drop, refl, sym, ◌∙◌, rules}
+use Rattle.hy_page.specs.Bytes.{bytes_of}
+use Rattle.hy_rows.specs.Rows.{signed_bytes}
+use Rattle.hy_rows.specs.Texts.{padded}
+use Rattle.hy_rows.proofs.ColumnLaws.{joined, append-joined, append-number, append-pushed}
+use Rattle.hy_rows.proofs.RowLaws.{history_columns, history_of-bytes}
+use Rattle.hy_rows.proofs.history.HistoryRow.encode.Goals as goal
+
+-- the columns were pushed one after another
+pub returns-clause-bytes : goal.returns-clause-bytes
+returns-clause-bytes c =
+    let row = c.args.self.now in
+    let slot = c.args.slot.now.items in
+    let others = drop 1 (history_columns row) in
+    let by_customer = append-number 2 row.customer refl c.into.ensures c.push_number.ensures.bytes in
+    let by_customer_district = append-number 1 row.customer_district by_customer c.into-2.ensures c.push_number-2.ensures.bytes in
+    let by_customer_warehouse = append-number 1 row.customer_warehouse by_customer_district c.into-3.ensures c.push_number-3.ensures.bytes in
+    let by_district = append-number 1 row.district by_customer_warehouse c.into-4.ensures c.push_number-4.ensures.bytes in
+    let by_warehouse = append-number 1 row.warehouse by_district c.into-5.ensures c.push_number-5.ensures.bytes in
+    let by_date = append-pushed (bytes_of 8 row.date) by_warehouse c.push_number-6.ensures.bytes in
+    let amount : c.push_signed.new.out.items ≡ c.push_number-6.new.out.items ++ signed_bytes row.amount = search rules in
+    let by_amount = append-pushed (signed_bytes row.amount) by_date amount in
+    let pushed : c.push_text.new.out.items ≡ joined (slot ++ bytes_of 2 row.customer) others = append-pushed (padded 24 row.information) by_amount c.push_text.ensures.bytes in
+    pushed ∙ sym (append-joined slot (bytes_of 2 row.customer) others)
+
+-- each fits its width
+pub returns-clause-reads_back : goal.returns-clause-reads_back
+returns-clause-reads_back c =
+    history_of-bytes c.args.self.now (record {
+      customer = search rules;
+      customer_district = search rules;
+      customer_warehouse = search rules;
+      district = search rules;
+      warehouse = search rules;
+      date = search rules;
+      amount = search rules;
+      information = search rules;
+    })

@@ -1,0 +1,26 @@
+use Rattle.std.proofs.Common.{◌≡◌, [], ◌∷◌, ◌++◌, refl, sym, ◌∙◌, rules}
+use Rattle.hy_page.specs.Bytes.{bytes_of}
+use Rattle.hy_rows.specs.Rows.{signed_bytes}
+use Rattle.hy_rows.proofs.ColumnLaws.{joined, append-joined, append-number, append-pushed}
+use Rattle.hy_rows.proofs.order_line.OrderLineRow.encode.Goals as goal
+
+-- the columns were pushed one after another
+pub returns-clause-bytes : goal.returns-clause-bytes
+returns-clause-bytes c =
+    let row = c.args.self.now in
+    let slot = c.args.slot.now.items in
+    let others =
+    bytes_of 1 row.district ∷ bytes_of 1 row.warehouse ∷ bytes_of 1 row.number ∷ bytes_of 4 row.item
+    ∷ bytes_of 1 row.supply_warehouse ∷ bytes_of 8 row.delivery_date ∷ bytes_of 1 row.quantity
+    ∷ signed_bytes row.amount ∷ [] in
+    let by_order = append-number 4 row.order refl c.into.ensures c.push_number.ensures.bytes in
+    let by_district = append-number 1 row.district by_order c.into-2.ensures c.push_number-2.ensures.bytes in
+    let by_warehouse = append-number 1 row.warehouse by_district c.into-3.ensures c.push_number-3.ensures.bytes in
+    let by_number = append-number 1 row.number by_warehouse c.into-4.ensures c.push_number-4.ensures.bytes in
+    let by_item = append-number 4 row.item by_number c.into-5.ensures c.push_number-5.ensures.bytes in
+    let by_supply_warehouse = append-number 1 row.supply_warehouse by_item c.into-6.ensures c.push_number-6.ensures.bytes in
+    let by_delivery_date = append-pushed (bytes_of 8 row.delivery_date) by_supply_warehouse c.push_number-7.ensures.bytes in
+    let by_quantity = append-number 1 row.quantity by_delivery_date c.into-7.ensures c.push_number-8.ensures.bytes in
+    let amount : c.push_signed.new.out.items ≡ c.push_number-8.new.out.items ++ signed_bytes row.amount = search rules in
+    let pushed : c.push_signed.new.out.items ≡ joined (slot ++ bytes_of 4 row.order) others = append-pushed (signed_bytes row.amount) by_quantity amount in
+    pushed ∙ sym (append-joined slot (bytes_of 4 row.order) others)

@@ -1,0 +1,96 @@
+//! Rows of NEW-ORDER.
+
+ghost use Rattle.std.specs.Prelude.{◌↔◌, IsTrue};
+
+use crate::codec::{SlotBytes, push_number, read_number};
+use crate::district::{DISTRICTS_PER_WAREHOUSE, MAX_ORDER};
+use crate::row::Row;
+use crate::tables::Tables;
+use crate::warehouse::MAX_WAREHOUSES;
+
+/// A row of NEW-ORDER (TPC-C clause 1.3.1).
+#[derive(Clone, Copy, Debug, PartialEq, Eq)]
+pub struct NewOrder {
+    /// NO_O_ID, from 1 to `MAX_ORDER`.
+    pub order: u32,
+    /// NO_D_ID, from 1 to `DISTRICTS_PER_WAREHOUSE`.
+    pub district: u8,
+    /// NO_W_ID, from 1 to `MAX_WAREHOUSES`.
+    pub warehouse: u8,
+}
+
+impl Row for NewOrder {
+    ghost use Rattle.std.specs.Prelude.{◌≡◌, ◌==◌, slice_set};
+    ghost use Rattle.std.proofs.Common.{refl, rules};
+    ghost use Rattle.hy_rows.specs.Spelling.{rows_of, tables_of};
+    ghost use Rattle.hy_rows.specs.inside.Places.{by_places};
+    ghost use Rattle.hy_rows.specs.Rows.{new_order_bytes, new_order_of};
+
+    const SEGMENT: u32 = 4;
+
+    const BYTES: usize = 6;
+
+    ghost SEGMENT = { 4 };
+
+    ghost BYTES = { 6 };
+
+    ghost bytes_of_row = { new_order_bytes };
+
+    ghost row_of_bytes = { new_order_of };
+
+    ghost rows_in = { λ tables. tables.new_orders };
+
+    ghost is_of = { λ warehouse row. row.warehouse == warehouse };
+
+    ghost with_rows = { λ tables rows. record tables { new_orders = rows } };
+
+    fn encode(&self, slot: &mut SlotBytes) {
+        push_number(slot, self.order.into(), 4);
+        push_number(slot, self.district.into(), 1);
+        push_number(slot, self.warehouse.into(), 1);
+    }
+
+    fn decode(bytes: &[u8]) -> NewOrder {
+        NewOrder {
+            order: read_number(bytes, 0, 4) as u32,
+            district: read_number(bytes, 4, 1) as u8,
+            warehouse: read_number(bytes, 5, 1) as u8,
+        }
+    }
+
+    fn rows_of(tables: &Tables) -> &[NewOrder] {
+        tables.new_orders.as_slice()
+    }
+
+    fn belongs_to(&self, warehouse: u8) -> bool {
+        self.warehouse == warehouse
+    }
+
+    ghost fits = { Prim.search rules };
+
+    ghost is_table = { refl };
+
+    ghost own_rows = { λ tables rows. refl };
+
+    ghost own_rows_again = { λ tables. refl };
+
+    ghost last_rows = { λ tables rows others. refl };
+
+    ghost spelled = { λ n bytes. refl };
+
+    ghost respelled = { λ n bytes pages whole. by_places (λ all. tables_of n (slice_set all 4 pages)
+        ≡ record (tables_of n all) { new_orders = rows_of n 6 new_order_of pages }) bytes whole refl };
+}
+
+impl NewOrder {
+    ghost use Rattle.hy_rows.specs.Ranges.{IsNewOrderInRange};
+
+    /// Whether each column has a value that a load may have.
+    pub fn is_in_range(&self) -> bool
+        ensures { IsTrue result ↔ IsNewOrderInRange self.now }
+    {
+        (1..=MAX_ORDER).contains(&self.order)
+            && (1..=DISTRICTS_PER_WAREHOUSE).contains(&self.district)
+            && (1..=MAX_WAREHOUSES).contains(&self.warehouse)
+    }
+}

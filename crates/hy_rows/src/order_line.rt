@@ -1,0 +1,161 @@
+//! Rows of ORDER-LINE.
+
+ghost use Rattle.std.specs.Prelude.{◌↔◌, IsTrue};
+ghost use Rattle.hy_rows.specs.Ranges.{IsLineAmount};
+
+use crate::codec::{SlotBytes, push_number, push_signed, read_number, read_signed};
+use crate::district::{DISTRICTS_PER_WAREHOUSE, MAX_ORDER};
+use crate::history::MAX_MOMENT;
+use crate::item::MAX_ITEMS;
+use crate::order::MAX_LINES;
+use crate::row::Row;
+use crate::tables::Tables;
+use crate::warehouse::MAX_WAREHOUSES;
+
+/// The greatest quantity of an order line (TPC-C clause 2.4.1.5).
+pub const MAX_QUANTITY: u8 = 10;
+
+/// The greatest amount of an order line in cents: `MAX_QUANTITY` items of `MAX_PRICE`.
+pub const MAX_LINE_CENTS: i64 = 10_000_000;
+
+/// A row of ORDER-LINE (TPC-C clause 1.3.1).
+#[derive(Clone, Copy, Debug, PartialEq, Eq)]
+pub struct OrderLine {
+    /// OL_O_ID, from 1 to `MAX_ORDER`.
+    pub order: u32,
+    /// OL_D_ID, from 1 to `DISTRICTS_PER_WAREHOUSE`.
+    pub district: u8,
+    /// OL_W_ID, from 1 to `MAX_WAREHOUSES`.
+    pub warehouse: u8,
+    /// OL_NUMBER, from 1 to `MAX_LINES`.
+    pub number: u8,
+    /// OL_I_ID, from 1 to `MAX_ITEMS`.
+    pub item: u32,
+    /// OL_SUPPLY_W_ID, from 1 to `MAX_WAREHOUSES`: the warehouse whose stock the line takes.
+    pub supply_warehouse: u8,
+    /// OL_DELIVERY_D, a moment up to `MAX_MOMENT`, or 0 before the delivery.
+    pub delivery_date: u64,
+    /// OL_QUANTITY, from 1 to `MAX_QUANTITY`.
+    pub quantity: u8,
+    /// OL_AMOUNT in cents, from 0 to `MAX_LINE_CENTS`.
+    pub amount: i64,
+}
+
+impl Row for OrderLine {
+    ghost use Rattle.std.specs.Prelude.{◌≡◌, ◌==◌, slice_set};
+    ghost use Rattle.std.proofs.Common.{refl, rules};
+    ghost use Rattle.hy_rows.specs.Spelling.{rows_of, tables_of};
+    ghost use Rattle.hy_rows.specs.inside.Places.{by_places};
+    ghost use Rattle.hy_rows.specs.Rows.{order_line_bytes, order_line_of};
+
+    const SEGMENT: u32 = 6;
+
+    const BYTES: usize = 29;
+
+    ghost SEGMENT = { 6 };
+
+    ghost BYTES = { 29 };
+
+    ghost bytes_of_row = { order_line_bytes };
+
+    ghost row_of_bytes = { order_line_of };
+
+    ghost rows_in = { λ tables. tables.order_lines };
+
+    ghost is_of = { λ warehouse row. row.warehouse == warehouse };
+
+    ghost with_rows = { λ tables rows. record tables { order_lines = rows } };
+
+    fn encode(&self, slot: &mut SlotBytes) {
+        push_number(slot, self.order.into(), 4);
+        push_number(slot, self.district.into(), 1);
+        push_number(slot, self.warehouse.into(), 1);
+        push_number(slot, self.number.into(), 1);
+        push_number(slot, self.item.into(), 4);
+        push_number(slot, self.supply_warehouse.into(), 1);
+        push_number(slot, self.delivery_date, 8);
+        push_number(slot, self.quantity.into(), 1);
+        push_signed(slot, self.amount);
+    }
+
+    fn decode(bytes: &[u8]) -> OrderLine {
+        OrderLine {
+            order: read_number(bytes, 0, 4) as u32,
+            district: read_number(bytes, 4, 1) as u8,
+            warehouse: read_number(bytes, 5, 1) as u8,
+            number: read_number(bytes, 6, 1) as u8,
+            item: read_number(bytes, 7, 4) as u32,
+            supply_warehouse: read_number(bytes, 11, 1) as u8,
+            delivery_date: read_number(bytes, 12, 8),
+            quantity: read_number(bytes, 20, 1) as u8,
+            amount: read_signed(bytes, 21),
+        }
+    }
+
+    fn rows_of(tables: &Tables) -> &[OrderLine] {
+        tables.order_lines.as_slice()
+    }
+
+    fn belongs_to(&self, warehouse: u8) -> bool {
+        self.warehouse == warehouse
+    }
+
+    ghost fits = { Prim.search rules };
+
+    ghost is_table = { refl };
+
+    ghost own_rows = { λ tables rows. refl };
+
+    ghost own_rows_again = { λ tables. refl };
+
+    ghost last_rows = { λ tables rows others. refl };
+
+    ghost spelled = { λ n bytes. refl };
+
+    ghost respelled = { λ n bytes pages whole. by_places (λ all. tables_of n (slice_set all 6 pages)
+        ≡ record (tables_of n all) { order_lines = rows_of n 29 order_line_of pages }) bytes whole refl };
+}
+
+impl OrderLine {
+    ghost use Rattle.hy_rows.specs.Limits.{districts_per_warehouse, max_items, max_lines, max_order, max_warehouses};
+    ghost use Rattle.hy_rows.specs.Ranges.{IsBetween, IsOrderLineInRange};
+
+    /// Whether each column has a value that a load may have.
+    pub fn is_in_range(&self) -> bool
+        ensures { IsTrue result ↔ IsOrderLineInRange self.now }
+    {
+        self.has_key_in_range()
+            && self.has_supply_in_range()
+            && self.delivery_date <= MAX_MOMENT
+            && (1..=MAX_QUANTITY).contains(&self.quantity)
+            && is_line_amount(self.amount)
+    }
+
+    /// Whether OL_O_ID, OL_D_ID, OL_W_ID and OL_NUMBER are in range.
+    fn has_key_in_range(&self) -> bool
+        ensures { IsTrue result
+            ↔ (IsBetween 1 max_order self.now.order × IsBetween 1 districts_per_warehouse self.now.district
+            × IsBetween 1 max_warehouses self.now.warehouse × IsBetween 1 max_lines self.now.number) }
+    {
+        (1..=MAX_ORDER).contains(&self.order)
+            && (1..=DISTRICTS_PER_WAREHOUSE).contains(&self.district)
+            && (1..=MAX_WAREHOUSES).contains(&self.warehouse)
+            && (1..=MAX_LINES).contains(&self.number)
+    }
+
+    /// Whether OL_I_ID and OL_SUPPLY_W_ID are in range.
+    fn has_supply_in_range(&self) -> bool
+        ensures { IsTrue result ↔ (IsBetween 1 max_items self.now.item
+            × IsBetween 1 max_warehouses self.now.supply_warehouse) }
+    {
+        (1..=MAX_ITEMS).contains(&self.item)
+            && (1..=MAX_WAREHOUSES).contains(&self.supply_warehouse)
+    }
+}
+
+/// Whether a loaded order line may have an amount in cents.
+fn is_line_amount(cents: i64) -> bool
+    ensures { IsTrue result ↔ IsLineAmount cents }
+{
+    (0..=MAX_LINE_CENTS).contains(&cents)
+}

@@ -1,0 +1,125 @@
+//! Rows of STOCK.
+
+ghost use Rattle.std.specs.Prelude.{◌≤◌, ◌↔◌, IsTrue};
+
+use crate::codec::{SlotBytes, push_number, read_number};
+use crate::customer::MAX_COUNT;
+use crate::item::MAX_ITEMS;
+use crate::row::Row;
+use crate::tables::Tables;
+use crate::warehouse::MAX_WAREHOUSES;
+
+/// The greatest quantity of an item that a loaded row has in stock.
+pub const MAX_STOCK: u16 = 9_999;
+
+/// A row of STOCK (TPC-C clause 1.3.1).
+#[derive(Clone, Copy, Debug, PartialEq, Eq)]
+pub struct Stock {
+    /// S_I_ID, from 1 to `MAX_ITEMS`.
+    pub item: u32,
+    /// S_W_ID, from 1 to `MAX_WAREHOUSES`.
+    pub warehouse: u8,
+    /// S_QUANTITY, up to `MAX_STOCK`.
+    pub quantity: u16,
+    /// S_YTD, how many were sold, up to `MAX_COUNT`.
+    pub ytd: u64,
+    /// S_ORDER_CNT, up to `MAX_COUNT`.
+    pub order_count: u64,
+    /// S_REMOTE_CNT, up to `MAX_COUNT`.
+    pub remote_count: u64,
+}
+
+impl Row for Stock {
+    ghost use Rattle.std.specs.Prelude.{◌≡◌, ◌==◌, slice_set};
+    ghost use Rattle.std.proofs.Common.{refl, rules};
+    ghost use Rattle.hy_rows.specs.Spelling.{rows_of, tables_of};
+    ghost use Rattle.hy_rows.specs.inside.Places.{by_places};
+    ghost use Rattle.hy_rows.specs.Rows.{stock_bytes, stock_of};
+
+    const SEGMENT: u32 = 7;
+
+    const BYTES: usize = 31;
+
+    ghost SEGMENT = { 7 };
+
+    ghost BYTES = { 31 };
+
+    ghost bytes_of_row = { stock_bytes };
+
+    ghost row_of_bytes = { stock_of };
+
+    ghost rows_in = { λ tables. tables.stock };
+
+    ghost is_of = { λ warehouse row. row.warehouse == warehouse };
+
+    ghost with_rows = { λ tables rows. record tables { stock = rows } };
+
+    fn encode(&self, slot: &mut SlotBytes) {
+        push_number(slot, self.item.into(), 4);
+        push_number(slot, self.warehouse.into(), 1);
+        push_number(slot, self.quantity.into(), 2);
+        push_number(slot, self.ytd, 8);
+        push_number(slot, self.order_count, 8);
+        push_number(slot, self.remote_count, 8);
+    }
+
+    fn decode(bytes: &[u8]) -> Stock {
+        Stock {
+            item: read_number(bytes, 0, 4) as u32,
+            warehouse: read_number(bytes, 4, 1) as u8,
+            quantity: read_number(bytes, 5, 2) as u16,
+            ytd: read_number(bytes, 7, 8),
+            order_count: read_number(bytes, 15, 8),
+            remote_count: read_number(bytes, 23, 8),
+        }
+    }
+
+    fn rows_of(tables: &Tables) -> &[Stock] {
+        tables.stock.as_slice()
+    }
+
+    fn belongs_to(&self, warehouse: u8) -> bool {
+        self.warehouse == warehouse
+    }
+
+    ghost fits = { Prim.search rules };
+
+    ghost is_table = { refl };
+
+    ghost own_rows = { λ tables rows. refl };
+
+    ghost own_rows_again = { λ tables. refl };
+
+    ghost last_rows = { λ tables rows others. refl };
+
+    ghost spelled = { λ n bytes. refl };
+
+    ghost respelled = { λ n bytes pages whole. by_places (λ all. tables_of n (slice_set all 7 pages)
+        ≡ record (tables_of n all) { stock = rows_of n 31 stock_of pages }) bytes whole refl };
+}
+
+impl Stock {
+    ghost use Rattle.hy_rows.specs.Limits.{max_count, max_stock};
+    ghost use Rattle.hy_rows.specs.Ranges.{IsStockInRange};
+
+    /// Whether each column has a value that a load may have.
+    pub fn is_in_range(&self) -> bool
+        ensures { IsTrue result ↔ IsStockInRange self.now }
+    {
+        (1..=MAX_ITEMS).contains(&self.item)
+            && (1..=MAX_WAREHOUSES).contains(&self.warehouse)
+            && self.has_numbers_in_range()
+    }
+
+    /// Whether S_QUANTITY, S_YTD and the counts are in range.
+    fn has_numbers_in_range(&self) -> bool
+        ensures { IsTrue result
+            ↔ ((self.now.quantity ≤ max_stock) × (self.now.ytd ≤ max_count)
+            × (self.now.order_count ≤ max_count) × (self.now.remote_count ≤ max_count)) }
+    {
+        self.quantity <= MAX_STOCK
+            && self.ytd <= MAX_COUNT
+            && self.order_count <= MAX_COUNT
+            && self.remote_count <= MAX_COUNT
+    }
+}
