@@ -9,7 +9,10 @@ ghost use Rattle.hy_partition.specs.inside.Rows.{KeepsOtherSegments, StaysOpen, 
 
 use crate::places::{place_of, used_of};
 use hy_frames::Shortage;
-use hy_schema::{Customer, District, Row, SEGMENTS, SlotBytes, Tables, Warehouse};
+use hy_schema::{
+    Customer, District, History, NewOrder, Order, OrderLine, Row, SEGMENTS, SlotBytes, Stock,
+    Tables, Warehouse,
+};
 use hy_space::Space;
 use std::alloc::Global;
 
@@ -29,6 +32,11 @@ pub(crate) fn pages_with<const N: usize>(
     push_all(&mut space, rows.list::<Warehouse>())?;
     push_all(&mut space, rows.list::<District>())?;
     push_all(&mut space, rows.list::<Customer>())?;
+    push_all(&mut space, rows.list::<History>())?;
+    push_all(&mut space, rows.list::<NewOrder>())?;
+    push_all(&mut space, rows.list::<Order>())?;
+    push_all(&mut space, rows.list::<OrderLine>())?;
+    push_all(&mut space, rows.list::<Stock>())?;
     Ok(space)
 }
 

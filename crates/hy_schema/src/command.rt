@@ -5,7 +5,7 @@ ghost use Rattle.hy_schema.specs.Commands.{is_payment_in_range, is_in_range, war
 
 use crate::refusal::Refusal;
 use arrayvec::ArrayVec;
-use hy_rows::MAX_WAREHOUSES;
+use hy_rows::{MAX_MOMENT, MAX_WAREHOUSES};
 
 /// How many warehouses a command can name.
 pub const MAX_NAMED: usize = MAX_WAREHOUSES as usize;
@@ -15,9 +15,6 @@ pub const MIN_PAYMENT: u64 = 100;
 
 /// The greatest such amount.
 pub const MAX_PAYMENT: u64 = 500_000;
-
-/// The last moment.
-pub const MAX_MOMENT: u64 = 1_000_000_000_000_000;
 
 /// Which customer of a district is meant.
 #[derive(Clone, Copy, Debug, PartialEq, Eq)]

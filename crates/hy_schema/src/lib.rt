@@ -5,10 +5,11 @@ mod command;
 mod load;
 mod refusal;
 
-pub use command::{Command, Commit, MAX_MOMENT, MAX_PAYMENT, MIN_PAYMENT, Payment, Reply, Who};
+pub use command::{Command, Commit, MAX_PAYMENT, MIN_PAYMENT, Payment, Reply, Who};
 pub use hy_rows::{
-    Customer, DISTRICTS_PER_WAREHOUSE, District, MAX_CENTS, MAX_COUNT, MAX_CUSTOMERS, MAX_ORDER,
-    MAX_RATE, MAX_WAREHOUSES, Row, SEGMENTS, SlotBytes, Tables, Text, Warehouse,
+    Customer, DISTRICTS_PER_WAREHOUSE, District, History, MAX_CENTS, MAX_COUNT, MAX_CUSTOMERS,
+    MAX_MOMENT, MAX_ORDER, MAX_RATE, MAX_WAREHOUSES, NewOrder, Order, OrderLine, Row, SEGMENTS,
+    SlotBytes, Stock, Tables, Text, Warehouse,
 };
 pub use load::Load;
 pub use refusal::{LoadFault, Refusal, Table};

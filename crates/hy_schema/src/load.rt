@@ -32,21 +32,22 @@ impl Model for Load {
 impl Load {
     ghost use Rattle.std.specs.Prelude.{ℕ, List, length};
     ghost use Rattle.hy_schema.specs.declared.command.Commit.{Commit};
-    ghost use Rattle.hy_rows.specs.Tables.{Tables, of_warehouse};
+    ghost use Rattle.hy_rows.specs.Tables.{Tables, no_rows, of_warehouse};
     ghost use Rattle.hy_schema.specs.Keys.{HasUniqueKeys};
     ghost use Rattle.hy_rows.specs.Ranges.{IsBetween};
     ghost use Rattle.hy_schema.specs.Conditions.{IsConsistent};
     ghost use Rattle.hy_schema.specs.Replay.{replay};
     ghost use Rattle.hy_schema.specs.Loads.{IsLoad, HasFault};
 
-    /// The load with these lists. E12 names the first wrong row, of the first wrong list in the order WAREHOUSE,
-    /// DISTRICT, CUSTOMER, or else the first broken condition. No memory is taken, so that E1 never comes.
+    /// The load with these lists, and no rows of the other tables. E12 names the first wrong row, of the first wrong list
+    /// in the order WAREHOUSE, DISTRICT, CUSTOMER, or else the first broken condition. No memory is taken, so that E1
+    /// never comes.
     pub fn of(
         warehouses: Vec<Warehouse>,
         districts: Vec<District>,
         customers: Vec<Customer>,
     ) -> Result<Load, Refusal>
-        ensures { let tables : Tables = record {
+        ensures { let tables : Tables = record no_rows {
           warehouses = warehouses.items;
           districts = districts.items;
           customers = customers.items;
@@ -70,10 +71,16 @@ impl Load {
         if !meets_condition_12(&customers) {
             return Err(Refusal::BadLoad(LoadFault::Condition(12)));
         }
+        let alloc = *warehouses.allocator();
         let tables = Tables {
             warehouses,
             districts,
             customers,
+            history: Vec::new(alloc),
+            new_orders: Vec::new(alloc),
+            orders: Vec::new(alloc),
+            order_lines: Vec::new(alloc),
+            stock: Vec::new(alloc),
         };
         Ok(Load { tables })
     }
