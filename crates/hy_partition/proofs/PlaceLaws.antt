@@ -105,6 +105,12 @@ slot_within n width k pages room there =
     let more : per * (k / per + 1) ≤ per * (pages - 1) = mul-le-mul_left per (omega arith) in
     omega arith
 
+-- the slot behind the used ones lies on a page that is there, or on the next one
+pub next_slot_page : (n width : ℕ) (pages : List (List ℕ)) → HasSlots n width pages → slot_page n width (used_slots pages) ≤ length pages
+next_slot_page n width pages slots =
+    let place : used_slots pages / slots_per_page n width ≤ length pages - 1 = div-le_of_le-mul (slots_per_page n width) slots.slots in
+    omega (arith, place, slots.first)
+
 -- with a page of zeros behind those of a segment, the rows stay
 module _ (n segment : ℕ) (bytes : List (List (List ℕ))) (page : List ℕ) (smallest : 256 ≤ n) (below : segment < segments) (tables : HasTables n bytes) where
   abbrev pub page_added : List (List (List ℕ))
@@ -132,6 +138,17 @@ module _ (n segment : ℕ) (bytes : List (List (List ℕ))) (page : List ℕ) (s
       | inr differs ↦ subst (λ (all : List (List ℕ)). HasSlots n w all) (sym (others-page_added s differs)) (tables.slots s w is_table)
     ];
   }
+
+  -- the slot behind the used ones then has a page
+  pub next_slot-page_added : (width : ℕ) → IsTable segment width → slot_page n width (used_slots (list_at page_added segment)) < length (list_at page_added segment)
+  next_slot-page_added width table =
+      let pages = list_at bytes segment in
+      let old = tables.slots segment width table in
+      let longer : length (pages ++ page ∷ []) ≡ length pages + 1 = length-append pages (page ∷ []) in
+      let used : used_slots (pages ++ page ∷ []) ≡ used_slots pages = ap (λ first. number_at first 0 8) (get_or_append_left pages (page ∷ []) [] 0 old.first) in
+      let place : slot_page n width (used_slots (pages ++ page ∷ [])) ≡ slot_page n width (used_slots pages) = ap (slot_page n width) used in
+      subst (λ (all : List (List ℕ)). slot_page n width (used_slots all) < length all) (sym segment-page_added)
+      (omega (arith, place, longer, next_slot_page n width pages old))
 
   pub rows-page_added : {Row : Type 0} (width : ℕ) (row_of : List ℕ → Row) → IsTable segment width → rows_of n width row_of (list_at page_added segment) ≡ rows_of n width row_of (list_at bytes segment)
   rows-page_added width row_of table =
@@ -224,9 +241,3 @@ module _ (n segment width : ℕ) (space : SpaceState) (smallest : 256 ≤ n) (ta
       let count = length (list_at (owner_bytes space) segment) - 1 in
       let more : slots_per_page n width * count ≤ 65536 * count = mul-le-mul_right count per in
       omega (arith, slots, more, length-segment)
-
--- the slot behind the used ones lies on a page that is there, or on the next one
-pub next_slot_page : (n width : ℕ) (pages : List (List ℕ)) → HasSlots n width pages → slot_page n width (used_slots pages) ≤ length pages
-next_slot_page n width pages slots =
-    let place : used_slots pages / slots_per_page n width ≤ length pages - 1 = div-le_of_le-mul (slots_per_page n width) slots.slots in
-    omega (arith, place, slots.first)

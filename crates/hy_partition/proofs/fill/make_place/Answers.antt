@@ -2,7 +2,7 @@ use Rattle.std.proofs.Common.{◌≡◌, ◌≢◌, ℕ, ◌<◌, ◌≤◌, Lis
 use Rattle.hy_rows.specs.Spelling.{HasTables, list_at, rows_of, slot_page, used_slots}
 use Rattle.hy_space.specs.Space.{owner_bytes, page_count, with_new_page}
 use Rattle.hy_rows.specs.inside.Places.{segment_there}
-use Rattle.hy_partition.proofs.PlaceLaws.{length-segment, next_slot_page, rows-page_added, tables-page_added}
+use Rattle.hy_partition.proofs.PlaceLaws.{length-segment, next_slot_page, next_slot-page_added, rows-page_added, tables-page_added}
 use Rattle.hy_partition.proofs.fill.make_place.Goals as goal
 use Rattle.hy_partition.proofs.fill.make_place.Given as given
 
@@ -16,6 +16,10 @@ after g c = c.in_ok-grow.ensures.grows.bytes ∙ ap (λ (s : ℕ). with_new_page
 pub returns-in_ok-grow-clause-tables : goal.returns-in_ok-grow-clause-tables
 returns-in_ok-grow-clause-tables g c = subst (λ (bytes : List (List (List ℕ))). HasTables g.row.N bytes) (sym (after g c))
     (tables-page_added g.row.N g.R.Row.SEGMENT (owner_bytes c.args.space.now) (replicate g.row.N 0) c.sound.ensures.size.smallest (segment_there g.R.Row.SEGMENT g.R.Row.BYTES g.met.R.Row.is_table) c.requires)
+
+pub returns-in_ok-grow-clause-place : goal.returns-in_ok-grow-clause-place
+returns-in_ok-grow-clause-place g c = subst (λ (bytes : List (List (List ℕ))). slot_page g.row.N g.R.Row.BYTES (used_slots (list_at bytes g.R.Row.SEGMENT)) < length (list_at bytes g.R.Row.SEGMENT)) (sym (after g c))
+    (next_slot-page_added g.row.N g.R.Row.SEGMENT (owner_bytes c.args.space.now) (replicate g.row.N 0) c.sound.ensures.size.smallest (segment_there g.R.Row.SEGMENT g.R.Row.BYTES g.met.R.Row.is_table) c.requires g.R.Row.BYTES g.met.R.Row.is_table)
 
 pub returns-in_ok-grow-clause-rows : goal.returns-in_ok-grow-clause-rows
 returns-in_ok-grow-clause-rows g c =
