@@ -1,5 +1,7 @@
 -- A load has no fault.
 use Rattle.std.proofs.Common.{◌≡◌, ℕ, ◌+◌, ◌-◌, inl, inr, List, length, Option, Some, None}
+use Rattle.std.proofs.Common.{sym, ◌∙◌}
+use Rattle.std.proofs.lemmas.Bool.{false≢true}
 use Rattle.std.specs.Prelude.{IfSome, MatchOption, slice_get}
 use Rattle.hy_rows.specs.Tables.{Tables}
 use Rattle.hy_schema.specs.declared.refusal.LoadFault.{LoadFault}
@@ -22,6 +24,6 @@ load-no_fault tables (faults.Row table.Warehouse number) load fault = right-no_f
 load-no_fault tables (faults.Row table.District number) load fault = right-no_fault _ _ tables.districts number load.districts fault.1
 load-no_fault tables (faults.Row table.Customer number) load fault = right-no_fault _ _ tables.customers number load.customers fault.1
 load-no_fault tables (faults.Condition number) load fault = elim fault.1 [
-  | inl first ↦ first.1 load.conditions.condition_1
-  | inr second ↦ second.2 load.conditions.condition_12
+  | inl first ↦ false≢true (sym first.1 ∙ load.conditions.condition_1)
+  | inr second ↦ false≢true (sym second.2 ∙ load.conditions.condition_12)
 ]

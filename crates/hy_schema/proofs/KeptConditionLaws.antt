@@ -5,7 +5,7 @@ use Rattle.std.specs.List.{find}
 use Rattle.std.proofs.lemmas.Int.{ints}
 use Rattle.std.proofs.lemmas.Bool.{and_parts, eq-eqb, eqb-true}
 use Rattle.std.proofs.lemmas.Bool.Decides.{nat_tests}
-use Rattle.std.proofs.lemmas.List.Elements.{All-nil, All-cons, All-head, All-filter}
+use Rattle.std.proofs.lemmas.List.Elements.{All-nil, All-cons, All-head}
 use Rattle.hy_rows.specs.declared.warehouse.Warehouse.{Warehouse}
 use Rattle.hy_rows.specs.declared.district.District.{District}
 use Rattle.hy_rows.specs.declared.customer.Customer.{Customer}
@@ -19,13 +19,14 @@ use Rattle.hy_rows.specs.Ranges.{IsBetween}
 use Rattle.hy_rows.specs.Tables.{Tables, of_warehouse}
 use Rattle.hy_rows.specs.Finding.{is_warehouse, is_district, with_changed}
 use Rattle.hy_schema.specs.Keys.{AreUnique, IsOneWarehouse, customer_key, district_key, district_numbers}
-use Rattle.hy_schema.specs.Conditions.{IsConsistent, IsBalanced, IsSumOfDistricts, MeetsConditions, column_sum, ytd_of_districts}
+use Rattle.hy_schema.specs.Conditions.{IsConsistent, MeetsConditions, column_sum, ytd_of_districts}
 use Rattle.hy_schema.specs.Commands.{is_payment_in_range}
 use Rattle.hy_schema.specs.Transactions.{act, customer_paid, district_paid, is_district_number, is_payer, outcome_of, paid, payment_refusal, warehouse_paid}
 use Rattle.hy_schema.specs.Replay.{committed, replay}
 use Rattle.hy_schema.specs.Loads.{IsLoad}
 use Rattle.hy_rows.proofs.BetweenLaws.{bounds}
 use Rattle.hy_schema.proofs.ChangedLists.{All-passing_also, All-with_changed, column_sum-changed, filter-again, finds-key, map-with_changed}
+use Rattle.hy_schema.proofs.ConditionLaws.{IsBalanced, IsSumOfDistricts, condition_1-decides, condition_12-decides, delivered-own}
 use Rattle.hy_schema.proofs.KeyLaws.{IsOneWarehouse-load}
 
 -- the key of one of the ten districts is there
@@ -80,17 +81,25 @@ MeetsConditions-load number load is_load =
     let Before : Warehouse → Type 0 = IsSumOfDistricts load.districts in
     let Own : Warehouse → Type 0 = λ row. row.id ≡ number in
     let After : Warehouse → Type 0 = IsSumOfDistricts (filter own load.districts) in
-    let all : All Before load.warehouses = is_load.conditions.condition_1 in
+    let all : All Before load.warehouses = (condition_1-decides load.districts load.warehouses).0 is_load.conditions.condition_1 in
     let keeps : (row : Warehouse) → Before row → row.id ≡ number → After row =
     λ row before is_own.
     before ∙ ap (λ n. ytd_of_districts n load.districts) is_own
     ∙ ap (column_sum (λ (r : District). r.ytd)) (sym (filter-again own load.districts))
     ∙ ap (λ n. ytd_of_districts n (filter own load.districts)) (sym is_own) in
     record {
-      condition_1 = All-passing_also (λ row. row.id == number) Before After load.warehouses
-          (λ row before test. keeps row before (eqb-true row.id number test)) all;
-      condition_12 = All-filter
-          (λ row. row.warehouse == number) IsBalanced load.customers is_load.conditions.condition_12;
+      condition_1 =
+          (condition_1-decides (filter own load.districts) (of_warehouse number load).warehouses).1
+          (All-passing_also (λ row. row.id == number) Before After load.warehouses
+          (λ row before test. keeps row before (eqb-true row.id number test)) all);
+      condition_12 =
+          let here : Tables = of_warehouse number load in
+          (condition_12-decides here.orders here.order_lines here.customers).1
+          (All-passing_also (λ row. row.warehouse == number) (IsBalanced load.orders load.order_lines)
+          (IsBalanced here.orders here.order_lines) load.customers
+          (λ row before test. before
+          ∙ sym (delivered-own number row (eqb-true row.warehouse number test) load.orders load.order_lines))
+          ((condition_12-decides load.orders load.order_lines load.customers).0 is_load.conditions.condition_12));
     }
 
 pub IsConsistent-load : (number : ℕ) (load : Tables) → IsLoad load
@@ -139,12 +148,17 @@ module _ (number : ℕ) (payment : Payment) (tables : Tables) (rows : IsOneWareh
     MeetsConditions-paid : MeetsConditions (paid payment tables)
     MeetsConditions-paid = record {
       condition_1 =
-          subst (λ n. All (IsSumOfDistricts (paid payment tables).districts)
+          (condition_1-decides (paid payment tables).districts (paid payment tables).warehouses).1
+          (subst (λ n. All (IsSumOfDistricts (paid payment tables).districts)
           (with_changed (is_warehouse n) (warehouse_paid payment.amount) tables.warehouses)) (sym home)
           (condition_1-changed number payment.amount tables.districts
-          (paid payment tables).districts tables.warehouses rows.warehouse districts-paid meets.condition_1);
-      condition_12 = All-with_changed IsBalanced (is_payer payment) (customer_paid payment.amount)
-          (λ row settled. omega (arith, ints, settled)) tables.customers meets.condition_12;
+          (paid payment tables).districts tables.warehouses rows.warehouse districts-paid
+          ((condition_1-decides tables.districts tables.warehouses).0 meets.condition_1)));
+      condition_12 =
+          (condition_12-decides tables.orders tables.order_lines (paid payment tables).customers).1
+          (All-with_changed (IsBalanced tables.orders tables.order_lines) (is_payer payment)
+          (customer_paid payment.amount) (λ row settled. omega (arith, ints, settled)) tables.customers
+          ((condition_12-decides tables.orders tables.order_lines tables.customers).0 meets.condition_12));
     }
 
 -- a payment that is refused changes nothing, and another keeps the rows and the conditions

@@ -1,7 +1,9 @@
 pub mod Keys
+pub mod Related
 pub mod Commands
 pub mod Transactions
 pub mod Replay
 pub mod Conditions
 pub mod Loads
 pub mod WorkedRows
+pub mod WorkedConditions

@@ -1,6 +1,6 @@
 -- Which three lists are a load, and where a list that is none has its first fault. Places count from 0, the numbers
 -- of rows in a fault from 1.
-use Rattle.std.specs.Prelude.{◌≡◌, ℕ, ◌+◌, ◌-◌, ◌*◌, ◌/◌, ◌%◌, ◌<◌, ◌≤◌, ◌==◌, ◌⊎◌, ⊤, if◌then◌else◌, List, length, Option, None, Some, slice_get, IfSome, MatchOption, IsSomeAnd}
+use Rattle.std.specs.Prelude.{◌≡◌, ℕ, ◌+◌, ◌-◌, ◌*◌, ◌/◌, ◌%◌, ◌<◌, ◌≤◌, ◌==◌, ◌⊎◌, ⊤, if◌then◌else◌, List, length, Option, None, Some, slice_get, IfSome, MatchOption, IsFalse, IsSomeAnd, IsTrue}
 use Rattle.hy_rows.specs.declared.warehouse.Warehouse.{Warehouse}
 use Rattle.hy_rows.specs.declared.district.District.{District}
 use Rattle.hy_rows.specs.declared.customer.Customer.{Customer}
@@ -10,7 +10,7 @@ use Rattle.hy_schema.specs.declared.refusal.Table.TheVariants as table
 use Rattle.hy_rows.specs.Limits.{districts_per_warehouse}
 use Rattle.hy_rows.specs.Tables.{Tables}
 use Rattle.hy_rows.specs.Ranges.{IsWarehouseInRange, IsDistrictInRange, IsCustomerInRange}
-use Rattle.hy_schema.specs.Conditions.{Condition1, Condition12, MeetsConditions}
+use Rattle.hy_schema.specs.Conditions.{MeetsConditions, condition_1, condition_12}
 
 -- WAREHOUSE: the row at a place has the next number
 abbrev pub IsWarehouseAt : ℕ → Warehouse → Type 0
@@ -113,7 +113,8 @@ IsFault (faults.Row table.Customer number) tables =
     (HasAllCustomers warehouses tables.customers) tables.customers
     number
 IsFault (faults.Condition number) tables =
-    ((number ≡ 1) × ¬ (Condition1 tables)) ⊎ ((number ≡ 12) × Condition1 tables × ¬ (Condition12 tables))
+    ((number ≡ 1) × IsFalse (condition_1 tables))
+    ⊎ ((number ≡ 12) × IsTrue (condition_1 tables) × IsFalse (condition_12 tables))
 
 -- the first fault of lists that are no load: a row of the first wrong list, or else the first broken condition
 abbrev pub HasFault : Tables → LoadFault → Type 0

@@ -1,10 +1,11 @@
 //! Loads: the rows that a database begins with.
 
-ghost use Rattle.std.specs.Prelude.{◌≡◌, ◌↔◌, ◌<◌, ◌≤◌, ◌+ℤ◌, ◌^◌, pos, All, IsTrue, IfSome, IfNone, IsSomeAnd, MatchResult};
+ghost use Rattle.std.specs.Prelude.{◌≡◌, ◌↔◌, ◌<◌, ◌≤◌, ◌^◌, [], IsTrue, IfSome, IfNone, IsSomeAnd, MatchResult};
 ghost use Rattle.std.specs.Option.{option_copied};
 ghost use Rattle.hy_rows.specs.Limits.{districts_per_warehouse, max_warehouses};
 ghost use Rattle.hy_rows.specs.Ranges.{IsCustomerInRange};
-ghost use Rattle.hy_schema.specs.Conditions.{IsBalanced, IsSumOfDistricts, ytd_of_districts};
+ghost use Rattle.std.specs.List.{list_all};
+ghost use Rattle.hy_schema.specs.Conditions.{is_balanced, is_sum_of_districts, ytd_of_districts};
 ghost use Rattle.hy_schema.specs.Loads.{IsWarehouseAt, IsDistrictAt, IsCustomerAt, IsCustomerAfter, HasAllWarehouses, HasAllDistricts, HasAllCustomers, IsRight, IsFirstFault, IsNextDistrict};
 
 use crate::refusal::{LoadFault, Refusal, Table};
@@ -246,7 +247,7 @@ fn is_next_district(before: &Customer, row: &Customer) -> bool
 
 /// Whether the rows meet consistency condition 1.
 fn meets_condition_1(warehouses: &[Warehouse], districts: &[District]) -> bool
-    ensures { IsTrue result ↔ All (IsSumOfDistricts districts.now) warehouses.now }
+    ensures { result ≡ list_all (is_sum_of_districts districts.now) warehouses.now }
 {
     warehouses.iter().all(|row| i128::from(row.ytd) == sum_of_districts(row.id, districts))
 }
@@ -267,7 +268,18 @@ fn sum_of_districts(warehouse: u8, districts: &[District]) -> i128
 
 /// Whether the rows meet consistency condition 12.
 fn meets_condition_12(customers: &[Customer]) -> bool
-    ensures { IsTrue result ↔ All IsBalanced customers.now }
+    ensures { result ≡ list_all (is_balanced [] []) customers.now }
 {
-    customers.iter().all(|row| i128::from(row.balance) + i128::from(row.ytd_payment) == 0)
+    customers.iter().all(
+        |row: &Customer| -> bool
+            ensures { result ≡ is_balanced [] [] row.now }
+        { is_settled(row) },
+    )
+}
+
+/// Whether a customer without delivered orders meets consistency condition 12.
+fn is_settled(row: &Customer) -> bool
+    ensures { result ≡ is_balanced [] [] row.now }
+{
+    i128::from(row.balance) + i128::from(row.ytd_payment) == 0
 }

@@ -1,0 +1,95 @@
+-- The tests of the conditions as statements on each row, and what the rows of one warehouse alone say.
+use Rattle.std.proofs.Common.{◌≡◌, ℕ, ◌+ℤ◌, ◌==◌, Bool, true, false, cond, List, [], ◌∷◌, ◌++◌, filter, refl, ap, ap₂, ◌∙◌}
+use Rattle.std.specs.Prelude.{All}
+use Rattle.std.specs.List.{flat_map, list_all}
+use Rattle.std.proofs.lemmas.Bool.{and_parts, eq-eqb, eqb-true}
+use Rattle.std.specs.Bool.{Decides}
+use Rattle.std.proofs.lemmas.Bool.Decides.{Decides-by_and, Decides-int_eq}
+use Rattle.hy_rows.specs.declared.warehouse.Warehouse.{Warehouse}
+use Rattle.hy_rows.specs.declared.district.District.{District}
+use Rattle.hy_rows.specs.declared.customer.Customer.{Customer}
+use Rattle.hy_rows.specs.declared.order.Order.{Order}
+use Rattle.hy_rows.specs.declared.order_line.OrderLine.{OrderLine}
+use Rattle.hy_schema.specs.Conditions.{column_sum, delivered_amount, is_balanced, is_sum_of_districts, ytd_of_districts}
+use Rattle.hy_schema.specs.Related.{is_delivered, is_line_of, is_order_by, lines_of, orders_by}
+
+-- condition 1 of one warehouse, and of all
+abbrev pub IsSumOfDistricts : List District → Warehouse → Type 0
+IsSumOfDistricts districts row = row.ytd ≡ ytd_of_districts row.id districts
+
+pub condition_1-decides : (districts : List District) (rows : List Warehouse)
+    → Decides (list_all (is_sum_of_districts districts) rows) (All (IsSumOfDistricts districts) rows)
+condition_1-decides districts rows =
+    Decides-by_and (is_sum_of_districts districts) (IsSumOfDistricts districts) (list_all (is_sum_of_districts districts))
+    (λ row. Decides-int_eq row.ytd (ytd_of_districts row.id districts)) refl (λ row rows. refl) rows
+
+-- condition 12 of one customer, and of all
+abbrev pub IsBalanced : List Order → List OrderLine → Customer → Type 0
+IsBalanced orders lines row = row.balance +ℤ row.ytd_payment ≡ delivered_amount orders lines row
+
+pub condition_12-decides : (orders : List Order) (lines : List OrderLine) (rows : List Customer)
+    → Decides (list_all (is_balanced orders lines) rows) (All (IsBalanced orders lines) rows)
+condition_12-decides orders lines rows =
+    Decides-by_and (is_balanced orders lines) (IsBalanced orders lines) (list_all (is_balanced orders lines))
+    (λ row. Decides-int_eq (row.balance +ℤ row.ytd_payment) (delivered_amount orders lines row))
+    refl (λ row rows. refl) rows
+
+-- where each row that passes a test passes another, filtering by the other first changes nothing
+pub filter-implied : {Row : Type 0} (test other : Row → Bool) → ((row : Row) → test row ≡ true → other row ≡ true)
+    → (rows : List Row) → filter test (filter other rows) ≡ filter test rows
+filter-implied test other implied [] = refl
+filter-implied test other implied (row ∷ rows) =
+    elim (other row) as (λ b. other row ≡ b
+    → filter test (cond b (row ∷ filter other rows) (filter other rows)) ≡ filter test (row ∷ rows)) [
+      | true ↦ λ passes. ap (λ later. cond (test row) (row ∷ later) later) (filter-implied test other implied rows)
+      | false ↦ λ fails.
+          elim (test row) as (λ b. test row ≡ b
+          → filter test (filter other rows) ≡ cond b (row ∷ filter test rows) (filter test rows)) [
+            | true ↦ λ chosen. absurd (not_both (other row) fails (implied row chosen))
+            | false ↦ λ left. filter-implied test other implied rows
+          ] refl
+    ] refl
+  where
+    not_both : (b : Bool) → b ≡ false → b ≡ true → ⊥
+    not_both true fails passes = absurd (cc)
+    not_both false fails passes = absurd (cc)
+
+-- a customer's orders and their lines are rows of the customer's warehouse
+module _ (number : ℕ) (customer : Customer) (home : customer.warehouse ≡ number) where
+  order_at_home : (row : Order) → is_order_by customer row ≡ true → (row.warehouse == number) ≡ true
+  order_at_home row ordered =
+      let same = eqb-true row.warehouse customer.warehouse (and_parts _ _ (and_parts _ _ ordered).0).0 in
+      eq-eqb row.warehouse number (same ∙ home)
+
+  line_at_home : (order : Order) → (order.warehouse == number) ≡ true → (line : OrderLine) → is_line_of order line ≡ true
+      → (line.warehouse == number) ≡ true
+  line_at_home order at_home line of_order =
+      let same = eqb-true line.warehouse order.warehouse (and_parts _ _ (and_parts _ _ of_order).0).0 in
+      eq-eqb line.warehouse number (same ∙ eqb-true order.warehouse number at_home)
+
+  own_lines : (orders : List Order) (lines : List OrderLine)
+      → flat_map (λ order. lines_of order (filter (λ line. line.warehouse == number) lines)) (orders_by customer orders)
+      ≡ flat_map (λ order. lines_of order lines) (orders_by customer orders)
+  own_lines [] lines = refl
+  own_lines (order ∷ orders) lines =
+      let Own : List OrderLine = filter (λ line. line.warehouse == number) lines in
+      elim (is_order_by customer order) as (λ b. is_order_by customer order ≡ b
+      → flat_map (λ order. lines_of order Own) (cond b (order ∷ orders_by customer orders) (orders_by customer orders))
+      ≡ flat_map (λ order. lines_of order lines) (cond b (order ∷ orders_by customer orders) (orders_by customer orders))) [
+        | true ↦ λ ordered.
+            ap₂ (λ these others. these ++ others)
+            (filter-implied (is_line_of order) (λ line. line.warehouse == number)
+            (line_at_home order (order_at_home order ordered)) lines)
+            (own_lines orders lines)
+        | false ↦ λ other. own_lines orders lines
+      ] refl
+
+  -- so what was delivered to a customer is seen in the rows of the warehouse
+  pub delivered-own : (orders : List Order) (lines : List OrderLine)
+      → delivered_amount (filter (λ row. row.warehouse == number) orders)
+      (filter (λ row. row.warehouse == number) lines) customer ≡ delivered_amount orders lines customer
+  delivered-own orders lines =
+      let Own : List OrderLine = filter (λ row. row.warehouse == number) lines in
+      ap (λ own. column_sum (λ line. line.amount) (filter is_delivered (flat_map (λ order. lines_of order Own) own)))
+      (filter-implied (is_order_by customer) (λ row. row.warehouse == number) order_at_home orders)
+      ∙ ap (λ all. column_sum (λ line. line.amount) (filter is_delivered all)) (own_lines orders lines)
