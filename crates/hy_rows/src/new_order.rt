@@ -3,10 +3,9 @@
 ghost use Rattle.std.specs.Prelude.{◌↔◌, IsTrue};
 
 use crate::codec::{SlotBytes, push_number, read_number};
-use crate::district::{DISTRICTS_PER_WAREHOUSE, MAX_ORDER};
+use crate::order::is_order_key;
 use crate::row::Row;
 use crate::tables::Tables;
-use crate::warehouse::MAX_WAREHOUSES;
 
 /// A row of NEW-ORDER (TPC-C clause 1.3.1).
 #[derive(Clone, Copy, Debug, PartialEq, Eq)]
@@ -89,8 +88,6 @@ impl NewOrder {
     pub fn is_in_range(&self) -> bool
         ensures { IsTrue result ↔ IsNewOrderInRange self.now }
     {
-        (1..=MAX_ORDER).contains(&self.order)
-            && (1..=DISTRICTS_PER_WAREHOUSE).contains(&self.district)
-            && (1..=MAX_WAREHOUSES).contains(&self.warehouse)
+        is_order_key(self.order, self.district, self.warehouse)
     }
 }

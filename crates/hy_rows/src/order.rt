@@ -1,6 +1,8 @@
 //! Rows of ORDER.
 
 ghost use Rattle.std.specs.Prelude.{◌↔◌, IsTrue};
+ghost use Rattle.hy_rows.specs.Limits.{districts_per_warehouse, max_order, max_warehouses};
+ghost use Rattle.hy_rows.specs.Ranges.{IsBetween};
 
 use crate::codec::{SlotBytes, push_number, read_number};
 use crate::customer::MAX_CUSTOMERS;
@@ -113,29 +115,28 @@ impl Row for Order {
 }
 
 impl Order {
-    ghost use Rattle.hy_rows.specs.Limits.{districts_per_warehouse, max_customers, max_order, max_warehouses};
-    ghost use Rattle.hy_rows.specs.Ranges.{IsBetween, IsOrderInRange};
+    ghost use Rattle.hy_rows.specs.Ranges.{IsOrderInRange};
 
     /// Whether each column has a value that a load may have.
     pub fn is_in_range(&self) -> bool
         ensures { IsTrue result ↔ IsOrderInRange self.now }
     {
-        self.has_key_in_range()
+        is_order_key(self.id, self.district, self.warehouse)
+            && (1..=MAX_CUSTOMERS).contains(&self.customer)
             && (1..=MAX_MOMENT).contains(&self.entry_date)
             && self.carrier <= MAX_CARRIERS
             && (MIN_LINES..=MAX_LINES).contains(&self.line_count)
             && self.all_local <= 1
     }
+}
 
-    /// Whether O_ID, O_D_ID, O_W_ID and O_C_ID are in range.
-    fn has_key_in_range(&self) -> bool
-        ensures { IsTrue result
-            ↔ (IsBetween 1 max_order self.now.id × IsBetween 1 districts_per_warehouse self.now.district
-            × IsBetween 1 max_warehouses self.now.warehouse × IsBetween 1 max_customers self.now.customer) }
-    {
-        (1..=MAX_ORDER).contains(&self.id)
-            && (1..=DISTRICTS_PER_WAREHOUSE).contains(&self.district)
-            && (1..=MAX_WAREHOUSES).contains(&self.warehouse)
-            && (1..=MAX_CUSTOMERS).contains(&self.customer)
-    }
+/// Whether the numbers of an order, of its district and of its warehouse are in range.
+pub fn is_order_key(order: u32, district: u8, warehouse: u8) -> bool
+    ensures { IsTrue result
+        ↔ (IsBetween 1 max_order order × IsBetween 1 districts_per_warehouse district
+        × IsBetween 1 max_warehouses warehouse) }
+{
+    (1..=MAX_ORDER).contains(&order)
+        && (1..=DISTRICTS_PER_WAREHOUSE).contains(&district)
+        && (1..=MAX_WAREHOUSES).contains(&warehouse)
 }

@@ -1,13 +1,11 @@
 //! Rows of ORDER-LINE.
 
 ghost use Rattle.std.specs.Prelude.{◌↔◌, IsTrue};
-ghost use Rattle.hy_rows.specs.Ranges.{IsLineAmount};
 
 use crate::codec::{SlotBytes, push_number, push_signed, read_number, read_signed};
-use crate::district::{DISTRICTS_PER_WAREHOUSE, MAX_ORDER};
 use crate::history::MAX_MOMENT;
 use crate::item::MAX_ITEMS;
-use crate::order::MAX_LINES;
+use crate::order::{MAX_LINES, is_order_key};
 use crate::row::Row;
 use crate::tables::Tables;
 use crate::warehouse::MAX_WAREHOUSES;
@@ -117,45 +115,29 @@ impl Row for OrderLine {
 }
 
 impl OrderLine {
-    ghost use Rattle.hy_rows.specs.Limits.{districts_per_warehouse, max_items, max_lines, max_order, max_warehouses};
-    ghost use Rattle.hy_rows.specs.Ranges.{IsBetween, IsOrderLineInRange};
+    ghost use Rattle.std.specs.Prelude.{◌≤◌};
+    ghost use Rattle.hy_rows.specs.Limits.{max_moment, max_quantity};
+    ghost use Rattle.hy_rows.specs.Ranges.{IsBetween, IsLineAmount, IsOrderLineInRange};
 
     /// Whether each column has a value that a load may have.
     pub fn is_in_range(&self) -> bool
         ensures { IsTrue result ↔ IsOrderLineInRange self.now }
     {
-        self.has_key_in_range()
-            && self.has_supply_in_range()
-            && self.delivery_date <= MAX_MOMENT
-            && (1..=MAX_QUANTITY).contains(&self.quantity)
-            && is_line_amount(self.amount)
-    }
-
-    /// Whether OL_O_ID, OL_D_ID, OL_W_ID and OL_NUMBER are in range.
-    fn has_key_in_range(&self) -> bool
-        ensures { IsTrue result
-            ↔ (IsBetween 1 max_order self.now.order × IsBetween 1 districts_per_warehouse self.now.district
-            × IsBetween 1 max_warehouses self.now.warehouse × IsBetween 1 max_lines self.now.number) }
-    {
-        (1..=MAX_ORDER).contains(&self.order)
-            && (1..=DISTRICTS_PER_WAREHOUSE).contains(&self.district)
-            && (1..=MAX_WAREHOUSES).contains(&self.warehouse)
+        is_order_key(self.order, self.district, self.warehouse)
             && (1..=MAX_LINES).contains(&self.number)
-    }
-
-    /// Whether OL_I_ID and OL_SUPPLY_W_ID are in range.
-    fn has_supply_in_range(&self) -> bool
-        ensures { IsTrue result ↔ (IsBetween 1 max_items self.now.item
-            × IsBetween 1 max_warehouses self.now.supply_warehouse) }
-    {
-        (1..=MAX_ITEMS).contains(&self.item)
+            && (1..=MAX_ITEMS).contains(&self.item)
             && (1..=MAX_WAREHOUSES).contains(&self.supply_warehouse)
+            && self.has_numbers_in_range()
     }
-}
 
-/// Whether a loaded order line may have an amount in cents.
-fn is_line_amount(cents: i64) -> bool
-    ensures { IsTrue result ↔ IsLineAmount cents }
-{
-    (0..=MAX_LINE_CENTS).contains(&cents)
+    /// Whether OL_DELIVERY_D, OL_QUANTITY and OL_AMOUNT are in range.
+    fn has_numbers_in_range(&self) -> bool
+        ensures { IsTrue result
+            ↔ ((self.now.delivery_date ≤ max_moment) × IsBetween 1 max_quantity self.now.quantity
+            × IsLineAmount self.now.amount) }
+    {
+        self.delivery_date <= MAX_MOMENT
+            && (1..=MAX_QUANTITY).contains(&self.quantity)
+            && (0..=MAX_LINE_CENTS).contains(&self.amount)
+    }
 }

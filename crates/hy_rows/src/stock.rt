@@ -1,6 +1,6 @@
 //! Rows of STOCK.
 
-ghost use Rattle.std.specs.Prelude.{◌≤◌, ◌↔◌, IsTrue};
+ghost use Rattle.std.specs.Prelude.{◌↔◌, IsTrue};
 
 use crate::codec::{SlotBytes, push_number, read_number};
 use crate::customer::MAX_COUNT;
@@ -99,7 +99,6 @@ impl Row for Stock {
 }
 
 impl Stock {
-    ghost use Rattle.hy_rows.specs.Limits.{max_count, max_stock};
     ghost use Rattle.hy_rows.specs.Ranges.{IsStockInRange};
 
     /// Whether each column has a value that a load may have.
@@ -108,16 +107,7 @@ impl Stock {
     {
         (1..=MAX_ITEMS).contains(&self.item)
             && (1..=MAX_WAREHOUSES).contains(&self.warehouse)
-            && self.has_numbers_in_range()
-    }
-
-    /// Whether S_QUANTITY, S_YTD and the counts are in range.
-    fn has_numbers_in_range(&self) -> bool
-        ensures { IsTrue result
-            ↔ ((self.now.quantity ≤ max_stock) × (self.now.ytd ≤ max_count)
-            × (self.now.order_count ≤ max_count) × (self.now.remote_count ≤ max_count)) }
-    {
-        self.quantity <= MAX_STOCK
+            && self.quantity <= MAX_STOCK
             && self.ytd <= MAX_COUNT
             && self.order_count <= MAX_COUNT
             && self.remote_count <= MAX_COUNT
