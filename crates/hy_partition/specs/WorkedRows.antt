@@ -12,7 +12,7 @@ use Rattle.hy_page.specs.Bytes.{overwritten}
 use Rattle.hy_frames.specs.FrameTable.{Frame, count_of, empty_frame}
 use Rattle.hy_rows.specs.declared.warehouse.Warehouse.{Warehouse}
 use Rattle.hy_schema.specs.declared.command.Command.TheVariants as commands
-use Rattle.hy_schema.specs.Conditions.{IsBalanced, IsSumOfDistricts, MeetsConditions}
+use Rattle.hy_schema.specs.Conditions.{MeetsConditions}
 use Rattle.hy_rows.specs.Rows.{warehouse_bytes}
 use Rattle.hy_schema.specs.Transactions.{accepted}
 use Rattle.hy_rows.specs.WorkedRows.{fresh}
@@ -112,8 +112,8 @@ small-counts = refl
 -- the consistency conditions hold of the rows that are kept
 pub small-conditions : MeetsConditions (rows_now small)
 small-conditions = record {
-  condition_1 = All-cons (IsSumOfDistricts []) before [] refl (All-nil (IsSumOfDistricts []));
-  condition_12 = All-nil IsBalanced;
+  condition_1 = refl;
+  condition_12 = refl;
 }
 
 -- the payment's next slice is its last
