@@ -34,10 +34,6 @@ append-pushed column first second = second ∙ ap (λ list. list ++ column) firs
 pub append-number : {before items more : List ℕ} {given : ℕ} (width number : ℕ) → items ≡ before → given ≡ number → more ≡ items ++ bytes_of width given → more ≡ before ++ bytes_of width number
 append-number width number first same second = rw (sym first, sym same) second
 
--- two columns are as long as both together
-pub length-columns : (front column : List ℕ) (offset width end : ℕ) → length front ≡ offset → length column ≡ width → offset + width ≡ end → length (front ++ column) ≡ end
-length-columns front column offset width end before size sum = omega (arith, length-append front column)
-
 -- what stands behind a list doesn't change a part within it
 pub bytes_at-append : (first next : List ℕ) (offset count : ℕ) → offset + count ≤ length first → bytes_at (first ++ next) offset count ≡ bytes_at first offset count
 bytes_at-append first next offset count within =
@@ -58,27 +54,9 @@ bytes_at-column front column others offset width before size =
     ∙ ap (take width) (drop_at front column offset before)
     ∙ take_all width column (omega arith)
 
--- a column of a number reads as the number
-pub number_at-column : (front : List ℕ) (others : List (List ℕ)) (offset width number : ℕ) → length front ≡ offset → number < 256 ^ width → number_at (joined (front ++ bytes_of width number) others) offset width ≡ number
-number_at-column front others offset width number before fits =
-    ap number_of (bytes_at-column front (bytes_of width number) others offset width before (length-bytes_of width number))
-    ∙ number_of-bytes_of width number fits
-
 -- a signed number fits eight bytes
 pub cast_unsigned-below : (number : ℤ) → FitsSigned w64 number → cast_unsigned w64 number < 256 ^ 8
 cast_unsigned-below number fits = omega (arith, ints)
-
--- a column of a signed number reads as the number
-pub signed_at-column : (front : List ℕ) (others : List (List ℕ)) (offset : ℕ) (number : ℤ) → length front ≡ offset → FitsSigned w64 number → signed_at (joined (front ++ signed_bytes number) others) offset ≡ number
-signed_at-column front others offset number before fits =
-    ap (cast_signed w64) (number_at-column front others offset 8 (cast_unsigned w64 number) before (cast_unsigned-below number fits))
-    ∙ to_z-of_z w64 number fits
-
--- a column of a text reads as the text
-pub text_at-column : (front : List ℕ) (others : List (List ℕ)) (offset width : ℕ) (text : List ℕ) → length front ≡ offset → IsText width text → text_at (joined (front ++ padded width text) others) offset width ≡ text
-text_at-column front others offset width text before is_text =
-    ap text_of (bytes_at-column front (padded width text) others offset width before (length-padded width text is_text.fits))
-    ∙ text_of-padded width text is_text
 
 -- the widths of columns
 abbrev pub widths_of : List (List ℕ) → List ℕ
