@@ -7,7 +7,7 @@ use Rattle.hy_schema.specs.declared.refusal.Refusal.{Refusal}
 use Rattle.hy_schema.specs.declared.refusal.Refusal.TheVariants as refusals
 use Rattle.hy_schema.specs.declared.refusal.LoadFault.{LoadFault}
 use Rattle.hy_schema.specs.Loads.{HasFault, IsLoad}
-use Rattle.hy_rows.specs.Tables.{Tables}
+use Rattle.hy_rows.specs.Tables.{Tables, no_rows}
 use Rattle.hy_hyper.specs.Generated.{customers_up_to, generated, generated_district, generated_warehouse, rows_up_to}
 
 -- one more row
@@ -20,7 +20,7 @@ rows_up_to-next row last before rows so_far =
 pub generated_lists : (customers : ℕ) (warehouses : List Warehouse) (districts : List District) (people : List Customer)
     → warehouses ≡ generated_warehouse 1 customers ∷ [] → districts ≡ rows_up_to (generated_district 1 customers) 10
     → people ≡ customers_up_to 1 customers 10
-    → ◌≡◌ {A = Tables} (record { warehouses = warehouses; districts = districts; customers = people }) (generated customers)
+    → ◌≡◌ {A = Tables} (record no_rows { warehouses = warehouses; districts = districts; customers = people }) (generated customers)
 generated_lists customers warehouses districts people same_warehouses same_districts same_people =
     rw (same_warehouses, same_districts, same_people) refl
 

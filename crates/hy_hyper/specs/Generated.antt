@@ -5,7 +5,7 @@ use Rattle.std.specs.Fmt.{decimal}
 use Rattle.hy_rows.specs.declared.warehouse.Warehouse.{Warehouse}
 use Rattle.hy_rows.specs.declared.district.District.{District}
 use Rattle.hy_rows.specs.declared.customer.Customer.{Customer}
-use Rattle.hy_rows.specs.Tables.{Tables}
+use Rattle.hy_rows.specs.Tables.{Tables, no_rows}
 
 -- the parts of a last name, one for each digit (TPC-C clause 4.3.2.3)
 abbrev pub syllables : List (List ℕ)
@@ -88,7 +88,7 @@ customers_up_to warehouse customers (suc last) =
 
 -- the load of warehouse 1, with so many customers in each district
 abbrev pub generated : ℕ → Tables
-generated customers = record {
+generated customers = record no_rows {
   warehouses = generated_warehouse 1 customers ∷ [];
   districts = rows_up_to (generated_district 1 customers) 10;
   customers = customers_up_to 1 customers 10;
