@@ -1,5 +1,5 @@
 -- Why the payment of `first` isn't done.
-use Rattle.std.proofs.Common.{◌≡◌, ◌⊎◌, inl, inr, ℕ, ℤ, List, [], ◌∷◌, ◌++◌, length, Option, Some, None, ◌||◌, ◌==◌, cond, is_some, refl, sym, ap, ◌∙◌, subst}
+use Rattle.std.proofs.Common.{◌≡◌, ◌⊎◌, inl, inr, ℕ, ℤ, List, [], ◌∷◌, ◌++◌, length, IsErrAnd, Result, Ok, Err, Option, Some, None, ◌||◌, ◌==◌, cond, is_some, refl, sym, ap, ◌∙◌, subst}
 use Rattle.std.specs.Option.{option_or}
 use Rattle.hy_schema.specs.declared.command.Command.{Command}
 use Rattle.hy_schema.specs.declared.command.Commit.{Commit}
@@ -75,6 +75,12 @@ first_refusal amount p refusal begins why = elim why [
   where
     no_snapshot : (p : PartitionState) → HasBegun (generated 3) p → HasSnapshot p → ⊥
     no_snapshot p begins some = let none = begins.snapshots some.0 in let is = some.1 in absurd (cc)
+
+-- an error of which it is said that it is this one
+pub err_is : {T E : Type 0} (answer : Result T E) (value : E) → IsErrAnd answer (λ error. error ≡ value)
+    → answer ≡ Err value
+err_is (Ok x) value is = absurd (is)
+err_is (Err error) value is = ap Err is
 
 -- the generated rows are a load, so that a refusal to generate them is for want of memory
 generated-is_load : IsLoad (generated 3)

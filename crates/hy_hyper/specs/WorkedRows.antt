@@ -11,7 +11,7 @@ use Rattle.hy_rows.specs.WorkedRows.{fresh}
 use Rattle.hy_hyper.specs.declared.words.Line.TheVariants as line
 use Rattle.hy_hyper.specs.CommandLine.{Says, program_app}
 use Rattle.hy_hyper.specs.First.{IsYtdAfter, first_command}
-use Rattle.hy_hyper.specs.Generated.{generated, last_name, with_four_digits}
+use Rattle.hy_hyper.specs.Generated.{generated}
 
 -- the command that words name, with the text of `--amount`
 abbrev pub amount_text : List Text → Option (Text × Option Text)
@@ -73,13 +73,6 @@ help_option-refused = refl
 pub generated-fresh : generated 3 ≡ fresh
 unfolding digits
 generated-fresh = refl
-
--- the names of customer 372
-pub last_name-372 : last_name 371 ≡ codes "PRICALLYOUGHT"
-last_name-372 = refl
-
-pub first_name-372 : with_four_digits 70 372 ≡ codes "F0372"
-first_name-372 = refl
 
 -- 1.00 more are paid to the warehouse, which had 300.00
 pub first-ytd : IsYtdAfter 100 (pos 30_100)

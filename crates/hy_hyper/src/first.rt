@@ -26,7 +26,7 @@ const MAX_KEPT: u64 = 1_000_000;
 const WAREHOUSE: u8 = 1;
 
 /// How many customers each district of the warehouse has.
-const CUSTOMERS: u16 = 3;
+const CUSTOMERS: u64 = 3;
 
 /// W_YTD of a generated warehouse after a payment of an amount in cents, in cents, as a snapshot behind the payment
 /// has it. E8 where the amount is out of range, E2 where the frames are too few for the rows, and E1 where memory is

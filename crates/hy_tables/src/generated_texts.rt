@@ -30,7 +30,11 @@ pub(crate) fn name<const WIDTH: usize>(
 }
 
 /// What is noted of a payment in a district: the names of its warehouse and of the district.
-pub(crate) fn information(alloc: Global, warehouse: u8, district: u8) -> Result<Text<24>, AllocError>
+pub(crate) fn information(
+    alloc: Global,
+    warehouse: u8,
+    district: u8,
+) -> Result<Text<24>, AllocError>
     ensures { IfOk result (λ text. text ≡ payment_information warehouse district) }
 {
     let made = format!(in alloc; "W{warehouse}    D{district}")?;

@@ -58,7 +58,11 @@ fn lists(alloc: Global, warehouses: u8, customers: u16, items: u32) -> Result<Li
 }
 
 /// The rows of WAREHOUSE.
-fn warehouse_rows(alloc: Global, warehouses: u8, customers: u16) -> Result<Vec<Warehouse>, AllocError>
+fn warehouse_rows(
+    alloc: Global,
+    warehouses: u8,
+    customers: u16,
+) -> Result<Vec<Warehouse>, AllocError>
     ensures { IfOk result (λ rows. rows.items ≡ rows_up_to (generated_warehouse customers) warehouses) }
 {
     let mut rows = Vec::new(alloc);

@@ -1,10 +1,10 @@
-use Rattle.std.proofs.Common.{rules, ◌≡◌, ℤ, Result, Err, IfErr, sym, subst}
-use Rattle.std.proofs.lemmas.Result.{IfOk-weaker}
+use Rattle.std.proofs.Common.{rules, ◌≡◌, ℤ, Result, Err, IfErr, inl, inr, sym, subst}
+use Rattle.std.proofs.lemmas.Result.{IfErr-weaker, IfOk-weaker}
 use Rattle.hy_schema.specs.declared.refusal.Refusal.{Refusal}
 use Rattle.hy_schema.specs.declared.command.Payment.{Payment}
 use Rattle.hy_rows.specs.Tables.{Tables}
 use Rattle.hy_hyper.specs.First.{IsFirstRefusal, IsPaid, IsPayRefusal}
-use Rattle.hy_hyper.proofs.FirstLaws.{HasBegun, first_refusal, generated_refusal, ytd_after}
+use Rattle.hy_hyper.proofs.FirstLaws.{HasBegun, err_is, first_refusal, generated_refusal, ytd_after}
 use Rattle.hy_hyper.proofs.first.first.Goals as goal
 
 -- what refuses the payment refuses `first`
@@ -18,7 +18,8 @@ returns-in_err-pay-clause-refused c =
     let why =
     subst (λ (payment : Payment). IsPayRefusal partition payment refusal)
     c.payment.ensures c.in_err-pay.ensures.refused in
-    let is : c.from_residual-in_err-pay.result ≡ Err refusal = search rules in
+    let is : c.from_residual-in_err-pay.result ≡ Err refusal =
+    err_is c.from_residual-in_err-pay.result refusal c.from_residual-in_err-pay.ensures.1 in
     subst (λ (r : Result ℤ Refusal). IfErr r (IsFirstRefusal c.args.amount)) (sym is)
     (first_refusal c.args.amount partition refusal begins why)
 
@@ -39,3 +40,7 @@ returns-clause-ytd c =
     subst (λ (payment : Payment). IsPaid payment partition c.pay.new.partition)
     c.payment.ensures c.in_ok-pay.ensures.paid in
     IfOk-weaker c.ytd_now.result _ _ (λ ytd is. ytd_after c.args.amount partition c.pay.new.partition ytd begins paid is) c.ytd_now.ensures.ytd
+
+-- a snapshot is refused for want of memory
+pub returns-clause-refused : goal.returns-clause-refused
+returns-clause-refused c = IfErr-weaker c.ytd_now.result _ _ (λ refusal memory. inr (inl memory)) c.ytd_now.ensures.refused
