@@ -1,6 +1,7 @@
 //! Refusals, loads, rows and commands on examples.
 
 use super::*;
+use hy_rows::Item;
 use std::alloc::Global;
 use std::process::Abort;
 use std::test::Fail;
@@ -268,6 +269,63 @@ fn customers_are_bytes(rt: HostRuntime) {
         \x18\xfc\xff\xff\xff\xff\xff\xff\xe8\x03\0\0\0\0\0\0\x01\0\0\0\0\0\0\0\0\0\0\0\0\0\0\0";
     assert_eq!(rt; slot.as_slice(), bytes.as_slice());
     assert_eq!(rt; Customer::decode(bytes), row);
+}
+
+/// The line of the worked example.
+fn line() -> OrderLine {
+    OrderLine {
+        order: 3_001,
+        district: 5,
+        warehouse: 6,
+        number: 8,
+        item: 70_000,
+        supply_warehouse: 10,
+        delivery_date: 1_700_000_001,
+        quantity: 9,
+        amount: 123_456,
+    }
+}
+
+#[test]
+fn lines_are_bytes(rt: HostRuntime) {
+    let mut slot = SlotBytes::new();
+    line().encode(&mut slot);
+    let bytes =
+        b"\xb9\x0b\0\0\x05\x06\x08\x70\x11\x01\0\x0a\x01\xf1\x53\x65\0\0\0\0\x09\x40\xe2\x01\0\0\0\0\0";
+    assert_eq!(rt; slot.as_slice(), bytes.as_slice());
+    assert_eq!(rt; OrderLine::decode(bytes), line());
+    assert!(rt; line().is_in_range());
+    assert!(rt; line().belongs_to(6));
+}
+
+#[test]
+fn lists_of_all_tables(rt: HostRuntime) -> Result<(), Fail> {
+    let alloc = rt.alloc();
+    let mut items = Vec::new(alloc);
+    items.push(Item {
+        id: 1,
+        image: 1,
+        name: text(&rt, b"one"),
+        price: 100,
+    })?;
+    let mut order_lines = Vec::new(alloc);
+    order_lines.push(line())?;
+    let tables = Tables {
+        warehouses: Vec::new(alloc),
+        districts: Vec::new(alloc),
+        customers: Vec::new(alloc),
+        history: Vec::new(alloc),
+        new_orders: Vec::new(alloc),
+        orders: Vec::new(alloc),
+        order_lines,
+        stock: Vec::new(alloc),
+    };
+    let lists = hy_rows::Lists { items, tables };
+    assert_eq!(rt; lists.list::<Item>().len(), 1);
+    assert!(rt; lists.list::<Item>().iter().all(|item| item.is_in_range()));
+    assert_eq!(rt; lists.list::<OrderLine>().first(), Some(&line()));
+    assert_eq!(rt; lists.list::<Stock>().is_empty(), true);
+    Ok(())
 }
 
 #[test]
