@@ -126,6 +126,11 @@ module _ {Row : Type 0} (n width : ℕ) (row_of : List ℕ → Row) where
         first_items-set (row_at joined) (row_at new) used k within (λ j below differs. row_at-other joined (0 ∷ []) k j room (omega arith) fits differs)
         ∙ ap (set (slots_in joined used) k) (row_at-erased joined k fits)
 
+    -- a write in the slot behind the used ones
+    pub slots_in-behind : (part : List ℕ) → length part ≤ slot_width width → used ≤ k → slots_in (overwritten joined (slot_start n width k) part) used ≡ slots_in joined used
+    slots_in-behind part short past =
+        first_items-same (row_at (overwritten joined (slot_start n width k) part)) (row_at joined) used (λ j below. row_at-other joined part k j room short fits (omega arith))
+
     -- a row written in the slot behind the used ones, which is then a used one too
     pub slots_in-pushed : (bytes : List ℕ) → length bytes ≡ width → used ≡ k
         → slots_in (overwritten joined (slot_start n width k) (1 ∷ bytes)) (k + 1) ≡ slots_in joined used ++ Some (row_of bytes) ∷ []

@@ -1,7 +1,7 @@
 -- A relation: the rows of one table, in the slots of its segment, on the owner's pages of a space. Its value is the
 -- list of its used slots (`hy_rows`, `slots_of`): the row of each, or none where it was erased.
-use Rattle.std.specs.Prelude.{◌≡◌, ◌≢◌, ℕ, Bool, true, List, length, take, find, slice_index_or, Option, None, Some, IsSome}
-use Rattle.hy_rows.specs.Spelling.{HasSlots, list_at, live_rows, slots_of}
+use Rattle.std.specs.Prelude.{◌≡◌, ◌≢◌, ℕ, ◌+◌, ◌-◌, ◌*◌, ◌==◌, if◌then◌else◌, Bool, true, List, length, take, find, slice_index_or, Option, None, Some, IsSome}
+use Rattle.hy_rows.specs.Spelling.{HasSlots, list_at, live_rows, slots_of, slots_per_page, used_slots}
 use Rattle.hy_space.specs.Space.{SpaceState, owner_bytes}
 
 -- the bytes of the owner's pages in one segment
@@ -20,6 +20,11 @@ relation_slots n segment row_bytes row_of space = slots_of n row_bytes row_of (o
 pub record ChangesSegment (old new : List (List (List ℕ))) (segment : ℕ) : Type 0 where
   pub segments : length new ≡ length old
   pub others : (other : ℕ) → other ≢ segment → list_at new other ≡ list_at old other
+
+-- how many pages the segment has after one push more: another one only where each slot of its pages is used
+abbrev pub pages_after_push : ℕ → ℕ → List (List ℕ) → ℕ
+pages_after_push n row_bytes pages =
+    if used_slots pages == slots_per_page n row_bytes * (length pages - 1) then length pages + 1 else length pages
 
 -- what a slot has: a row, or none where it was erased or was never used
 abbrev pub row_in : {Row : Type 0} → List (Option Row) → ℕ → Option Row

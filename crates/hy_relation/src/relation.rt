@@ -6,7 +6,7 @@ ghost use Rattle.hy_rows.specs.Spelling.{HasSlots, live_rows, rows_of};
 ghost use Rattle.hy_space.specs.Space.{owner_bytes, page_count};
 ghost use Rattle.hy_undo.specs.PrivatePages.{IsUndoLog};
 ghost use Rattle.hy_undo.specs.Writes.{CanUndo, CanUndoGrowth, IsOutOfFrames};
-ghost use Rattle.hy_relation.specs.Relation.{ChangesSegment, HasRelation, IsLive, owner_pages, relation_slots, row_in as row_in_slots};
+ghost use Rattle.hy_relation.specs.Relation.{ChangesSegment, HasRelation, IsLive, owner_pages, pages_after_push, relation_slots, row_in as row_in_slots};
 
 use crate::lent::{know_sizes, row_on, used_on};
 use crate::slots::{live_slot, make_room, row_in, used_of, write_count, write_slot};
@@ -71,8 +71,8 @@ impl<R: Row> Relation<R> {
     {
         space.sound();
         let _used = used_of::<R, N>(space);
-        let bytes = live_slot(row);
-        write_slot::<R, N>(space, undo, slot, bytes.as_slice())
+        let other = live_slot(row);
+        write_slot::<R, N>(space, undo, slot, other.as_slice())
     }
 
     /// Erases the row of a slot that has one. No later push uses the slot again.
@@ -119,7 +119,7 @@ impl<R: Row> Relation<R> {
         Ok(())
     }
 
-    /// Adds a row in a new slot behind the used ones, and answers the slot's number.
+    /// Adds a row in a new slot behind the used ones, and answers the slot's number. A refused call leaves the slots.
     pub fn push<const N: usize>(
         &self,
         space: &mut Space<N>,
@@ -128,14 +128,18 @@ impl<R: Row> Relation<R> {
     ) -> Result<u64, Shortage>
         requires slots { HasRelation N R.SEGMENT R.BYTES space.old }
         requires undo_log { IsUndoLog N space.old undo.old }
-        ensures slots { OnOk result (HasRelation N R.SEGMENT R.BYTES space.new) }
+        ensures slots { HasRelation N R.SEGMENT R.BYTES space.new }
         ensures pushed { OnOk result (relation_slots N R.SEGMENT R.BYTES R.row_of_bytes space.new
             ≡ relation_slots N R.SEGMENT R.BYTES R.row_of_bytes space.old ++ Some row.now ∷ []) }
         ensures number { IfOk result (λ slot. slot
             ≡ length (relation_slots N R.SEGMENT R.BYTES R.row_of_bytes space.old)) }
         ensures only { OnOk result (ChangesSegment (owner_bytes space.old) (owner_bytes space.new) R.SEGMENT) }
-        ensures can_undo { CanUndoGrowth N 2 3 space.old space.new undo.old undo.new }
+        ensures pages { OnOk result (length (owner_pages space.new R.SEGMENT)
+            ≡ pages_after_push N R.BYTES (owner_pages space.old R.SEGMENT)) }
+        ensures can_undo { CanUndoGrowth N 2 2 space.old space.new undo.old undo.new }
         ensures no_frame { result ≡ Err Shortage.NoFrame → free_of space.new.frames ≡ 0 }
+        ensures kept { OnErr result (relation_slots N R.SEGMENT R.BYTES R.row_of_bytes space.new
+            ≡ relation_slots N R.SEGMENT R.BYTES R.row_of_bytes space.old) }
     {
         space.sound();
         let slot = used_of::<R, N>(space);

@@ -1,10 +1,11 @@
 use Rattle.std.proofs.Common.{◌≡◌, ◌≢◌, ℕ, ◌<◌, ◌≤◌, List, replicate, sym, ap, ◌∙◌, subst, arith, length}
-use Rattle.hy_rows.specs.Spelling.{list_at, used_slots}
+use Rattle.hy_rows.specs.Spelling.{list_at, slot_width, used_slots}
 use Rattle.hy_space.specs.Space.{owner_bytes, page_count, with_new_page}
 use Rattle.hy_undo.proofs.PrivatePageLaws.{length-segment-owner_bytes}
 use Rattle.hy_relation.specs.Relation.{owner_pages}
 use Rattle.hy_relation.specs.inside.Places.{GrowsSlots, slot_page}
 use Rattle.hy_relation.proofs.PageLaws.{grows_slots}
+use Rattle.hy_relation.proofs.RelationLaws.{pages-room}
 use Rattle.hy_relation.proofs.SpaceLaws.{next_slot_page, segment-set, segment_there}
 use Rattle.hy_relation.proofs.slots.make_room.Goals as goal
 
@@ -30,3 +31,8 @@ returns-else-place-from-clause-room g c =
     let within = next_slot_page g.row.N g.R.Row.BYTES pages c.requires.slots in
     let differs : slot_page g.row.N g.R.Row.BYTES (used_slots pages) ≢ length pages = λ same. c.if-place-from.false (place ∙ same ∙ sym count) in
     strictly _ _ within differs
+
+pub returns-else-place-from-clause-pages : goal.returns-else-place-from-clause-pages
+returns-else-place-from-clause-pages g c =
+    let room : slot_width g.R.Row.BYTES ≤ g.row.N = omega (arith, g.met.R.Row.fits, c.sound.ensures.size.smallest) in
+    sym (pages-room g.row.N g.R.Row.BYTES (owner_pages c.args.space.now g.R.Row.SEGMENT) room (returns-else-place-from-clause-room g c))

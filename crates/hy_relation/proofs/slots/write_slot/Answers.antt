@@ -2,7 +2,8 @@ use Rattle.std.proofs.Common.{◌≡◌, ℕ, ◌+◌, ◌<◌, ◌≤◌, ◌^�
 use Rattle.std.proofs.lemmas.Result.{on_ok_weaker}
 use Rattle.hy_page.specs.Bytes.{overwritten}
 use Rattle.hy_rows.specs.Spelling.{list_at, slot_width}
-use Rattle.hy_space.specs.Space.{HasPage, owner_bytes, page_at, with_page}
+use Rattle.hy_frames.specs.FrameTable.{free_of}
+use Rattle.hy_space.specs.Space.{SpaceState, HasPage, IsOwn, owner_bytes, page_at, with_page}
 use Rattle.hy_undo.proofs.WriteLaws.{by_outcome, can_undo-none, can_undo-written, out_of_frames}
 use Rattle.hy_relation.specs.Relation.{owner_pages}
 use Rattle.hy_relation.specs.inside.Places.{WritesSlot, slot_offset, slot_page}
@@ -60,3 +61,13 @@ returns-clause-no_frame g c failed =
     let there : HasPage old c.SEGMENT.result c.place_of-place.result.page =
     subst (λ (s : ℕ). HasPage old s c.place_of-place.result.page) (sym c.SEGMENT.ensures) (subst (λ (p : ℕ). HasPage old g.R.Row.SEGMENT p) (sym (page g c)) here) in
     out_of_frames g.row.N old c.SEGMENT.result c.place_of-place.result.page c.sound.ensures there (c.write.ensures.full.0 failed)
+
+-- the owner's own page takes no frame
+pub returns-clause-free : goal.returns-clause-free
+returns-clause-free g c own =
+    let old = c.args.space.now in
+    let here : IsOwn old c.SEGMENT.result c.place_of-place.result.page =
+    subst (λ (s : ℕ). IsOwn old s c.place_of-place.result.page) (sym c.SEGMENT.ensures) (subst (λ (p : ℕ). IsOwn old g.R.Row.SEGMENT p) (sym (page g c)) own) in
+    by_outcome c.write.result c.write.ensures.logs c.write.ensures.err
+    (λ done. done.made.free here)
+    (λ same. ap (λ (s : SpaceState). free_of s.frames) same.1)
