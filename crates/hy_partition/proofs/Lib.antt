@@ -1,16 +1,11 @@
 pub mod SnapshotLaws
 pub mod GrowthLaws
 pub mod SliceLaws
-pub mod PlaceLaws
-pub mod PageChanges
 pub mod StepLaws
-pub mod FindLaws
 pub mod UndoLaws
-pub mod TablesLaws
 pub mod EmptyLaws
 pub mod SoundLaws
 pub mod LoadLaws
 pub mod StepsToLaws
 pub mod FinishLaws
-pub mod FrameLaws
 pub mod ForkLaws

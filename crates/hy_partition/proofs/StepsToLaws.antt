@@ -7,7 +7,7 @@ use Rattle.std.proofs.lemmas.Bool.Decides.{nat_tests}
 use Rattle.hy_frames.specs.FrameTable.{FrameTable, free_of}
 use Rattle.hy_frames.specs.declared.errors.Shortage.{Shortage}
 use Rattle.hy_frames.specs.declared.errors.Shortage.TheVariants as shortages
-use Rattle.hy_partition.specs.inside.Shortages.{IsOutOfFrames, refusal_of_shortage}
+use Rattle.hy_partition.specs.inside.Shortages.{refusal_of_shortage}
 use Rattle.hy_schema.specs.declared.command.Commit.{Commit}
 use Rattle.hy_schema.specs.declared.command.Commit.TheVariants as commits
 use Rattle.hy_schema.specs.declared.command.Reply.{Reply}
@@ -19,7 +19,7 @@ use Rattle.hy_rows.specs.Tables.{Tables}
 use Rattle.hy_rows.specs.Spelling.{HasTables, Spells, customer_segment, list_at, tables_of}
 use Rattle.hy_schema.specs.Transactions.{Outcome, act}
 use Rattle.hy_space.specs.Space.{SpaceState, SameForChildren, child_bytes, child_table, owner_bytes, table_bytes}
-use Rattle.hy_partition.specs.inside.Changes.{CanUndo}
+use Rattle.hy_undo.specs.Writes.{CanUndo, IsOutOfFrames}
 use Rattle.hy_partition.specs.inside.Growth.{IsGrown, most_grown}
 use Rattle.hy_partition.specs.inside.Finds.{HasRows, IsCustomerSlot}
 use Rattle.hy_partition.specs.Jobs.{DoneState, RunningJob}

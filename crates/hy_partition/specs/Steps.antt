@@ -11,21 +11,16 @@ use Rattle.hy_rows.specs.Tables.{Tables, of_warehouse}
 use Rattle.hy_schema.specs.Transactions.{act, refusal_of}
 use Rattle.hy_rows.specs.Spelling.{Spells}
 use Rattle.hy_frames.specs.FrameTable.{count_of, free_of}
-use Rattle.hy_space.specs.Space.{SpaceState, SameForChildren, SameForOwner, SameForOthers, IsLeastFree, DropsUsers, owner_bytes, child_bytes, child_table, child_times}
+use Rattle.hy_space.specs.Space.{SameForChildren, SameForOwner, SameForOthers, IsLeastFree, DropsUsers, owner_bytes, child_bytes, child_table, child_times}
 use Rattle.hy_partition.specs.declared.job.Progress.{Progress}
 use Rattle.hy_partition.specs.declared.job.Progress.TheVariants as progress
-use Rattle.hy_undo.specs.UndoLog.{undone, empty_log, page_counts}
+use Rattle.hy_undo.specs.UndoLog.{undone, empty_log}
 use Rattle.hy_undo.specs.Touched.{touched}
+use Rattle.hy_undo.specs.Writes.{TakesFrames}
 use Rattle.hy_partition.specs.Partition.{PartitionState, rows_now, commits_of}
 use Rattle.hy_partition.specs.Jobs.{RunningJob}
 use Rattle.hy_partition.specs.Slices.{is_last, writes}
 use Rattle.hy_partition.specs.Snapshots.{SnapshotState}
-
--- no page comes or goes, at most so many frames are taken, and the limit of frames stays
-pub record TakesFrames (most : ℕ) (old new : SpaceState) : Type 0 where
-  pub pages : page_counts new ≡ page_counts old
-  pub frames : free_of old.frames ≤ free_of new.frames + most
-  pub limit : new.frames.max ≡ old.frames.max
 
 -- a job runs, or its reply wasn't taken
 abbrev pub is_busy : PartitionState → Bool

@@ -2,6 +2,5 @@ pub mod Rows
 pub mod Finds
 pub mod Shortages
 pub mod Growth
-pub mod Changes
 pub mod Soundness
 pub mod Views

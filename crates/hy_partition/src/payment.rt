@@ -11,12 +11,12 @@ ghost use Rattle.hy_rows.specs.Spelling.{HasTables, customer_segment};
 ghost use Rattle.hy_schema.specs.Transactions.{customer_paid, district_paid, is_district_number, payer, payment_refusal, payment_reply, warehouse_paid};
 ghost use Rattle.hy_space.specs.Space.{owner_bytes};
 ghost use Rattle.hy_undo.specs.PrivatePages.{IsUndoLog};
+ghost use Rattle.hy_undo.specs.Writes.{CanUndo, IsOutOfFrames};
+ghost use Rattle.hy_relation.specs.Relation.{owner_pages};
 ghost use Rattle.hy_partition.specs.Slices.{home_paid, payer_paid};
-ghost use Rattle.hy_partition.specs.inside.Changes.{CanUndo};
 ghost use Rattle.hy_partition.specs.inside.Finds.{HasHome, IsCustomerSlot};
 ghost use Rattle.hy_partition.specs.inside.Growth.{IsGrown, IsGrownCustomer, IsGrownMoney, most_grown};
-ghost use Rattle.hy_partition.specs.inside.Rows.{owner_pages, owner_rows};
-ghost use Rattle.hy_partition.specs.inside.Shortages.{IsOutOfFrames};
+ghost use Rattle.hy_partition.specs.inside.Rows.{owner_rows};
 
 use crate::keyed::{CustomerKey, DistrictKey};
 use crate::places::{change, find_row, live_row, row_with};

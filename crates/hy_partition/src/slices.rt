@@ -6,12 +6,12 @@ ghost use Rattle.hy_rows.specs.Spelling.{HasTables, customer_segment};
 ghost use Rattle.hy_schema.specs.Transactions.{refusal_of};
 ghost use Rattle.hy_space.specs.Space.{owner_bytes};
 ghost use Rattle.hy_undo.specs.PrivatePages.{IsUndoLog};
+ghost use Rattle.hy_undo.specs.Writes.{CanUndo, IsOutOfFrames};
+ghost use Rattle.hy_relation.specs.Relation.{owner_pages};
 ghost use Rattle.hy_partition.specs.Slices.{slice, slice_count, writes};
-ghost use Rattle.hy_partition.specs.inside.Changes.{CanUndo};
 ghost use Rattle.hy_partition.specs.inside.Finds.{HasRows, IsCustomerSlot};
 ghost use Rattle.hy_partition.specs.inside.Growth.{IsGrown, most_grown};
-ghost use Rattle.hy_partition.specs.inside.Rows.{owner_pages, owner_rows};
-ghost use Rattle.hy_partition.specs.inside.Shortages.{IsOutOfFrames};
+ghost use Rattle.hy_partition.specs.inside.Rows.{owner_rows};
 
 use crate::job::Running;
 use crate::payment::{find_payer, pay_customer, pay_home};

@@ -1,11 +1,11 @@
 //! Snapshots: the committed rows of a warehouse at one moment.
 
-ghost use Rattle.std.specs.Prelude.{◌≡◌, ℕ, ◌<◌, ◌≤◌, List, length, map, IfOk};
-ghost use Rattle.hy_rows.specs.Spelling.{HasSlots, list_at, rows_of, segments, slot_width, tables_of};
-ghost use Rattle.hy_partition.specs.Snapshots.{SnapshotState, IsWhole};
+ghost use Rattle.std.specs.Prelude.{◌≡◌, ◌<◌, map, IfOk};
+ghost use Rattle.hy_rows.specs.Spelling.{list_at, segments, tables_of};
+ghost use Rattle.hy_partition.specs.Snapshots.{IsWhole};
 
-use crate::places::{place_of, row_at};
 use hy_frames::Hold;
+use hy_relation::Relation;
 use hy_schema::Row;
 use std::alloc::{AllocError, Global};
 use std::marker::Model;
@@ -92,7 +92,7 @@ impl<const N: usize> Snapshot<N> {
     pub fn list<R: Row>(&self) -> Result<Vec<R>, AllocError>
         ensures { IfOk result (λ rows. rows.items ≡ R.rows_in (tables_of N self.now.bytes)) }
     {
-        rows_on_pages(*self.pages.allocator(), self.segment(R::SEGMENT))
+        Relation::<R>::new().scan_pages(*self.pages.allocator(), self.segment(R::SEGMENT))
     }
 
     /// The pages of a segment.
@@ -103,26 +103,4 @@ impl<const N: usize> Snapshot<N> {
     {
         self.pages[number as usize].as_slice()
     }
-}
-
-/// The rows on the pages of a segment.
-fn rows_on_pages<R: Row, const N: usize>(
-    alloc: Global,
-    pages: &[Hold<N>],
-) -> Result<Vec<R>, AllocError>
-    requires slots { HasSlots N R.BYTES pages.now }
-    requires size { 256 ≤ N }
-    requires small { N ≤ 65536 }
-    ensures { IfOk result (λ rows. rows.items ≡ rows_of N R.BYTES R.row_of_bytes pages.now) }
-{
-    let used = pages[0].page().field(0, 8);
-    let mut rows = Vec::new(alloc);
-    for slot in 0..used {
-        let place = place_of(N, R::BYTES, slot);
-        let page = pages[place.page as usize].page();
-        if let Some(row) = row_at::<R, N>(page, place.offset) {
-            rows.push(row)?;
-        }
-    }
-    Ok(rows)
 }

@@ -3,6 +3,6 @@ pub mod BetweenLaws
 pub mod ColumnLaws
 pub mod RowLaws
 pub mod ChangedRows
-pub mod SlotPlaces
+pub mod FirstItems
 pub mod PrintableLaws
 pub mod WorkedRanges

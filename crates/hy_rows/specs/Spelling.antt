@@ -1,8 +1,9 @@
 -- What the bytes of a page table say. The bytes are, for each segment, the list of its pages' bytes. Each table has
 -- a segment, and others may follow them. Page 0 of a segment begins with the number of used slots in eight bytes; the
--- slots lie on the pages from 1 on, from each page's first byte, and none across the end of a page. A slot is a mark,
+-- slots lie in the bytes of the pages from 1 on, joined, as many in those of each page as fit it. A slot is a mark,
 -- 1 for a live row and 0 for an erased one, and the bytes of the row.
-use Rattle.std.specs.Prelude.{◌≡◌, ℕ, ◌+◌, ◌-◌, ◌*◌, ◌/◌, ◌%◌, ◌<◌, ◌≤◌, ◌==◌, Bool, true, None, Some, find, List, [], ◌∷◌, ◌++◌, length, map, filter, drop, slice_get, slice_index, slice_index_or, zero, suc}
+use Rattle.std.specs.Prelude.{◌≡◌, ℕ, ◌+◌, ◌-◌, ◌*◌, ◌/◌, ◌%◌, ◌<◌, ◌≤◌, ◌==◌, Bool, if◌then◌else◌, Option, None, Some, option_to_list, List, [], ◌∷◌, ◌++◌, length, drop, slice_get, slice_index, slice_index_or, zero, suc}
+use Rattle.std.specs.List.{concat, flat_map}
 use Rattle.hy_page.specs.Bytes.{bytes_at}
 use Rattle.hy_rows.specs.Rows.{number_at, warehouse_of, district_of, customer_of, history_of, new_order_of, order_of, order_line_of, stock_of}
 use Rattle.hy_rows.specs.Tables.{Tables}
@@ -55,21 +56,22 @@ slot_width row_bytes = 1 + row_bytes
 abbrev pub slots_per_page : ℕ → ℕ → ℕ
 slots_per_page n row_bytes = n / slot_width row_bytes
 
--- where slot k lies: its page in the segment, and the offset of its first byte there
-abbrev pub slot_page : ℕ → ℕ → ℕ → ℕ
-slot_page n row_bytes k = 1 + k / slots_per_page n row_bytes
-
-abbrev pub slot_offset : ℕ → ℕ → ℕ → ℕ
-slot_offset n row_bytes k = k % slots_per_page n row_bytes * slot_width row_bytes
+-- where slot k begins in the joined bytes
+abbrev pub slot_start : ℕ → ℕ → ℕ → ℕ
+slot_start n row_bytes k =
+    k / slots_per_page n row_bytes * n + k % slots_per_page n row_bytes * slot_width row_bytes
 
 -- how many slots a segment has used
 abbrev pub used_slots : List (List ℕ) → ℕ
 used_slots pages = number_at (list_at pages 0) 0 8
 
+-- the bytes in which the slots of a segment lie
+abbrev pub slot_bytes : List (List ℕ) → List ℕ
+slot_bytes pages = concat (drop 1 pages)
+
 -- the bytes of slot k
 abbrev pub slot_at : ℕ → ℕ → List (List ℕ) → ℕ → List ℕ
-slot_at n row_bytes pages k =
-    bytes_at (list_at pages (slot_page n row_bytes k)) (slot_offset n row_bytes k) (slot_width row_bytes)
+slot_at n row_bytes pages k = bytes_at (slot_bytes pages) (slot_start n row_bytes k) (slot_width row_bytes)
 
 -- the first items of a sequence, in order
 abbrev pub first_items : {Item : Type 0} → (ℕ → Item) → ℕ → List Item
@@ -80,13 +82,22 @@ first_items item (suc k) = first_items item k ++ item k ∷ []
 abbrev pub is_live : List ℕ → Bool
 is_live slot = number_at slot 0 1 == 1
 
--- the rows of a list of slots: those of the live ones, in order
-abbrev pub live_rows : {Row : Type 0} → (List ℕ → Row) → List (List ℕ) → List Row
-live_rows row_of slots = map (λ slot. row_of (drop 1 slot)) (filter is_live slots)
+-- the row of a slot, or none where the slot isn't live
+abbrev pub row_of_slot : {Row : Type 0} → (List ℕ → Row) → List ℕ → Option Row
+row_of_slot row_of slot = if is_live slot then Some (row_of (drop 1 slot)) else None
+
+-- the used slots of a segment: the row of each, or none where it was erased
+abbrev pub slots_of : {Row : Type 0} → ℕ → ℕ → (List ℕ → Row) → List (List ℕ) → List (Option Row)
+slots_of n row_bytes row_of pages =
+    first_items (λ k. row_of_slot row_of (slot_at n row_bytes pages k)) (used_slots pages)
+
+-- the rows of a list of slots: those that are there, in order
+abbrev pub live_rows : {Row : Type 0} → List (Option Row) → List Row
+live_rows slots = flat_map option_to_list slots
 
 -- the rows of a segment
 abbrev pub rows_of : {Row : Type 0} → ℕ → ℕ → (List ℕ → Row) → List (List ℕ) → List Row
-rows_of n row_bytes row_of pages = live_rows row_of (first_items (slot_at n row_bytes pages) (used_slots pages))
+rows_of n row_bytes row_of pages = live_rows (slots_of n row_bytes row_of pages)
 
 -- a segment has its page 0, and its used slots lie on its other pages
 pub record HasSlots (n row_bytes : ℕ) (pages : List (List ℕ)) : Type 0 where
@@ -119,11 +130,3 @@ pub record HasTables (n : ℕ) (bytes : List (List (List ℕ))) : Type 0 where
 pub record Spells (n : ℕ) (bytes : List (List (List ℕ))) (tables : Tables) : Type 0 where
   pub whole : HasTables n bytes
   pub rows : tables_of n bytes ≡ tables
-
--- slot k of a sequence of slots has a live row, and it is the first row that passes the test
-pub record IsFirstMatch {Row : Type 0} (row_of : List ℕ → Row) (test : Row → Bool) (slots : ℕ → List ℕ) (k : ℕ)
-    (row : Row) : Type 0 where
-  pub live : is_live (slots k) ≡ true
-  pub row_is : row_of (drop 1 (slots k)) ≡ row
-  pub matches : test row ≡ true
-  pub first : find test (live_rows row_of (first_items slots k)) ≡ None

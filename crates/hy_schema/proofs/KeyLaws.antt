@@ -17,7 +17,7 @@ use Rattle.hy_rows.specs.Ranges.{IsBetween, IsCustomerInRange}
 use Rattle.hy_schema.specs.Loads.{IsLoad, IsWarehouseAt, IsDistrictAt, IsCustomerAt, IsCustomerAfter, row_before}
 use Rattle.hy_rows.specs.Spelling.{first_items}
 use Rattle.hy_rows.proofs.BetweenLaws.{bounds}
-use Rattle.hy_rows.proofs.ChangedRows.{first_items-same}
+use Rattle.hy_rows.proofs.FirstItems.{first_items-same}
 
 -- what a test says of the rows that pass it
 pub All-passing : {Row : Type 0} (test : Row → Bool) (P : Row → Type 0) (rows : List Row)

@@ -9,3 +9,4 @@ pub mod SplitLaws
 pub mod CutLaws
 pub mod ChildBackLaws
 pub mod ForkLaws
+pub mod WriteLaws

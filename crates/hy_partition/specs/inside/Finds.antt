@@ -1,20 +1,20 @@
 -- What the slices of a command find: the rows of its home, and the slot of its customer, which begin found.
-use Rattle.std.specs.Prelude.{ℕ, zero, suc, ⊤, ◌<◌, Bool, List, find, IsSome, slice_index}
+use Rattle.std.specs.Prelude.{ℕ, zero, suc, ⊤, Bool, List, find, IsSome, slice_index}
 use Rattle.hy_schema.specs.declared.command.Command.{Command}
 use Rattle.hy_schema.specs.declared.command.Command.TheVariants as commands
 use Rattle.hy_schema.specs.declared.command.Payment.{Payment}
 use Rattle.hy_rows.specs.Finding.{is_warehouse, is_district}
 use Rattle.hy_rows.specs.Rows.{customer_of}
-use Rattle.hy_rows.specs.Spelling.{IsFirstMatch, row_widths, slot_at, used_slots}
+use Rattle.hy_rows.specs.Spelling.{row_widths, slots_of}
 use Rattle.hy_rows.specs.Tables.{Tables}
+use Rattle.hy_relation.specs.Relation.{IsFirstSlot}
 use Rattle.hy_schema.specs.Transactions.{is_payer}
 
--- a used slot of a segment has the first row that passes a test
+-- a slot of a segment has the first row that passes a test
 pub record IsSlotOf {Row : Type 0} (n row_bytes : ℕ) (row_of : List ℕ → Row) (test : Row → Bool)
     (pages : List (List ℕ)) (slot : ℕ) : Type 0 where
-  pub used : slot < used_slots pages
   pub row : Row
-  pub first : IsFirstMatch row_of test (slot_at n row_bytes pages) slot row
+  pub first : IsFirstSlot test (slots_of n row_bytes row_of pages) slot row
 
 -- the slot has the customer of a command
 abbrev pub IsCustomerSlot : ℕ → Command → List (List ℕ) → ℕ → Type 0

@@ -6,8 +6,8 @@ use Rattle.hy_partition.proofs.snapshot.Snapshot.list.Goals as goal
 pub segment-requires : goal.segment-requires
 segment-requires g c = (search rules, (search rules, omega (arith, segment_there g.R.Row.SEGMENT g.R.Row.BYTES g.met.R.Row.is_table, c.SEGMENT.ensures)))
 
-pub rows_on_pages-requires : goal.rows_on_pages-requires
-rows_on_pages-requires g c =
+pub scan_pages-requires : goal.scan_pages-requires
+scan_pages-requires g c =
     let pages : c.segment.result.now ≡ list_at c.args.self.now.bytes g.R.Row.SEGMENT = c.segment.ensures.pages ∙ ap (list_at c.args.self.now.bytes) c.SEGMENT.ensures in
     let P : List (List ℕ) → Type 0 = HasSlots g.row.N g.R.Row.BYTES in (
       search rules,
@@ -20,7 +20,7 @@ rows_on_pages-requires g c =
 pub returns : goal.returns
 returns g c =
     let pages : c.segment.result.now ≡ list_at c.args.self.now.bytes g.R.Row.SEGMENT = c.segment.ensures.pages ∙ ap (list_at c.args.self.now.bytes) c.SEGMENT.ensures in
-    let P : List g.row.R.Denot → Type 0 = λ rows. IfOk c.rows_on_pages.result (λ found. found.items ≡ rows) in
+    let P : List g.row.R.Denot → Type 0 = λ rows. IfOk c.scan_pages.result (λ found. found.items ≡ rows) in
     subst P
     (ap (rows_of g.row.N g.R.Row.BYTES g.R.Row.row_of_bytes) pages ∙ sym (g.met.R.Row.spelled g.row.N c.args.self.now.bytes))
-    c.rows_on_pages.ensures
+    c.scan_pages.ensures
