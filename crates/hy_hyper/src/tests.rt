@@ -8,7 +8,9 @@ use crate::place::Place;
 use crate::reason::Reason;
 use crate::run::run_words;
 use crate::words::{Line, read_words};
+use hy_rows::{History, Item, Order, Stock};
 use hy_schema::{Customer, District, LoadFault, Refusal, Warehouse};
+use hy_tables::generated;
 use std::alloc::Global;
 use std::io;
 use std::test::Fail;
@@ -220,8 +222,34 @@ fn generates_names(rt: HostRuntime) -> Result<(), Fail> {
 }
 
 #[test]
-fn refuses_a_number_of_customers(rt: HostRuntime) -> Result<(), Fail> {
-    assert!(rt; generate(rt.alloc(), 0).is_err());
-    assert!(rt; generate(rt.alloc(), 3001).is_err());
+fn refuses_sizes_of_a_database(rt: HostRuntime) {
+    for (warehouses, customers, items) in [
+        (0, 3, 20),
+        (17, 3, 20),
+        (2, 0, 20),
+        (2, 3001, 20),
+        (2, 3, 0),
+        (2, 3, 100_001),
+        (u64::MAX, u64::MAX, u64::MAX),
+    ] {
+        let lists = generated(rt.alloc(), warehouses, customers, items);
+        assert!(rt; lists.err() == Some(Refusal::OutOfRange));
+    }
+}
+
+#[test]
+fn generates_a_database(rt: HostRuntime) -> Result<(), Fail> {
+    let lists = generated(rt.alloc(), 2, 3, 20).expect(&rt, "lists");
+    assert_eq!(rt; lists.list::<Item>().len(), 20);
+    assert_eq!(rt; lists.list::<Warehouse>().len(), 2);
+    assert_eq!(rt; lists.list::<District>().len(), 20);
+    assert_eq!(rt; lists.list::<Customer>().len(), 60);
+    assert_eq!(rt; lists.list::<Order>().len(), 0);
+    let payment = lists.list::<History>().get(59).expect(&rt, "a payment");
+    assert!(rt; payment.information.as_bytes() == b"W2    D10".as_slice() && payment.customer == 3);
+    let stock = lists.list::<Stock>().get(32).expect(&rt, "stock");
+    assert!(rt; stock.warehouse == 2 && stock.item == 13 && stock.quantity == 12);
+    let item = lists.list::<Item>().get(2).expect(&rt, "an item");
+    assert!(rt; item.name.as_bytes() == b"ITEM3".as_slice() && item.price == 211 && item.image == 4);
     Ok(())
 }
