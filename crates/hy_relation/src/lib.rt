@@ -7,3 +7,6 @@ mod relation;
 mod slots;
 
 pub use relation::Relation;
+
+#[cfg(test)]
+mod tests;

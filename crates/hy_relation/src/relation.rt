@@ -9,7 +9,7 @@ ghost use Rattle.hy_undo.specs.Writes.{CanUndo, CanUndoGrowth, IsOutOfFrames};
 ghost use Rattle.hy_relation.specs.Relation.{ChangesSegment, HasRelation, IsLive, owner_pages, pages_after_push, relation_slots, row_in as row_in_slots};
 
 use crate::lent::{know_sizes, row_on, used_on};
-use crate::slots::{live_slot, make_room, row_in, used_of, write_count, write_slot};
+use crate::slots::{know_few, live_slot, make_room, row_in, used_of, write_count, write_slot};
 use hy_frames::{Hold, Shortage};
 use hy_rows::Row;
 use hy_space::Space;
@@ -70,7 +70,7 @@ impl<R: Row> Relation<R> {
         ensures err { OnErr result ((undo.new ≡ undo.old) × (space.new ≡ space.old)) }
     {
         space.sound();
-        let _used = used_of::<R, N>(space);
+        know_few::<R, N>(space);
         let other = live_slot(row);
         write_slot::<R, N>(space, undo, slot, other.as_slice())
     }
@@ -94,7 +94,7 @@ impl<R: Row> Relation<R> {
         ensures err { OnErr result ((undo.new ≡ undo.old) × (space.new ≡ space.old)) }
     {
         space.sound();
-        let _used = used_of::<R, N>(space);
+        know_few::<R, N>(space);
         write_slot::<R, N>(space, undo, slot, &[0])
     }
 

@@ -27,6 +27,14 @@ pub(crate) fn used_of<R: Row, const N: usize>(space: &Space<N>) -> u64
     space.read(R::SEGMENT, 0, 0, 8)
 }
 
+/// A relation has few slots, for its pages are few.
+pub(crate) fn know_few<R: Row, const N: usize>(space: &Space<N>)
+    requires { HasRelation N R.SEGMENT R.BYTES space.now }
+    ensures { used_slots (owner_pages space.now R.SEGMENT) < 2 ^ 56 }
+{
+    space.sound();
+}
+
 /// Where a used slot lies.
 fn place_in<R: Row, const N: usize>(space: &Space<N>, slot: u64) -> Place
     requires slots { HasRelation N R.SEGMENT R.BYTES space.now }

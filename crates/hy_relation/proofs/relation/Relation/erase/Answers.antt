@@ -12,7 +12,7 @@ write_slot-requires g c =
     let used : c.args.slot < used_slots pages = live-used g.row.N g.R.Row.BYTES g.R.Row.row_of_bytes pages c.args.slot c.requires.live in
     let room : slot_width g.R.Row.BYTES ≤ g.row.N = omega (arith, g.met.R.Row.fits, c.sound.ensures.size.smallest) in
     let there = slot_page-below g.row.N g.R.Row.BYTES pages c.args.slot room c.requires.slots used in
-    (omega arith, (omega arith, (there, (omega (arith, used, c.used_of-used.ensures.value, c.used_of-used.ensures.small), (omega arith, c.requires.undo_log)))))
+    (omega arith, (omega arith, (there, (omega (arith, used, c.know_few.ensures), (omega arith, c.requires.undo_log)))))
 
 pub returns-clause-erased : goal.returns-clause-erased
 returns-clause-erased g c = on_ok_weaker c.write_slot.result (λ written.

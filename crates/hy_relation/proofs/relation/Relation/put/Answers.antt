@@ -14,7 +14,7 @@ write_slot-requires g c =
     let room : slot_width g.R.Row.BYTES ≤ g.row.N = omega (arith, g.met.R.Row.fits, c.sound.ensures.size.smallest) in
     let there = slot_page-below g.row.N g.R.Row.BYTES pages c.args.slot room c.requires.slots used in
     let size : length c.as_slice.result.now ≡ slot_width g.R.Row.BYTES = ap length (c.as_slice.ensures.value ∙ c.live_slot-other.ensures.bytes) ∙ omega (arith, c.live_slot-other.ensures.width) in
-    (omega arith, (omega arith, (there, (omega (arith, used, c.used_of-used.ensures.value, c.used_of-used.ensures.small), (omega (arith, size), c.requires.undo_log)))))
+    (omega arith, (omega arith, (there, (omega (arith, used, c.know_few.ensures), (omega (arith, size), c.requires.undo_log)))))
 
 pub returns-clause-put : goal.returns-clause-put
 returns-clause-put g c = on_ok_weaker c.write_slot.result (λ raw.
