@@ -12,7 +12,8 @@ use crate::places::know_relation;
 use hy_frames::Shortage;
 use hy_relation::Relation;
 use hy_schema::{
-    Customer, District, History, NewOrder, Order, OrderLine, Row, SEGMENTS, Stock, Tables, Warehouse,
+    Customer, District, History, NewOrder, Order, OrderLine, Row, SEGMENTS, Stock, Tables,
+    Warehouse,
 };
 use hy_space::Space;
 use hy_undo::Undo;

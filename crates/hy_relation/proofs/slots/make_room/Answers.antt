@@ -1,11 +1,11 @@
-use Rattle.std.proofs.Common.{◌≡◌, ◌≢◌, ℕ, ◌<◌, ◌≤◌, List, replicate, sym, ap, ◌∙◌, subst, arith, length}
+use Rattle.std.proofs.Common.{◌≡◌, ◌≢◌, ℕ, ◌<◌, ◌≤◌, List, [], ◌∷◌, replicate, length-append, sym, ap, ◌∙◌, subst, arith, length}
 use Rattle.hy_rows.specs.Spelling.{list_at, slot_width, used_slots}
 use Rattle.hy_space.specs.Space.{owner_bytes, page_count, with_new_page}
 use Rattle.hy_undo.proofs.PrivatePageLaws.{length-segment-owner_bytes}
 use Rattle.hy_relation.specs.Relation.{owner_pages}
 use Rattle.hy_relation.specs.inside.Places.{GrowsSlots, slot_page}
 use Rattle.hy_relation.proofs.PageLaws.{grows_slots}
-use Rattle.hy_relation.proofs.RelationLaws.{pages-room}
+use Rattle.hy_relation.proofs.RelationLaws.{pages-full, pages-room}
 use Rattle.hy_relation.proofs.SpaceLaws.{next_slot_page, segment-set, segment_there}
 use Rattle.hy_relation.proofs.slots.make_room.Goals as goal
 
@@ -20,6 +20,23 @@ returns-in_ok-grow-clause-grows g c =
     ap (λ (bytes : List (List (List ℕ))). list_at bytes segment) (c.in_ok-grow.ensures.grows.bytes ∙ ap (λ (s : ℕ). with_new_page old s (replicate g.row.N 0)) c.SEGMENT-then-place-from.ensures) in
     subst (GrowsSlots (list_at old segment)) (sym (after ∙ segment-set old segment _ (segment_there old segment c.requires.slots.first)))
     (grows_slots (list_at old segment) (replicate g.row.N 0) c.requires.slots.first)
+
+-- a page more, for all slots were used
+pub returns-in_ok-grow-clause-pages : goal.returns-in_ok-grow-clause-pages
+returns-in_ok-grow-clause-pages g c =
+    let old : List (List (List ℕ)) = owner_bytes c.args.space.now in
+    let segment : ℕ = g.R.Row.SEGMENT in
+    let pages : List (List ℕ) = list_at old segment in
+    let room : slot_width g.R.Row.BYTES ≤ g.row.N = omega (arith, g.met.R.Row.fits, c.sound.ensures.size.smallest) in
+    let count : c.from.result ≡ length pages = c.from.ensures ∙ c.pages.ensures ∙ ap (page_count c.args.space.now) c.SEGMENT.ensures
+    ∙ sym (length-segment-owner_bytes c.args.space.now segment) in
+    let place : c.place_of-place.result.page ≡ slot_page g.row.N g.R.Row.BYTES (used_slots pages) = c.place_of-place.ensures.page
+    ∙ ap (λ (w : ℕ). slot_page g.row.N w c.used_of-used.result) c.BYTES.ensures ∙ ap (slot_page g.row.N g.R.Row.BYTES) c.used_of-used.ensures.value in
+    let after : list_at (owner_bytes c.grow.new.space) segment ≡ list_at (with_new_page old segment (replicate g.row.N 0)) segment =
+    ap (λ (bytes : List (List (List ℕ))). list_at bytes segment) (c.in_ok-grow.ensures.grows.bytes ∙ ap (λ (s : ℕ). with_new_page old s (replicate g.row.N 0)) c.SEGMENT-then-place-from.ensures) in
+    ap length (after ∙ segment-set old segment _ (segment_there old segment c.requires.slots.first))
+    ∙ length-append pages (replicate g.row.N 0 ∷ [])
+    ∙ sym (pages-full g.row.N g.R.Row.BYTES pages room c.requires.slots (sym place ∙ c.if-place-from.true ∙ count))
 
 pub returns-else-place-from-clause-room : goal.returns-else-place-from-clause-room
 returns-else-place-from-clause-room g c =

@@ -1,8 +1,15 @@
-use Rattle.std.proofs.Common.{ℕ, sym, subst}
+use Rattle.std.proofs.Common.{rules, ℕ, sym, subst}
 use Rattle.hy_space.specs.Space.{HasPage}
 use Rattle.hy_undo.proofs.WriteLaws.{by_outcome, can_undo-none, can_undo-written, out_of_frames}
 use Rattle.hy_relation.proofs.SpaceLaws.{has_page}
 use Rattle.hy_relation.proofs.slots.write_count.Goals as goal
+
+pub write-requires : goal.write-requires
+write-requires g c =
+    let there : HasPage c.args.space.now c.SEGMENT.result 0 =
+    subst (λ (s : ℕ). HasPage c.args.space.now s 0) (sym c.SEGMENT.ensures)
+    (has_page g.row.N g.R.Row.SEGMENT c.args.space.now c.sound.ensures c.requires.there 0 c.requires.there) in
+    (search rules, (search rules, (there, search rules)))
 
 pub returns-clause-can_undo : goal.returns-clause-can_undo
 returns-clause-can_undo g c =

@@ -1,4 +1,4 @@
-use Rattle.std.proofs.Common.{◌≡◌, ℕ, ◌+◌, ◌<◌, ◌≤◌, ◌^◌, List, length, arith, sym, ap, ◌∙◌, subst}
+use Rattle.std.proofs.Common.{rules, ◌≡◌, ℕ, ◌+◌, ◌<◌, ◌≤◌, ◌^◌, List, length, arith, sym, ap, ◌∙◌, subst}
 use Rattle.std.proofs.lemmas.Result.{on_ok_weaker}
 use Rattle.hy_page.specs.Bytes.{overwritten}
 use Rattle.hy_rows.specs.Spelling.{list_at, slot_width}
@@ -27,6 +27,18 @@ overflow_cast-place g c =
     let page : c.place_of-place.result.page ≡ slot_page g.row.N g.R.Row.BYTES c.args.slot = c.place_of-place.ensures.page ∙ ap (λ (w : ℕ). slot_page g.row.N w c.args.slot) c.BYTES.ensures in
     let few : length (owner_pages c.args.space.now g.R.Row.SEGMENT) < 2 ^ 32 = few_pages g.row.N g.R.Row.SEGMENT c.args.space.now c.sound.ensures (omega (arith, c.requires.there)) in
     omega (arith, page, few, c.requires.there)
+
+pub write-requires : goal.write-requires
+write-requires g c =
+    let old = c.args.space.now in
+    let here : HasPage old g.R.Row.SEGMENT (slot_page g.row.N g.R.Row.BYTES c.args.slot) =
+    has_page g.row.N g.R.Row.SEGMENT old c.sound.ensures (omega (arith, c.requires.there)) _ c.requires.there in
+    let number : c.place_of-place.result.page ≡ slot_page g.row.N g.R.Row.BYTES c.args.slot =
+    c.place_of-place.ensures.page ∙ ap (λ (w : ℕ). slot_page g.row.N w c.args.slot) c.BYTES.ensures in
+    let there : HasPage old c.SEGMENT.result c.place_of-place.result.page =
+    subst (λ (s : ℕ). HasPage old s c.place_of-place.result.page) (sym c.SEGMENT.ensures)
+    (subst (λ (p : ℕ). HasPage old g.R.Row.SEGMENT p) (sym number) here) in
+    (search rules, (search rules, (there, (omega (arith, c.place_of-place.ensures.fits, c.BYTES.ensures, c.requires.within), search rules))))
 
 -- what the write did, in the terms of the slot
 pub returns-clause-slot : goal.returns-clause-slot

@@ -119,3 +119,9 @@ returns-in_err-write_count-clause-kept g c =
     ∙ slots_of-behind n width g.R.Row.row_of_bytes old k room (pages_sized n segment c.args.space.now c.sound.ensures c.requires.slots.first) c.requires.slots grown
     (owner_pages c.write_slot.new.space segment) c.as_slice.result.now (sym c.used_of-slot.ensures.value)
     (pages_sized n segment c.make_room.new.space c.sound-2.ensures (omega (arith, there))) c.in_ok-make_room.ensures.grows there c.in_ok-write_slot.ensures.slot (omega (arith, size)))
+
+-- where no room was made nothing changed
+pub returns-in_err-make_room-clause-kept : goal.returns-in_err-make_room-clause-kept
+returns-in_err-make_room-clause-kept g c =
+    on_err c.from_residual.result
+    (ap (λ (space : SpaceState). relation_slots g.row.N g.R.Row.SEGMENT g.R.Row.BYTES g.R.Row.row_of_bytes space) c.in_err-make_room.ensures.err)
