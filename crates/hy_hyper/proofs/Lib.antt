@@ -2,3 +2,4 @@ pub mod CommandLineLaws
 pub mod GeneratedLaws
 pub mod FirstLaws
 pub mod AmountLaws
+pub mod OpenLaws

@@ -250,6 +250,8 @@ fn generates_a_database(rt: HostRuntime) -> Result<(), Fail> {
     let stock = lists.list::<Stock>().get(32).expect(&rt, "stock");
     assert!(rt; stock.warehouse == 2 && stock.item == 13 && stock.quantity == 12);
     let item = lists.list::<Item>().get(2).expect(&rt, "an item");
-    assert!(rt; item.name.as_bytes() == b"ITEM3".as_slice() && item.price == 211 && item.image == 4);
+    assert!(rt;
+        item.name.as_bytes() == b"ITEM3".as_slice() && item.price == 211 && item.image == 4
+    );
     Ok(())
 }
