@@ -1,11 +1,12 @@
 -- The laws of values by key: one more entry, and what a map has once it is in.
-use Rattle.std.proofs.Common.{◌≡◌, ℕ, ℤ, pos, ◌+ℤ◌, ◌≤ℤ◌, neg_ℤ, ◌+◌, ◌-◌, ◌*◌, ◌^◌, ◌<◌, Bool, true, false, cond, List, [], ◌∷◌, ◌++◌, length, take, get_or, map, filter, Some, unwrap_or, refl, sym, ap, subst, ◌∙◌, arith, append-nil}
+use Rattle.std.proofs.Common.{◌≡◌, fold, Result, Ok, Err, IfOk, ℕ, ℤ, pos, ◌+ℤ◌, ◌≤ℤ◌, neg_ℤ, ◌+◌, ◌-◌, ◌*◌, ◌^◌, ◌<◌, Bool, true, false, cond, List, [], ◌∷◌, ◌++◌, length, take, get_or, map, filter, Some, unwrap_or, refl, sym, ap, subst, ◌∙◌, arith, append-nil}
 use Rattle.std.specs.Cmp.{IsEquivalence}
 use Rattle.std.proofs.lemmas.Int.{ints}
 use Rattle.std.proofs.lemmas.List.{map-append}
 use Rattle.std.proofs.lemmas.List.Elements.{filter_more}
 use Rattle.std.proofs.lemmas.List.Sums.{fold-append}
 use Rattle.indexmap.specs.IndexMap.{IndexMap, get}
+use Rattle.hy_schema.specs.Conditions.{column_sum}
 use Rattle.hy_conditions.specs.Groups.{values_of, group_at, total, sum_at}
 
 module _ {Key Value : Type 0} (same : Key → Key → Bool) where
@@ -79,3 +80,34 @@ HasSums-one_more same laws old new entries place entry within read sum is update
   where
     push : (values : List ℤ) (value : ℤ) → total (values ++ value ∷ []) ≡ total values +ℤ value
     push values value = fold-append (λ sum amount. sum +ℤ amount) (pos 0) values (value ∷ [])
+
+module _ {Row Key Value : Type 0} (same : Key → Key → Bool) (entry_of : Row → Key × Value) (key : Key) where
+  -- the values of entries that were made of rows
+  pub values_of-map : (rows : List Row)
+      → values_of same key (map entry_of rows)
+      ≡ map (λ row. (entry_of row).1) (filter (λ row. same (entry_of row).0 key) rows)
+  values_of-map [] = refl
+  values_of-map (row ∷ rows) =
+      elim (same (entry_of row).0 key) as (λ b. map (λ entry. entry.1) (cond b (entry_of row ∷ filter (λ entry. same entry.0 key) (map entry_of rows)) (filter (λ entry. same entry.0 key) (map entry_of rows)))
+      ≡ map (λ row. (entry_of row).1) (cond b (row ∷ filter (λ row. same (entry_of row).0 key) rows) (filter (λ row. same (entry_of row).0 key) rows))) [
+        | true ↦ ap (λ values. (entry_of row).1 ∷ values) (values_of-map rows)
+        | false ↦ values_of-map rows
+      ]
+
+-- a total is the sum of a column
+module _ {Row : Type 0} where
+  total-from : (column : Row → ℤ) (start : ℤ) (rows : List Row)
+      → fold (λ sum amount. sum +ℤ amount) start (map column rows) ≡ fold (λ sum row. sum +ℤ column row) start rows
+  total-from column start [] = refl
+  total-from column start (row ∷ rows) = total-from column (start +ℤ column row) rows
+
+-- a map that was made of rows by their entries, where it has for each key what those rows come to
+module _ {Row Key Hasher Error : Type 0} (same : Key → Key → Bool) (rows : List Row) where
+  pub IfOk-sums : (entry_of : Row → Key × ℤ) (entries : List (Key × ℤ)) → entries ≡ map entry_of rows
+      → (result : Result (IndexMap Key ℤ Hasher) Error) → IfOk result (λ sums. (key : Key) → sum_at same sums key ≡ total (values_of same key entries))
+      → (wanted : Key → ℤ) → ((key : Key) → column_sum (λ row. (entry_of row).1) (filter (λ row. same (entry_of row).0 key) rows) ≡ wanted key)
+      → IfOk result (λ sums. (key : Key) → sum_at same sums key ≡ wanted key)
+  IfOk-sums entry_of entries made (Ok sums) ok wanted reaches = λ key.
+      ok key ∙ ap (λ entries. total (values_of same key entries)) made ∙ ap total (values_of-map same entry_of key rows)
+      ∙ total-from (λ row. (entry_of row).1) (pos 0) (filter (λ row. same (entry_of row).0 key) rows) ∙ reaches key
+  IfOk-sums entry_of entries made (Err error) ok wanted reaches = tt

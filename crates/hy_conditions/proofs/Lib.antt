@@ -1,2 +1,4 @@
 pub mod GroupLaws
 pub mod NumberLaws
+pub mod ColumnLaws
+pub mod LineLaws

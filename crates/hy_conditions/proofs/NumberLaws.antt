@@ -1,5 +1,5 @@
 -- The laws of numbers by key: one more of them, and a map that has them.
-use Rattle.std.proofs.Common.{◌≡◌, ℕ, ◌+◌, ◌<◌, ◌≤◌, min, max, fold, false, ◌==◌, Bool, cond, List, [], ◌∷◌, ◌++◌, length, take, get_or, Some, refl, sym, ap, ◌∙◌, arith, length-append}
+use Rattle.std.proofs.Common.{Result, Ok, Err, IfOk, filter, map, ◌≡◌, ℕ, ◌+◌, ◌<◌, ◌≤◌, min, max, fold, false, ◌==◌, Bool, cond, List, [], ◌∷◌, ◌++◌, length, take, get_or, Some, refl, sym, ap, ◌∙◌, arith, length-append}
 use Rattle.std.specs.Cmp.{IsEquivalence}
 use Rattle.std.proofs.lemmas.List.Sums.{fold-append}
 use Rattle.std.proofs.lemmas.Bool.Decides.{nat_tests}
@@ -7,7 +7,7 @@ use Rattle.indexmap.specs.IndexMap.{IndexMap, get}
 use Rattle.hy_conditions.specs.declared.numbers.Numbers.{Numbers}
 use Rattle.hy_conditions.specs.Groups.{values_of}
 use Rattle.hy_conditions.specs.Numbers.{numbers_of, no_numbers, with_number, numbers_at}
-use Rattle.hy_conditions.proofs.GroupLaws.{group_at-by_key, group_at-one_more}
+use Rattle.hy_conditions.proofs.GroupLaws.{group_at-by_key, group_at-one_more, values_of-map}
 
 -- one more number behind others
 pub numbers_of-push : (numbers : List ℕ) (number : ℕ) → numbers_of (numbers ++ number ∷ []) ≡ with_number (numbers_of numbers) number
@@ -39,3 +39,12 @@ HasNumbers-one_more same laws old new entries place entry within read numbers is
   few = λ key. group_at-by_key same laws no_numbers numbers_of with_number numbers_of-push old new entries place entry within read numbers is updates
       (λ found. found.count ≤ place + 1) key (λ alike. omega (arith, has.few entry.0)) (λ apart. omega (arith, has.few key));
 }
+
+-- a map of numbers that was made of rows by their entries
+module _ {Row Key Hasher Error : Type 0} (same : Key → Key → Bool) (rows : List Row) where
+  pub IfOk-numbers : (entry_of : Row → Key × ℕ) (entries : List (Key × ℕ)) → entries ≡ map entry_of rows
+      → (result : Result (IndexMap Key Numbers Hasher) Error) → IfOk result (λ groups. (key : Key) → numbers_at same groups key ≡ numbers_of (values_of same key entries))
+      → IfOk result (λ groups. (key : Key) → numbers_at same groups key ≡ numbers_of (map (λ row. (entry_of row).1) (filter (λ row. same (entry_of row).0 key) rows)))
+  IfOk-numbers entry_of entries made (Ok groups) ok = λ key.
+      ok key ∙ ap (λ entries. numbers_of (values_of same key entries)) made ∙ ap numbers_of (values_of-map same entry_of key rows)
+  IfOk-numbers entry_of entries made (Err error) ok = tt

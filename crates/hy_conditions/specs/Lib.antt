@@ -1,2 +1,4 @@
 pub mod Groups
+pub mod Keys
+pub mod Lines
 pub mod Numbers
