@@ -2,3 +2,4 @@ pub mod GroupLaws
 pub mod NumberLaws
 pub mod ColumnLaws
 pub mod LineLaws
+pub mod DeliveredLaws

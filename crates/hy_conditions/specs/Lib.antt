@@ -1,3 +1,4 @@
+pub mod Delivered
 pub mod Groups
 pub mod Keys
 pub mod Lines
