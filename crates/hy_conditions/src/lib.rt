@@ -11,3 +11,6 @@ mod sums;
 mod warehouses;
 
 pub use conditions::first_broken;
+
+#[cfg(test)]
+mod tests;
