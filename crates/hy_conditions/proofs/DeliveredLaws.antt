@@ -10,7 +10,8 @@ use Rattle.hy_conditions.proofs.ColumnLaws.{column_sum-append, column_sum-cons, 
 module _ {Row Other : Type 0} (column : Row → ℤ) (test : Row → Bool) (rows_of : Other → List Row) where
   -- a sum over the rows that pass a test among lists one behind another
   pub column_sum-flat_map : (others : List Other)
-      → column_sum column (filter test (flat_map rows_of others)) ≡ column_sum (λ other. column_sum column (filter test (rows_of other))) others
+      → column_sum column (filter test (flat_map rows_of others))
+      ≡ column_sum (λ other. column_sum column (filter test (rows_of other))) others
   column_sum-flat_map [] = refl
   column_sum-flat_map (other ∷ others) =
       ap (column_sum column) (filter-append test (rows_of other) (flat_map rows_of others))
@@ -28,7 +29,8 @@ low_part-small sum = let small = rem_below sum (pos (2 ^ 63)) (lit< tt) in (omeg
 -- a sum in parts is the sums of the parts
 module _ {Row : Type 0} (column : Row → ℤ) where
   pub column_sum-parts : (rows : List Row)
-      → of_parts (column_sum (λ row. high_part (column row)) rows) (column_sum (λ row. low_part (column row)) rows) ≡ column_sum column rows
+      → of_parts (column_sum (λ row. high_part (column row)) rows) (column_sum (λ row. low_part (column row)) rows)
+      ≡ column_sum column rows
   column_sum-parts [] = refl
   column_sum-parts (row ∷ rows) =
       let later = column_sum-parts rows in
@@ -39,14 +41,20 @@ module _ {Row : Type 0} (column : Row → ℤ) where
       omega (arith, ints)
 
 -- a balance less what was paid
-pub balance-less : (balance paid delivered : ℤ) → int_eq (balance +ℤ paid) delivered ≡ int_eq balance (delivered -ℤ paid)
-balance-less balance paid delivered = same-int_eq (balance +ℤ paid) delivered balance (delivered -ℤ paid) (λ same. omega (arith, ints)) (λ same. omega (arith, ints))
+pub balance-less : (balance paid delivered : ℤ)
+    → int_eq (balance +ℤ paid) delivered ≡ int_eq balance (delivered -ℤ paid)
+balance-less balance paid delivered =
+    same-int_eq (balance +ℤ paid) delivered balance (delivered -ℤ paid) (λ same. omega (arith, ints))
+    (λ same. omega (arith, ints))
 
 module _ (amount high low amount_high amount_low low_high low_low rest_high rest_low : ℤ)
-    (amount_is : amount ≡ of_parts amount_high amount_low) (low_is : low ≡ of_parts low_high low_low) (rest_is : amount_low -ℤ low_low ≡ of_parts rest_high rest_low)
+    (amount_is : amount ≡ of_parts amount_high amount_low) (low_is : low ≡ of_parts low_high low_low)
+    (rest_is : amount_low -ℤ low_low ≡ of_parts rest_high rest_low)
     (above : neg_ℤ (pos (2 ^ 63 - 1)) ≤ℤ rest_low) (below : rest_low ≤ℤ pos (2 ^ 63 - 1)) where
-  pub parts-same : rest_low ≡ pos 0 → int_eq (amount_high -ℤ low_high +ℤ rest_high) high ≡ int_eq amount (of_parts high low)
-  parts-same none = same-int_eq (amount_high -ℤ low_high +ℤ rest_high) high amount (of_parts high low) (λ same. omega (arith, ints)) (λ same. omega (arith, ints))
+  pub parts-same : rest_low ≡ pos 0
+      → int_eq (amount_high -ℤ low_high +ℤ rest_high) high ≡ int_eq amount (of_parts high low)
+  parts-same none = same-int_eq (amount_high -ℤ low_high +ℤ rest_high) high amount (of_parts high low)
+      (λ same. omega (arith, ints)) (λ same. omega (arith, ints))
 
   pub parts-apart : (rest_low ≡ pos 0 → ⊥) → int_eq amount (of_parts high low) ≡ false
   parts-apart some = int_eq-apart amount (of_parts high low) (λ same. some (omega (arith, ints)))

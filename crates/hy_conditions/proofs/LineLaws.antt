@@ -9,8 +9,11 @@ use Rattle.hy_conditions.proofs.ColumnLaws.{list_all-count}
 -- no line is delivered where none is to be, or undelivered where none is to be, exactly where all agree
 pub none-disagreeing : (undelivered : Bool) (delivered_lines undelivered_lines : ℤ) (lines : List OrderLine)
     → delivered_lines ≡ disagreeing true lines → undelivered_lines ≡ disagreeing false lines
-    → int_eq (if undelivered then delivered_lines else undelivered_lines) (pos 0) ≡ list_all (λ line. agree (line.delivery_date == 0) undelivered) lines
+    → int_eq (if undelivered then delivered_lines else undelivered_lines) (pos 0)
+    ≡ list_all (λ line. agree (line.delivery_date == 0) undelivered) lines
 none-disagreeing true delivered_lines undelivered_lines lines counted other =
-    ap (λ count. int_eq count (pos 0)) counted ∙ list_all-count (λ (line : OrderLine). agree (line.delivery_date == 0) true) lines
+    ap (λ count. int_eq count (pos 0)) counted ∙ list_all-count
+    (λ (line : OrderLine). agree (line.delivery_date == 0) true) lines
 none-disagreeing false delivered_lines undelivered_lines lines counted other =
-    ap (λ count. int_eq count (pos 0)) other ∙ list_all-count (λ (line : OrderLine). agree (line.delivery_date == 0) false) lines
+    ap (λ count. int_eq count (pos 0)) other ∙ list_all-count
+    (λ (line : OrderLine). agree (line.delivery_date == 0) false) lines

@@ -20,7 +20,8 @@ delivered_of lines = column_sum (λ line. line.amount) (filter is_delivered line
 
 -- what was delivered to a customer
 abbrev pub delivered_with : CustomerKey → List Order → List OrderLine → ℤ
-delivered_with key orders lines = delivered_of (flat_map (λ order. lines_with (key_of_order order) lines) (orders_with key orders))
+delivered_with key orders lines =
+    delivered_of (flat_map (λ order. lines_with (key_of_order order) lines) (orders_with key orders))
 
 -- a sum in two parts: its quotient and its remainder by 2 ^ 63
 abbrev pub high_part : ℤ → ℤ

@@ -28,21 +28,26 @@ abbrev pub key_of_order : Order → OrderKey
 key_of_order row = record { district = record { warehouse = row.warehouse; district = row.district }; order = row.id }
 
 abbrev pub key_of_new_order : NewOrder → OrderKey
-key_of_new_order row = record { district = record { warehouse = row.warehouse; district = row.district }; order = row.order }
+key_of_new_order row =
+    record { district = record { warehouse = row.warehouse; district = row.district }; order = row.order }
 
 abbrev pub key_of_line : OrderLine → OrderKey
 key_of_line row = record { district = record { warehouse = row.warehouse; district = row.district }; order = row.order }
 
 -- (C_W_ID, C_D_ID, C_ID), and the customer of an order and of a payment
 abbrev pub key_of_customer : Customer → CustomerKey
-key_of_customer row = record { district = record { warehouse = row.warehouse; district = row.district }; customer = row.id }
+key_of_customer row =
+    record { district = record { warehouse = row.warehouse; district = row.district }; customer = row.id }
 
 abbrev pub customer_of_order : Order → CustomerKey
-customer_of_order row = record { district = record { warehouse = row.warehouse; district = row.district }; customer = row.customer }
+customer_of_order row =
+    record { district = record { warehouse = row.warehouse; district = row.district }; customer = row.customer }
 
 abbrev pub customer_of_payment : History → CustomerKey
-customer_of_payment row =
-    record { district = record { warehouse = row.customer_warehouse; district = row.customer_district }; customer = row.customer }
+customer_of_payment row = record {
+  district = record { warehouse = row.customer_warehouse; district = row.customer_district };
+  customer = row.customer;
+}
 
 -- the rows of NEW-ORDER and the lines of an order, by its key
 abbrev pub new_orders_with : OrderKey → List NewOrder → List NewOrder

@@ -36,8 +36,8 @@ use hy_schema::{Customer, History, Order, OrderLine, Tables};
 use indexmap::IndexMap;
 use std::alloc::{AllocError, Global};
 
-/// For each customer what was delivered, in cents: 2^63 times the sum in `high`, and the sum in `low`. An order key
-/// that many orders share counts for each of them, so that one sum of 128 bits could be too small.
+/// For each customer what was delivered, in cents: 2^63 times the sum in `high`, and the sum in `low`. An
+/// order key that many orders share counts for each of them, so that one sum of 128 bits could be too small.
 #[derive(Drop)]
 pub struct Delivered {
     high: IndexMap<CustomerKey, i128>,
@@ -187,7 +187,8 @@ fn high_by_customer(
 ) -> Result<IndexMap<CustomerKey, i128>, AllocError>
     requires { (key : OrderKey) → IsSmall (sum_at same_order delivered.now key) }
     ensures { IfOk result (λ sums. (key : CustomerKey) → sum_at same_customer sums key ≡ column_sum
-        (λ row. high_part (sum_at same_order delivered.now (key_of_order row))) (orders_with key orders.now)) }
+        (λ row. high_part (sum_at same_order delivered.now (key_of_order row)))
+        (orders_with key orders.now)) }
 {
     let entries = high_entries(alloc, orders, delivered)?;
     sums_by_key(alloc, &entries)
@@ -291,7 +292,8 @@ fn delivered_by_order(
 
 /// What was delivered of each order line, with the key of its order.
 fn line_entries(alloc: Global, lines: &[OrderLine]) -> Result<Vec<(OrderKey, i64)>, AllocError>
-    ensures { IfOk result (λ entries. entries.items ≡ map (λ row. (key_of_line row, line_amount row)) lines.now) }
+    ensures { IfOk result (λ entries. entries.items
+        ≡ map (λ row. (key_of_line row, line_amount row)) lines.now) }
 {
     lines
         .iter()
@@ -360,7 +362,8 @@ fn customer_of(row: &Order) -> CustomerKey
 
 /// The key of a customer by its numbers.
 fn key(warehouse: u8, district: u8, customer: u16) -> CustomerKey
-    ensures { result ≡ record { district = record { warehouse = warehouse; district = district }; customer = customer } }
+    ensures { result
+        ≡ record { district = record { warehouse = warehouse; district = district }; customer = customer } }
 {
     CustomerKey {
         district: DistrictKey {

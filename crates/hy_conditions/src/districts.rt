@@ -55,7 +55,8 @@ pub fn meets_condition_2(alloc: Global, tables: &Tables) -> Result<bool, AllocEr
     Ok(are_behind_orders(districts, &orders, &news))
 }
 
-/// Whether D_NEXT_O_ID - 1 of each district is the greatest number of its orders, and of its new orders if it has one.
+/// Whether D_NEXT_O_ID - 1 of each district is the greatest number of its orders, and of its new orders if it
+/// has one.
 fn are_behind_orders(
     districts: &[District],
     orders: &IndexMap<DistrictKey, Numbers>,
@@ -113,7 +114,8 @@ pub fn meets_condition_3(alloc: Global, tables: &Tables) -> Result<bool, AllocEr
 /// Whether the new orders of each district are as many as numbers from the least to the greatest.
 fn have_new_orders_in_row(districts: &[District], news: &IndexMap<DistrictKey, Numbers>) -> bool
     ensures { result
-        ≡ list_all (λ row. are_in_row (numbers_at same_district news.now (key_of_district row))) districts.now }
+        ≡ list_all (λ row. are_in_row (numbers_at same_district news.now
+        (key_of_district row))) districts.now }
 {
     districts
         .iter()
@@ -180,7 +182,8 @@ pub fn meets_condition_9(alloc: Global, tables: &Tables) -> Result<bool, AllocEr
 /// Whether D_YTD of each district is the sum that stands with it.
 fn have_sums(districts: &[District], sums: &IndexMap<DistrictKey, i128>) -> bool
     ensures { result
-        ≡ list_all (λ row. int_eq row.ytd (sum_at same_district sums.now (key_of_district row))) districts.now }
+        ≡ list_all (λ row. int_eq row.ytd
+        (sum_at same_district sums.now (key_of_district row))) districts.now }
 {
     districts.iter().all(|row| has_sum(row, sums))
 }

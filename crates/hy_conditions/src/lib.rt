@@ -1,4 +1,5 @@
-//! The consistency conditions of the order-entry database (TPC-C clause 3.3.2), tested in time proportional to the rows.
+//! The consistency conditions of the order-entry database (TPC-C clause 3.3.2), tested in time proportional
+//! to the rows.
 #![tactic(auto)]
 
 mod conditions;

@@ -169,7 +169,8 @@ fn is_delivered_with_lines(
     }
 }
 
-/// For each order how many of its lines are delivered where none is to be, or undelivered where none is to be.
+/// For each order how many of its lines are delivered where all are to be undelivered, or undelivered where
+/// none is to be.
 fn others_by_order(
     alloc: Global,
     lines: &[OrderLine],
@@ -223,7 +224,8 @@ pub fn key_of(row: &Order) -> OrderKey
 
 /// The key of an order by its numbers.
 pub fn key(warehouse: u8, district: u8, order: u32) -> OrderKey
-    ensures { result ≡ record { district = record { warehouse = warehouse; district = district }; order = order } }
+    ensures { result
+        ≡ record { district = record { warehouse = warehouse; district = district }; order = order } }
 {
     OrderKey {
         district: DistrictKey {

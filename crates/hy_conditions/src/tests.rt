@@ -96,7 +96,8 @@ fn undelivered(order: u32) -> NewOrder {
     }
 }
 
-/// One district and one customer, who paid 10.00 and bought for 5.00. Order 1 was delivered, and order 2 wasn't.
+/// One district and one customer, who paid 10.00 and bought for 5.00. Order 1 was delivered, and order 2
+/// wasn't.
 fn small(rt: &impl Abort, alloc: Global) -> Result<Tables, AllocError> {
     Ok(Tables {
         warehouses: vec![in alloc; warehouse(rt, 1_000)]?,

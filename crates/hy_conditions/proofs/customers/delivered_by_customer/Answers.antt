@@ -16,4 +16,5 @@ returns c = λ key.
     (λ i. of_parts (c.in_ok-high.ensures key i) (c.in_ok-low.ensures key i))
     ∙ column_sum-parts (λ (row : Order). sum_at same_order c.in_ok-by_order.by_order (key_of_order row)) orders
     ∙ (λ i. column_sum (λ row. c.in_ok-by_order.ensures.sums (key_of_order row) i) orders)
-    ∙ sym (column_sum-flat_map (λ (line : OrderLine). line.amount) is_delivered (λ (row : Order). lines_with (key_of_order row) c.args.lines.now) orders)
+    ∙ sym (column_sum-flat_map (λ (line : OrderLine). line.amount) is_delivered
+    (λ (row : Order). lines_with (key_of_order row) c.args.lines.now) orders)

@@ -10,5 +10,7 @@ use Rattle.hy_conditions.proofs.customers.delivered_by_order.Goals as goal
 pub returns-clause-sums : goal.returns-clause-sums
 returns-clause-sums c =
     let entry_of : OrderLine → OrderKey × ℤ = λ row. (key_of_line row, line_amount row) in
-    IfOk-sums same_order c.args.lines.now entry_of c.deref.result.now (c.deref.ensures.value ∙ c.in_ok-entries.ensures) c.sums_by_key.result c.sums_by_key.ensures.sums _
-    (λ key. column_sum-filter (λ (line : OrderLine). line.delivery_date == 0) (λ line. line.amount) (lines_with key c.args.lines.now))
+    IfOk-sums same_order c.args.lines.now entry_of c.deref.result.now
+    (c.deref.ensures.value ∙ c.in_ok-entries.ensures) c.sums_by_key.result c.sums_by_key.ensures.sums _
+    (λ key. column_sum-filter (λ (line : OrderLine). line.delivery_date == 0) (λ line. line.amount)
+    (lines_with key c.args.lines.now))

@@ -7,4 +7,5 @@ use Rattle.hy_conditions.proofs.customers.high_entries.Given as goal
 -- the entries of the orders so far
 abbrev pub invariant-loop-row : goal.invariant-loop-row
 invariant-loop-row l = l.entries.items
-    ≡ map (λ row. (customer_of_order row, high_part (sum_at same_order l.delivered (key_of_order row)))) (take l.row-index l.orders)
+    ≡ map (λ row. (customer_of_order row, high_part (sum_at same_order l.delivered (key_of_order row))))
+    (take l.row-index l.orders)

@@ -12,11 +12,14 @@ use Rattle.hy_conditions.proofs.customers.meets_condition_10.Goals as goal
 pub returns : goal.returns
 returns c =
     let delivered = λ (row : Customer).
-    c.in_ok-delivered.ensures (key_of_customer row) ∙ (λ i. delivered_with (key_of_customer row) (c.list.ensures i) (c.list-2.ensures i)) in
+    c.in_ok-delivered.ensures (key_of_customer row) ∙
+    (λ i. delivered_with (key_of_customer row) (c.list.ensures i) (c.list-2.ensures i)) in
     let paid = λ (row : Customer).
-    c.in_ok-paid.ensures.sums (key_of_customer row) ∙ (λ i. paid_amount (payments_with (key_of_customer row) (c.list-3.ensures i))) in
+    c.in_ok-paid.ensures.sums (key_of_customer row) ∙
+    (λ i. paid_amount (payments_with (key_of_customer row) (c.list-3.ensures i))) in
     let less = λ (row : Customer).
-    balance-less row.balance (paid_amount (payments_by row c.args.tables.now.history)) (delivered_amount c.args.tables.now.orders c.args.tables.now.order_lines row) in
+    balance-less row.balance (paid_amount (payments_by row c.args.tables.now.history))
+    (delivered_amount c.args.tables.now.orders c.args.tables.now.order_lines row) in
     c.are_delivered_less_paid.ensures
     ∙ (λ i. list_all (λ row. int_eq (row.balance +ℤ paid row i) (delivered row i)) (c.list-customers.ensures i))
     ∙ (λ i. list_all (λ row. less row i) c.args.tables.now.customers)

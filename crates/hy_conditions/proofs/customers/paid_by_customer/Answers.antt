@@ -8,5 +8,6 @@ use Rattle.hy_conditions.proofs.customers.paid_by_customer.Goals as goal
 pub returns-clause-sums : goal.returns-clause-sums
 returns-clause-sums c =
     let entry_of : History → CustomerKey × ℤ = λ row. (customer_of_payment row, row.amount) in
-    IfOk-sums same_customer c.args.history.now entry_of c.deref.result.now (c.deref.ensures.value ∙ c.in_ok-entries.ensures) c.sums_by_key.result c.sums_by_key.ensures.sums _
+    IfOk-sums same_customer c.args.history.now entry_of c.deref.result.now
+    (c.deref.ensures.value ∙ c.in_ok-entries.ensures) c.sums_by_key.result c.sums_by_key.ensures.sums _
     (λ key. refl)

@@ -12,8 +12,10 @@ use Rattle.hy_conditions.proofs.districts.meets_condition_4.Goals as goal
 pub returns : goal.returns
 returns c =
     c.have_all_lines.ensures
-    ∙ list_all-counts (λ row. sum_at same_district c.in_ok-counted.counted (key_of_district row)) (λ row. sum_at same_district c.in_ok-lines.lines (key_of_district row))
+    ∙ list_all-counts (λ row. sum_at same_district c.in_ok-counted.counted (key_of_district row))
+    (λ row. sum_at same_district c.in_ok-lines.lines (key_of_district row))
     (λ (row : District). sum (map (λ order. order.line_count) (orders_of row.warehouse row.id c.list.result.now)))
     (λ (row : District). length (lines_of_district row.warehouse row.id c.list-2.result.now))
-    (λ row. c.in_ok-counted.ensures (key_of_district row)) (λ row. c.in_ok-lines.ensures (key_of_district row)) c.list-districts.result.now
+    (λ row. c.in_ok-counted.ensures (key_of_district row))
+    (λ row. c.in_ok-lines.ensures (key_of_district row)) c.list-districts.result.now
     ∙ (λ i. list_all (has_all_lines (c.list.ensures i) (c.list-2.ensures i)) (c.list-districts.ensures i))

@@ -13,5 +13,8 @@ with_number-numbers-requires g c =
 -- one more entry
 pub loop-entry-preserved : goal.loop-entry-preserved
 loop-entry-preserved g c =
-    HasNumbers-one_more g.K.PartialEq.eq g.met.K.Eq.laws c.loop-entry.groups c.insert.new.self c.args.entries.now c.loop-entry.entry-index c.entry-item.result c.loop-entry-test.true c.entry-item.is
-    _ (c.with_number-numbers.ensures ∙ ap (λ numbers. with_number numbers c.entry-item.result.1) c.numbers_at.ensures) c.in_ok-insert.ensures.updates.0 c.loop-entry.invariant
+    HasNumbers-one_more g.K.PartialEq.eq g.met.K.Eq.laws c.loop-entry.groups c.insert.new.self c.args.entries.now
+    c.loop-entry.entry-index c.entry-item.result c.loop-entry-test.true c.entry-item.is
+    _ (c.with_number-numbers.ensures ∙ ap
+    (λ numbers. with_number numbers c.entry-item.result.1) c.numbers_at.ensures) c.in_ok-insert.ensures.updates.0
+    c.loop-entry.invariant

@@ -14,4 +14,5 @@ returns c =
     ap (λ count. not (int_eq count (pos 0))) (c.in_ok-news.ensures (key_of_order row))
     ∙ list_any-count (is_new_order_of row) c.list.result.now
     ∙ ap (λ news. is_undelivered news row) c.list.ensures in
-    c.are_carried_or_new.ensures ∙ (λ i. list_all (λ row. agree (row.carrier == 0) (is_new row i)) (c.list-orders.ensures i))
+    c.are_carried_or_new.ensures ∙
+    (λ i. list_all (λ row. agree (row.carrier == 0) (is_new row i)) (c.list-orders.ensures i))
