@@ -1,0 +1,5 @@
+pub mod Delivered
+pub mod Groups
+pub mod Keys
+pub mod Lines
+pub mod Numbers
