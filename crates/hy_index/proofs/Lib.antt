@@ -1,0 +1,12 @@
+pub mod OrderLaws
+pub mod SpaceLaws
+pub mod BoundLaws
+pub mod LayoutLaws
+pub mod WriteLaws
+pub mod RunLaws
+pub mod MoveLaws
+pub mod RunPlaces
+pub mod SequenceLaws
+pub mod MapLaws
+pub mod IndexLaws
+pub mod KeyLaws

@@ -1,0 +1,242 @@
+//! Finite maps from keys to slots on the pages of a space, with their keys in order.
+#![tactic(auto)]
+
+ghost use Rattle.std.specs.Prelude.{◌≡◌, ℕ, ◌+◌, ◌<◌, ◌≤◌, [], length, None, OnOk, IfOk, IsOk, IsErrOf};
+ghost use Rattle.hy_frames.specs.FrameTable.{free_of};
+ghost use Rattle.hy_space.specs.Space.{page_count};
+ghost use Rattle.hy_undo.specs.PrivatePages.{IsUndoLog};
+ghost use Rattle.hy_index.specs.Index.{IsInOrder, between, first_from, found, with_entry, without};
+ghost use Rattle.hy_index.specs.Writes.{IsIndex, WritesSegment, entries, pages_of};
+ghost use Rattle.hy_index.specs.inside.Layout.{entry_at, entry_of, entry_width, used};
+ghost use Rattle.hy_index.specs.inside.Bounds.{IsSought};
+
+use hy_frames::Shortage;
+use hy_space::Space;
+use hy_undo::Undo;
+use std::alloc::{AllocError, Global};
+use std::marker::{Model, PhantomData};
+
+pub mod codec;
+mod key;
+mod moves;
+mod places;
+
+pub use key::{Entry, Key, KeyBytes, MAX_KEY_BYTES};
+use places::{SLOT_BYTES, Sought};
+
+/// A map from keys to slots, in one segment of a space.
+#[derive(Clone, Copy)]
+pub struct Index<K> {
+    segment: u32,
+    keys: PhantomData<K>,
+}
+
+// Clauses see the segment.
+impl<K> Model for Index<K> {
+    ghost Value = { ℕ };
+
+    ghost view = { λ index. index.segment };
+
+    ghost inverse = { λ segment. record { segment = segment; keys = record {} } };
+}
+
+impl<K: Key> Index<K> {
+    /// The map in a segment.
+    pub fn new(segment: u32) -> Index<K>
+        ensures { result ≡ segment }
+    {
+        Index {
+            segment,
+            keys: PhantomData,
+        }
+    }
+
+    /// Makes the empty map in a segment that has no page.
+    pub fn create<const N: usize>(
+        &self,
+        space: &mut Space<N>,
+        undo: &mut Undo<N>,
+    ) -> Result<(), Shortage>
+        requires there { self.now < length space.old.owner }
+        requires none { page_count space.old self.now ≡ 0 }
+        requires undo_log { IsUndoLog N space.old undo.old }
+        ensures index { OnOk result
+            (IsIndex N K.BYTES K.bytes_of_key K.key_of_bytes K.IsKey (pages_of space.new self.now)) }
+        ensures empty { OnOk result (entries N K.BYTES K.key_of_bytes (pages_of space.new self.now) ≡ []) }
+        ensures writes { WritesSegment N self.now space.old space.new undo.old undo.new }
+        ensures no_frame { IsErrOf result Shortage.NoFrame → free_of space.new.frames ≡ 0 }
+    {
+        space.sound();
+        undo.grow(space, self.segment)?;
+        Ok(())
+    }
+
+    /// What holds of each map: each key is less than all later ones.
+    pub fn know_order<const N: usize>(&self, space: &Space<N>)
+        requires there { self.now < length space.now.owner }
+        requires index { IsIndex N K.BYTES K.bytes_of_key K.key_of_bytes K.IsKey
+            (pages_of space.now self.now) }
+        ensures { IsInOrder K.is_less
+            (entries N K.BYTES K.key_of_bytes (pages_of space.now self.now)) }
+    {}
+
+    /// The slot of a key, if the key is there.
+    pub fn find<const N: usize>(&self, space: &Space<N>, key: &K) -> Option<u64>
+        requires there { self.now < length space.now.owner }
+        requires index { IsIndex N K.BYTES K.bytes_of_key K.key_of_bytes K.IsKey
+            (pages_of space.now self.now) }
+        ensures { result ≡ found K.is_less key.now
+            (entries N K.BYTES K.key_of_bytes (pages_of space.now self.now)) }
+    {
+        let bytes = bytes_of(key);
+        let sought = self.seek(space, key, bytes.as_slice());
+        if sought.is_there {
+            return Some(self.entry(space, sought.place).slot);
+        }
+        None
+    }
+
+    /// The first entry whose key isn't below this one.
+    pub fn first_from<const N: usize>(&self, space: &Space<N>, key: &K) -> Option<Entry<K>>
+        requires there { self.now < length space.now.owner }
+        requires index { IsIndex N K.BYTES K.bytes_of_key K.key_of_bytes K.IsKey
+            (pages_of space.now self.now) }
+        ensures { result ≡ first_from K.is_less key.now
+            (entries N K.BYTES K.key_of_bytes (pages_of space.now self.now)) }
+    {
+        let bytes = bytes_of(key);
+        let sought = self.seek(space, key, bytes.as_slice());
+        if sought.place < places::used(space, self.segment) {
+            return Some(self.entry(space, sought.place));
+        }
+        None
+    }
+
+    /// The entries from one key on that are below another.
+    pub fn range<const N: usize>(
+        &self,
+        alloc: Global,
+        space: &Space<N>,
+        low: &K,
+        high: &K,
+    ) -> Result<Vec<Entry<K>>, AllocError>
+        requires there { self.now < length space.now.owner }
+        requires index { IsIndex N K.BYTES K.bytes_of_key K.key_of_bytes K.IsKey
+            (pages_of space.now self.now) }
+        ensures { IfOk result (λ all. all.items
+            ≡ between K.is_less low.now high.now
+            (entries N K.BYTES K.key_of_bytes (pages_of space.now self.now))) }
+    {
+        let low_bytes = bytes_of(low);
+        let first = self.seek(space, low, low_bytes.as_slice());
+        let high_bytes = bytes_of(high);
+        let end = self.seek(space, high, high_bytes.as_slice());
+        let mut entries = Vec::new(alloc);
+        for k in first.place..end.place {
+            entries.push(self.entry(space, k))?;
+        }
+        Ok(entries)
+    }
+
+    /// Gives a key a slot, in the place of the one that it had.
+    pub fn insert<const N: usize>(
+        &self,
+        space: &mut Space<N>,
+        undo: &mut Undo<N>,
+        key: &K,
+        slot: u64,
+    ) -> Result<(), Shortage>
+        requires there { self.now < length space.old.owner }
+        requires index { IsIndex N K.BYTES K.bytes_of_key K.key_of_bytes K.IsKey
+            (pages_of space.old self.now) }
+        requires undo_log { IsUndoLog N space.old undo.old }
+        ensures index { OnOk result
+            (IsIndex N K.BYTES K.bytes_of_key K.key_of_bytes K.IsKey (pages_of space.new self.now)) }
+        ensures entries { OnOk result (entries N K.BYTES K.key_of_bytes (pages_of space.new self.now)
+            ≡ with_entry K.is_less key.now slot
+            (entries N K.BYTES K.key_of_bytes (pages_of space.old self.now))) }
+        ensures writes { WritesSegment N self.now space.old space.new undo.old undo.new }
+        ensures no_frame { IsErrOf result Shortage.NoFrame → free_of space.new.frames ≡ 0 }
+    {
+        let bytes = bytes_of(key);
+        let sought = self.seek(space, key, bytes.as_slice());
+        let entry = moves::entry_with(bytes.as_slice(), slot);
+        if sought.is_there {
+            return moves::write_entry(space, undo, self.segment, sought.place, entry.as_slice());
+        }
+        moves::add(space, undo, self.segment, sought.place, entry.as_slice())
+    }
+
+    /// Takes a key's entry away, if it has one.
+    pub fn remove<const N: usize>(
+        &self,
+        space: &mut Space<N>,
+        undo: &mut Undo<N>,
+        key: &K,
+    ) -> Result<(), Shortage>
+        requires there { self.now < length space.old.owner }
+        requires index { IsIndex N K.BYTES K.bytes_of_key K.key_of_bytes K.IsKey
+            (pages_of space.old self.now) }
+        requires undo_log { IsUndoLog N space.old undo.old }
+        ensures index { OnOk result
+            (IsIndex N K.BYTES K.bytes_of_key K.key_of_bytes K.IsKey (pages_of space.new self.now)) }
+        ensures entries { OnOk result (entries N K.BYTES K.key_of_bytes (pages_of space.new self.now)
+            ≡ without K.is_less key.now
+            (entries N K.BYTES K.key_of_bytes (pages_of space.old self.now))) }
+        ensures absent { found K.is_less key.now
+            (entries N K.BYTES K.key_of_bytes (pages_of space.old self.now)) ≡ None
+            → IsOk result × (space.new ≡ space.old) × (undo.new ≡ undo.old) }
+        ensures writes { WritesSegment N self.now space.old space.new undo.old undo.new }
+        ensures no_frame { IsErrOf result Shortage.NoFrame → free_of space.new.frames ≡ 0 }
+    {
+        let bytes = bytes_of(key);
+        let sought = self.seek(space, key, bytes.as_slice());
+        if sought.is_there {
+            let width = K::BYTES + SLOT_BYTES;
+            return moves::take_out(space, undo, self.segment, width, sought.place);
+        }
+        Ok(())
+    }
+
+    /// Where a key stands, or would stand, by its bytes.
+    fn seek<const N: usize>(&self, space: &Space<N>, key: &K, bytes: &[u8]) -> Sought
+        requires there { self.now < length space.now.owner }
+        requires index { IsIndex N K.BYTES K.bytes_of_key K.key_of_bytes K.IsKey
+            (pages_of space.now self.now) }
+        requires bytes { bytes.now ≡ K.bytes_of_key key.now }
+        requires is_key { K.IsKey key.now }
+        ensures { IsSought N K.BYTES (pages_of space.now self.now) (K.bytes_of_key key.now)
+            result.place result.is_there }
+    {
+        places::seek(space, self.segment, bytes)
+    }
+
+    /// The entry at a place.
+    fn entry<const N: usize>(&self, space: &Space<N>, place: u64) -> Entry<K>
+        requires there { self.now < length space.now.owner }
+        requires index { IsIndex N K.BYTES K.bytes_of_key K.key_of_bytes K.IsKey
+            (pages_of space.now self.now) }
+        requires within { place < used (pages_of space.now self.now) }
+        ensures { result ≡ entry_of K.BYTES K.key_of_bytes
+            (entry_at N (entry_width K.BYTES) (pages_of space.now self.now) place) }
+    {
+        let bytes = places::entry(space, self.segment, K::BYTES + SLOT_BYTES, place);
+        Entry {
+            key: K::decode(&bytes[..K::BYTES]),
+            slot: hy_page::number(&bytes[K::BYTES..]),
+        }
+    }
+}
+
+/// The bytes of a key.
+fn bytes_of<K: Key>(key: &K) -> KeyBytes
+    ensures bytes { result.items ≡ K.bytes_of_key key.now }
+    ensures is_key { K.IsKey key.now }
+{
+    let mut bytes = KeyBytes::new();
+    key.encode(&mut bytes);
+    bytes
+}
+
+#[cfg(test)]
+mod tests;
