@@ -1,0 +1,33 @@
+use Rattle.std.proofs.Common.{rules, ℕ}
+use Rattle.hy_hyper.specs.Open.{Holds}
+use Rattle.hy_hyper.proofs.OpenLaws.{holds-beside, holds-closed, holds-kept, holds-taken, taken-differs}
+use Rattle.hy_hyper.proofs.snapshot_tests.between_slices.Goals as goal
+
+-- the first snapshot is open still when both others are closed
+pub close-requires-3 : goal.close-requires-3
+close-requires-3 g c =
+    let n : ℕ = g.row.N in
+    let paid : Holds c.pay_half.new.partition c.take-first.result =
+    holds-kept c.take-first.new.partition c.pay_half.new.partition c.take-first.result c.pay_half.ensures
+    (holds-taken n c.begun-partition.result c.take-first.new.partition c.take-first.result c.take-first.ensures) in
+    let later : Holds c.pay_rest.new.partition c.take-first.result =
+    holds-kept c.take-second.new.partition c.pay_rest.new.partition c.take-first.result c.pay_rest.ensures
+    (holds-beside n c.pay_half.new.partition c.take-second.new.partition c.take-second.result c.take-first.result
+    c.take-second.ensures paid) in
+    let third : Holds c.take-third.new.partition c.take-first.result =
+    holds-beside n c.pay_rest.new.partition c.take-third.new.partition c.take-third.result c.take-first.result
+    c.take-third.ensures later in
+    let without_second : Holds c.close.new.partition c.take-first.result =
+    holds-closed c.take-third.new.partition c.close.new.partition c.take-second.result.child c.take-first.result
+    c.close.ensures
+    (taken-differs n c.pay_half.new.partition c.take-second.new.partition c.take-second.result c.take-first.result
+    c.take-second.ensures paid) third in (
+      search rules,
+      (
+        search rules,
+        holds-closed c.close.new.partition c.close-2.new.partition c.take-third.result.child c.take-first.result
+            c.close-2.ensures
+            (taken-differs n c.pay_rest.new.partition c.take-third.new.partition c.take-third.result c.take-first.result
+            c.take-third.ensures later) without_second,
+      ),
+    )
