@@ -16,17 +16,17 @@ use Rattle.hy_schema.specs.declared.command.Commit.TheVariants as commits
 use Rattle.hy_schema.specs.declared.command.Payment.{Payment}
 use Rattle.hy_schema.specs.declared.refusal.Refusal.{Refusal}
 use Rattle.hy_rows.specs.Ranges.{IsBetween}
-use Rattle.hy_rows.specs.Tables.{Tables, of_warehouse}
+use Rattle.hy_rows.specs.Tables.{Lists, Tables, of_warehouse}
 use Rattle.hy_rows.specs.Finding.{is_warehouse, is_district, with_changed}
 use Rattle.hy_schema.specs.Keys.{AreUnique, IsOneWarehouse, customer_key, district_key, district_numbers}
-use Rattle.hy_schema.specs.Conditions.{IsConsistent, MeetsConditions, column_sum, ytd_of_districts}
+use Rattle.hy_schema.specs.Conditions.{IsConsistent, MeetsConditions, column_sum, first_broken, ytd_of_districts}
 use Rattle.hy_schema.specs.Commands.{is_payment_in_range}
 use Rattle.hy_schema.specs.Transactions.{act, customer_paid, district_paid, is_district_number, is_payer, outcome_of, paid, payment_refusal, warehouse_paid}
 use Rattle.hy_schema.specs.Replay.{committed, replay}
 use Rattle.hy_schema.specs.Loads.{IsLoad}
 use Rattle.hy_rows.proofs.BetweenLaws.{bounds}
 use Rattle.hy_schema.proofs.ChangedLists.{All-passing_also, All-with_changed, column_sum-changed, filter-again, finds-key, map-with_changed}
-use Rattle.hy_schema.proofs.ConditionLaws.{IsBalanced, IsSumOfDistricts, condition_1-decides, condition_12-decides, delivered-own}
+use Rattle.hy_schema.proofs.ConditionLaws.{IsBalanced, IsSumOfDistricts, condition_1-decides, condition_12-decides, delivered-own, meets-unbroken}
 use Rattle.hy_schema.proofs.KeyLaws.{IsOneWarehouse-load}
 
 -- the key of one of the ten districts is there
@@ -75,13 +75,15 @@ module _ (number : ℕ) (payment : Payment) (tables : Tables) where
       (eqb-true payment.warehouse number home, district)
 
 -- the conditions hold of each warehouse of a load
-pub MeetsConditions-load : (number : ℕ) (load : Tables) → IsLoad load → MeetsConditions (of_warehouse number load)
-MeetsConditions-load number load is_load =
+pub MeetsConditions-load : (number : ℕ) (load : Tables) → first_broken load ≡ None
+    → MeetsConditions (of_warehouse number load)
+MeetsConditions-load number load unbroken =
+    let meets : MeetsConditions load = meets-unbroken load unbroken in
     let own : District → Bool = λ row. row.warehouse == number in
     let Before : Warehouse → Type 0 = IsSumOfDistricts load.districts in
     let Own : Warehouse → Type 0 = λ row. row.id ≡ number in
     let After : Warehouse → Type 0 = IsSumOfDistricts (filter own load.districts) in
-    let all : All Before load.warehouses = (condition_1-decides load.districts load.warehouses).0 is_load.conditions.condition_1 in
+    let all : All Before load.warehouses = (condition_1-decides load.districts load.warehouses).0 meets.condition_1 in
     let keeps : (row : Warehouse) → Before row → row.id ≡ number → After row =
     λ row before is_own.
     before ∙ ap (λ n. ytd_of_districts n load.districts) is_own
@@ -99,14 +101,14 @@ MeetsConditions-load number load is_load =
           (IsBalanced here.orders here.order_lines) load.customers
           (λ row before test. before
           ∙ sym (delivered-own number row (eqb-true row.warehouse number test) load.orders load.order_lines))
-          ((condition_12-decides load.orders load.order_lines load.customers).0 is_load.conditions.condition_12));
+          ((condition_12-decides load.orders load.order_lines load.customers).0 meets.condition_12));
     }
 
-pub IsConsistent-load : (number : ℕ) (load : Tables) → IsLoad load
-    → IsBetween 1 (length load.warehouses) number → IsConsistent number (of_warehouse number load)
+pub IsConsistent-load : (number : ℕ) (load : Lists) → IsLoad load
+    → IsBetween 1 (length load.tables.warehouses) number → IsConsistent number (of_warehouse number load.tables)
 IsConsistent-load number load is_load between = record {
   rows = IsOneWarehouse-load load number is_load between;
-  conditions = MeetsConditions-load number load is_load;
+  conditions = MeetsConditions-load number load.tables is_load.conditions;
 }
 
 module _ (number : ℕ) (payment : Payment) (tables : Tables) (rows : IsOneWarehouse number tables) where

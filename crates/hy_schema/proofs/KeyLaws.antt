@@ -11,7 +11,7 @@ use Rattle.std.proofs.lemmas.Option.{IfSome_then}
 use Rattle.hy_rows.specs.declared.warehouse.Warehouse.{Warehouse}
 use Rattle.hy_rows.specs.declared.district.District.{District}
 use Rattle.hy_rows.specs.declared.customer.Customer.{Customer}
-use Rattle.hy_rows.specs.Tables.{Tables, of_warehouse}
+use Rattle.hy_rows.specs.Tables.{Lists, Tables, of_warehouse}
 use Rattle.hy_schema.specs.Keys.{AreUnique, HasUniqueKeys, IsOneWarehouse, customer_key, district_key, district_numbers}
 use Rattle.hy_rows.specs.Ranges.{IsBetween, IsCustomerInRange}
 use Rattle.hy_schema.specs.Loads.{IsLoad, IsWarehouseAt, IsDistrictAt, IsCustomerAt, IsCustomerAfter, row_before}
@@ -238,39 +238,39 @@ district_rank-by_key : (row other : District) → district_key row ≡ district_
 district_rank-by_key row other same = ap (λ key. 10 * key.0 + key.1) same
 
 -- no key stands twice in a load
-pub HasUniqueKeys-load : (load : Tables) → IsLoad load → HasUniqueKeys load
+pub HasUniqueKeys-load : (load : Lists) → IsLoad load → HasUniqueKeys load.tables
 HasUniqueKeys-load load is_load =
-    let warehouses = length load.warehouses in
+    let warehouses = length load.tables.warehouses in
     record {
       warehouses =
-          rising-unique (λ (row : Warehouse). row.id) (λ row. row.id) (λ row other same. same) 0 load.warehouses
-          (numbered-rising (λ (row : Warehouse). row.id) 0 1 load.warehouses (omega arith)
+          rising-unique (λ (row : Warehouse). row.id) (λ row. row.id) (λ row other same. same) 0 load.tables.warehouses
+          (numbered-rising (λ (row : Warehouse). row.id) 0 1 load.tables.warehouses (omega arith)
           (λ place. IfSome_then
-          (slice_get load.warehouses place) {P = IsWarehouseAt place} {Q = λ row. row.id
+          (slice_get load.tables.warehouses place) {P = IsWarehouseAt place} {Q = λ row. row.id
           ≡ 1 + place} (is_load.warehouses.each place) (λ row right. omega (arith, right.1))));
       districts =
-          rising-unique (λ (row : District). 10 * row.warehouse + row.id) district_key district_rank-by_key 0 load.districts
-          (numbered-rising (λ (row : District). 10 * row.warehouse + row.id) 0 11 load.districts (omega arith)
+          rising-unique (λ (row : District). 10 * row.warehouse + row.id) district_key district_rank-by_key 0 load.tables.districts
+          (numbered-rising (λ (row : District). 10 * row.warehouse + row.id) 0 11 load.tables.districts (omega arith)
           (λ place. IfSome_then
-          (slice_get load.districts place) {P = IsDistrictAt warehouses place} {Q = λ row. 10 * row.warehouse + row.id ≡ 11 + place} (is_load.districts.each place) (λ row right. omega (arith, right.1, right.2))));
+          (slice_get load.tables.districts place) {P = IsDistrictAt warehouses place} {Q = λ row. 10 * row.warehouse + row.id ≡ 11 + place} (is_load.districts.each place) (λ row right. omega (arith, right.1, right.2))));
       customers =
-          rising-unique customer_rank customer_key customer_rank-by_key 0 load.customers
-          (customers-rising warehouses load.customers is_load.customers.each);
+          rising-unique customer_rank customer_key customer_rank-by_key 0 load.tables.customers
+          (customers-rising warehouses load.tables.customers is_load.customers.each);
     }
 
 -- the rows of each warehouse of a load are its own row, its ten districts and its customers
-pub IsOneWarehouse-load : (load : Tables) (number : ℕ) → IsLoad load
-    → IsBetween 1 (length load.warehouses) number → IsOneWarehouse number (of_warehouse number load)
+pub IsOneWarehouse-load : (load : Lists) (number : ℕ) → IsLoad load
+    → IsBetween 1 (length load.tables.warehouses) number → IsOneWarehouse number (of_warehouse number load.tables)
 IsOneWarehouse-load load number is_load between =
     let own : ℕ × ℕ × ℕ → Bool = λ key. key.0 == number in
     record {
-      warehouse = one_warehouse load.warehouses number is_load.warehouses.each between;
+      warehouse = one_warehouse load.tables.warehouses number is_load.warehouses.each between;
       districts = ten_districts
-          (length load.warehouses) load.districts number is_load.districts.each is_load.districts.whole between;
+          (length load.tables.warehouses) load.tables.districts number is_load.districts.each is_load.districts.whole between;
       customers = All-passing (λ row. row.warehouse == number) (λ row. row.warehouse
-          ≡ number) load.customers (λ row own. eqb-true row.warehouse number own);
-      unique = subst AreUnique (sym (keys-filter customer_key own load.customers)) (AllPairs-filter
-          (λ key other. key ≢ other) own (map customer_key load.customers)
+          ≡ number) load.tables.customers (λ row own. eqb-true row.warehouse number own);
+      unique = subst AreUnique (sym (keys-filter customer_key own load.tables.customers)) (AllPairs-filter
+          (λ key other. key ≢ other) own (map customer_key load.tables.customers)
           (HasUniqueKeys-load load is_load).customers);
     }
 

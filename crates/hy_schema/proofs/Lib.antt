@@ -1,7 +1,4 @@
-pub mod LoadLaws
-pub mod FreshLoad
 pub mod WorkedRanges
-pub mod FaultLaws
 pub mod ChangedLists
 pub mod ConditionLaws
 pub mod KeyLaws

@@ -12,6 +12,20 @@ use Rattle.hy_rows.specs.declared.order_line.OrderLine.{OrderLine}
 abbrev pub is_item : ℕ → Item → Bool
 is_item number row = row.id == number
 
+-- whether an order, an undelivered order or an order line has the key: (O_W_ID, O_D_ID, O_ID); (NO_W_ID, NO_D_ID,
+-- NO_O_ID); (OL_W_ID, OL_D_ID, OL_O_ID, OL_NUMBER)
+abbrev pub is_order : ℕ → ℕ → ℕ → Order → Bool
+is_order warehouse district number row =
+    (row.warehouse == warehouse) && (row.district == district) && (row.id == number)
+
+abbrev pub is_new_order : ℕ → ℕ → ℕ → NewOrder → Bool
+is_new_order warehouse district order row =
+    (row.warehouse == warehouse) && (row.district == district) && (row.order == order)
+
+abbrev pub is_line : ℕ → ℕ → ℕ → ℕ → OrderLine → Bool
+is_line warehouse district order number row =
+    (row.warehouse == warehouse) && (row.district == district) && (row.order == order) && (row.number == number)
+
 -- the orders, the undelivered orders and the order lines of a district, by D_W_ID and D_ID
 abbrev pub orders_of : ℕ → ℕ → List Order → List Order
 orders_of warehouse district orders = filter (λ row. (row.warehouse == warehouse) && (row.district == district)) orders

@@ -2,7 +2,7 @@
 #![tactic(auto)]
 
 mod command;
-mod load;
+mod files;
 mod refusal;
 
 pub use command::{Command, Commit, MAX_PAYMENT, MIN_PAYMENT, Payment, Reply, Who};
@@ -11,7 +11,7 @@ pub use hy_rows::{
     MAX_MOMENT, MAX_ORDER, MAX_RATE, MAX_WAREHOUSES, NewOrder, Order, OrderLine, Row, SEGMENTS,
     SlotBytes, Stock, Tables, Text, Warehouse,
 };
-pub use load::Load;
+pub use files::{FileEnd, FileEnds};
 pub use refusal::{LoadFault, Refusal, Table};
 
 #[cfg(test)]

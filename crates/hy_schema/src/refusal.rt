@@ -16,6 +16,18 @@ pub enum Table {
     District,
     /// CUSTOMER.
     Customer,
+    /// ITEM.
+    Item,
+    /// STOCK.
+    Stock,
+    /// ORDER.
+    Order,
+    /// NEW-ORDER.
+    NewOrder,
+    /// ORDER-LINE.
+    OrderLine,
+    /// HISTORY.
+    History,
 }
 
 impl fmt::Display for Table {
@@ -24,6 +36,12 @@ impl fmt::Display for Table {
             Table::Warehouse => "WAREHOUSE",
             Table::District => "DISTRICT",
             Table::Customer => "CUSTOMER",
+            Table::Item => "ITEM",
+            Table::Stock => "STOCK",
+            Table::Order => "ORDER",
+            Table::NewOrder => "NEW-ORDER",
+            Table::OrderLine => "ORDER-LINE",
+            Table::History => "HISTORY",
         })
     }
 }
