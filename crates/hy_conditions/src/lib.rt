@@ -12,6 +12,7 @@ mod sums;
 mod warehouses;
 
 pub use conditions::first_broken;
+pub use keys::{CustomerKey, DistrictKey, OrderKey};
 
 #[cfg(test)]
 mod tests;

@@ -1,118 +1,109 @@
 //! Loads: the rows that a database begins with.
 
-ghost use Rattle.std.specs.Prelude.{◌≡◌, ◌↔◌, ◌<◌, ◌≤◌, ◌^◌, [], IsTrue, IfSome, IfNone, IsSomeAnd, MatchResult};
-ghost use Rattle.std.specs.Option.{option_copied};
-ghost use Rattle.hy_rows.specs.Limits.{districts_per_warehouse, max_warehouses};
-ghost use Rattle.hy_rows.specs.Ranges.{IsCustomerInRange};
-ghost use Rattle.std.specs.List.{list_all};
-ghost use Rattle.hy_schema.specs.Conditions.{is_balanced, is_sum_of_districts, ytd_of_districts};
-ghost use Rattle.hy_schema.specs.Loads.{IsWarehouseAt, IsDistrictAt, IsCustomerAt, IsCustomerAfter, HasAllWarehouses, HasAllDistricts, HasAllCustomers, IsRight, IsFirstFault, IsNextDistrict};
+ghost use Rattle.std.specs.Prelude.{◌≡◌, IfErr, OnOk};
+ghost use Rattle.indexmap.specs.IndexSet.{IsEmpty};
+ghost use Rattle.hy_schema.specs.Loads.{AreHistory, IsLoad, all_whole};
+ghost use Rattle.hy_conditions.specs.Keys.{same_customer};
+ghost use Rattle.hy_loads.specs.Checks.{AreBaseRight, AreOrdersRight, IsRefusalOf};
+ghost use Rattle.hy_loads.specs.There.{HasCustomers, HasKeys, is_customer_by};
 
-use crate::refusal::{LoadFault, Refusal, Table};
-use hy_rows::{Customer, DISTRICTS_PER_WAREHOUSE, District, Row, Tables, Warehouse};
+use crate::base::{CustomerRule, DistrictRule, ItemRule, StockRule, WarehouseRule};
+use crate::list::check_list;
+use crate::orders::{
+    Customers, HistoryRule, NewOrderRule, OrderLineRule, OrderRule, Orders,
+};
+use hy_conditions::{CustomerKey, first_broken};
+use hy_rows::{Listed, Lists, Tables, Warehouse};
+use hy_schema::{FileEnd, FileEnds, LoadFault, Refusal, Table};
+use indexmap::IndexSet;
+use std::alloc::Global;
 use std::marker::Model;
 
-/// The rows that a database begins with. Each load meets the rules of its lists and the consistency conditions 1 and 12
-/// (TPC-C clause 3.3.2), since `of` alone makes one.
+/// The rows that a database begins with. Each load meets the rules of its lists and the consistency conditions (TPC-C
+/// clause 3.3.2), since `of` and `of_files` alone make one.
 #[derive(Drop)]
 pub struct Load {
-    tables: Tables,
+    lists: Lists,
 }
 
 impl Model for Load {
-    ghost use Rattle.hy_rows.specs.Tables.{Tables};
+    ghost use Rattle.hy_rows.specs.Tables.{Lists};
     ghost use Rattle.hy_schema.specs.Loads.{IsLoad};
 
-    ghost Value = { Tables };
+    ghost Value = { Lists };
 
-    ghost view = { λ load. load.tables };
+    ghost view = { λ load. load.lists };
 
-    ghost invariant = { λ load. IsLoad load.tables };
+    ghost invariant = { λ load. IsLoad load.lists };
 }
 
 impl Load {
-    ghost use Rattle.std.specs.Prelude.{ℕ, List, length};
+    ghost use Rattle.std.specs.Prelude.{◌≡◌, ◌⊎◌, ℕ, List, length, MatchResult};
     ghost use Rattle.hy_schema.specs.declared.command.Commit.{Commit};
-    ghost use Rattle.hy_rows.specs.Tables.{Tables, no_rows, of_warehouse};
+    ghost use Rattle.hy_rows.specs.Tables.{of_warehouse};
     ghost use Rattle.hy_schema.specs.Keys.{HasUniqueKeys};
     ghost use Rattle.hy_rows.specs.Ranges.{IsBetween};
     ghost use Rattle.hy_schema.specs.Conditions.{IsConsistent};
     ghost use Rattle.hy_schema.specs.Replay.{replay};
     ghost use Rattle.hy_schema.specs.Loads.{IsLoad, HasFault};
 
-    /// The load with these lists, and no rows of the other tables. E12 names the first wrong row, of the first wrong list
-    /// in the order WAREHOUSE, DISTRICT, CUSTOMER, or else the first broken condition. No memory is taken, so that E1
-    /// never comes.
-    pub fn of(
-        warehouses: Vec<Warehouse>,
-        districts: Vec<District>,
-        customers: Vec<Customer>,
-    ) -> Result<Load, Refusal>
-        ensures { let tables : Tables = record no_rows {
-          warehouses = warehouses.items;
-          districts = districts.items;
-          customers = customers.items;
-        } in
-            MatchResult result (λ load. (load ≡ tables) × IsLoad tables)
-            (λ refusal. (fault : LoadFault) × (refusal ≡ Refusal.BadLoad fault) × HasFault tables fault) }
+    /// The load with these lists. E12 names the first wrong row of the first wrong list, in the order WAREHOUSE,
+    /// DISTRICT, CUSTOMER, ITEM, STOCK, ORDER, NEW-ORDER, ORDER-LINE, HISTORY, or else the first broken consistency
+    /// condition; E1 where memory is refused. Takes time and memory in proportion to the rows.
+    pub fn of(alloc: Global, lists: Lists) -> Result<Load, Refusal>
+        ensures { MatchResult result (λ load. (load ≡ lists) × IsLoad lists)
+            (IsRefusalOf all_whole lists) }
     {
-        let count = warehouses.len();
-        if let Some(number) = fault_in_warehouses(&warehouses) {
-            return Err(Refusal::BadLoad(LoadFault::Row(Table::Warehouse, number)));
-        }
-        if let Some(number) = fault_in_districts(count, &districts) {
-            return Err(Refusal::BadLoad(LoadFault::Row(Table::District, number)));
-        }
-        if let Some(number) = fault_in_customers(count, &customers) {
-            return Err(Refusal::BadLoad(LoadFault::Row(Table::Customer, number)));
-        }
-        if !meets_condition_1(&warehouses, &districts) {
-            return Err(Refusal::BadLoad(LoadFault::Condition(1)));
-        }
-        if !meets_condition_12(&customers) {
-            return Err(Refusal::BadLoad(LoadFault::Condition(12)));
-        }
-        let alloc = *warehouses.allocator();
-        let tables = Tables {
-            warehouses,
-            districts,
-            customers,
-            history: Vec::new(alloc),
-            new_orders: Vec::new(alloc),
-            orders: Vec::new(alloc),
-            order_lines: Vec::new(alloc),
-            stock: Vec::new(alloc),
-        };
-        Ok(Load { tables })
+        let ends = FileEnds::whole();
+        Load::of_files(alloc, lists, ends)
+    }
+
+    /// The load with the lists of nine files that were read so far, where all were read to their end. Else E12 names
+    /// the first wrong row, as `of` does: that behind the rows of a list, where its file has a record that is no
+    /// row of its table, and row 0, where it has no header.
+    pub fn of_files(alloc: Global, lists: Lists, ends: FileEnds) -> Result<Load, Refusal>
+        ensures { MatchResult result (λ load. (load ≡ lists) × (ends ≡ all_whole) × IsLoad lists)
+            (IsRefusalOf ends lists) }
+    {
+        check(alloc, &lists, ends)?;
+        Ok(Load { lists })
     }
 
     /// The rows of one table.
-    pub fn list<R: Row>(&self) -> &[R]
-        ensures { result.now ≡ R.rows_in self.now }
+    pub fn list<R: Listed>(&self) -> &[R]
+        ensures { result.now ≡ R.list_in self.now }
     {
-        self.tables.list()
+        self.lists.list()
     }
 
     /// The rows of all tables.
-    pub fn tables(&self) -> &Tables
+    pub fn lists(&self) -> &Lists
         ensures { result.now ≡ self.now }
     {
-        &self.tables
+        &self.lists
+    }
+
+    /// The rows of the tables that lie on pages.
+    pub fn tables(&self) -> &Tables
+        ensures { result.now ≡ self.now.tables }
+    {
+        &self.lists.tables
     }
 
     /// What holds of every load.
     pub fn sound(&self)
         ensures { IsLoad self.now }
     {
-        let _tables = &self.tables;
+        let _lists = &self.lists;
     }
 
-    /// No two rows of a table have the same key, in a load and in what a list of commits makes of a warehouse of it.
+    /// No two rows of WAREHOUSE, DISTRICT or CUSTOMER have the same key, in a load and in what a list of commits makes
+    /// of a warehouse of it.
     pub fn keys_are_unique(&self)
-        ensures loaded { HasUniqueKeys self.now }
+        ensures loaded { HasUniqueKeys self.now.tables }
         ensures kept { (warehouse : ℕ) (commits : List Commit)
-            → IsBetween 1 (length self.now.warehouses) warehouse
-            → HasUniqueKeys (replay warehouse (of_warehouse warehouse self.now) commits) }
+            → IsBetween 1 (length self.now.tables.warehouses) warehouse
+            → HasUniqueKeys (replay warehouse (of_warehouse warehouse self.now.tables) commits) }
     {
         self.sound();
     }
@@ -120,166 +111,108 @@ impl Load {
     /// Each warehouse of a load has one row of WAREHOUSE, its ten districts in order and its customers, and meets the
     /// consistency conditions 1 and 12 (TPC-C clause 3.3.2), after any list of commits.
     pub fn conditions_are_kept(&self)
-        ensures { (warehouse : ℕ) (commits : List Commit) → IsBetween 1 (length self.now.warehouses) warehouse
-            → IsConsistent warehouse (replay warehouse (of_warehouse warehouse self.now) commits) }
+        ensures { (warehouse : ℕ) (commits : List Commit)
+            → IsBetween 1 (length self.now.tables.warehouses) warehouse
+            → IsConsistent warehouse
+                (replay warehouse (of_warehouse warehouse self.now.tables) commits) }
     {
         self.sound();
     }
 }
 
-/// The number of the first wrong row of WAREHOUSE, if there is one.
-fn fault_in_warehouses(rows: &[Warehouse]) -> Option<u64>
-    ensures none { IfNone result (IsRight IsWarehouseAt (HasAllWarehouses rows.now) rows.now) }
-    ensures fault { IfSome result (IsFirstFault IsWarehouseAt (HasAllWarehouses rows.now) rows.now) }
+/// Tests lists whose files were read so far. A refusal names the first fault.
+fn check(alloc: Global, lists: &Lists, ends: FileEnds) -> Result<(), Refusal>
+    ensures ok { OnOk result ((ends ≡ all_whole) × IsLoad lists.now) }
+    ensures fault { IfErr result (IsRefusalOf ends lists.now) }
 {
-    for (place, row) in rows.iter().enumerate() {
-        if !is_warehouse_at(place, row) {
-            return Some(place as u64 + 1);
-        }
-    }
-    if rows.is_empty() { Some(1) } else { None }
-}
-
-/// Whether a row of WAREHOUSE is right at a place.
-fn is_warehouse_at(place: usize, row: &Warehouse) -> bool
-    requires { place < 2 ^ 63 }
-    ensures { IsTrue result ↔ IsWarehouseAt place row.now }
-{
-    row.is_in_range() && usize::from(row.id) == place + 1
-}
-
-/// The number of the first wrong row of DISTRICT, if there is one.
-fn fault_in_districts(warehouses: usize, rows: &[District]) -> Option<u64>
-    requires { warehouses ≤ max_warehouses }
-    ensures none { IfNone result (IsRight (IsDistrictAt warehouses)
-        (HasAllDistricts warehouses rows.now) rows.now) }
-    ensures fault { IfSome result
-        (IsFirstFault (IsDistrictAt warehouses) (HasAllDistricts warehouses rows.now) rows.now) }
-{
-    for (place, row) in rows.iter().enumerate() {
-        if !is_district_at(warehouses, place, row) {
-            return Some(place as u64 + 1);
-        }
-    }
-    if rows.len() < usize::from(DISTRICTS_PER_WAREHOUSE) * warehouses {
-        Some(rows.len() as u64 + 1)
-    } else {
-        None
+    let mut keys = IndexSet::new(alloc);
+    check_base(lists, ends, &mut keys)?;
+    let customers = Customers {
+        warehouses: lists.list::<Warehouse>().len(),
+        districts: lists.list(),
+        rows: lists.list(),
+        keys: &keys,
+    };
+    check_orders(alloc, lists, ends, customers)?;
+    let rows = lists.list();
+    let rule = HistoryRule { customers, rows };
+    check_list(Table::History, ends.history, &rule, &mut ())?;
+    match first_broken(alloc, &lists.tables)? {
+        None => Ok(()),
+        Some(number) => Err(Refusal::BadLoad(LoadFault::Condition(number))),
     }
 }
 
-/// Whether a row of DISTRICT is right at a place.
-fn is_district_at(warehouses: usize, place: usize, row: &District) -> bool
-    requires { place < 2 ^ 63 }
-    ensures { IsTrue result ↔ IsDistrictAt warehouses place row.now }
+/// Tests the lists that never gain a row, and keeps the keys of the customers.
+fn check_base(
+    lists: &Lists,
+    ends: FileEnds,
+    customers: &mut IndexSet<CustomerKey>,
+) -> Result<(), Refusal>
+    requires { IsEmpty customers.old }
+    ensures right { OnOk result (AreBaseRight ends lists.now) }
+    ensures keys { OnOk result
+        (HasKeys same_customer is_customer_by customers.new lists.now.tables.customers) }
+    ensures fault { IfErr result (IsRefusalOf ends lists.now) }
 {
-    row.is_in_range()
-        && usize::from(row.warehouse) == place / usize::from(DISTRICTS_PER_WAREHOUSE) + 1
-        && usize::from(row.id) == place % usize::from(DISTRICTS_PER_WAREHOUSE) + 1
-        && usize::from(row.warehouse) <= warehouses
+    let rows = lists.list();
+    let warehouses = rows.len();
+    let rule = WarehouseRule { rows };
+    check_list(Table::Warehouse, ends.warehouses, &rule, &mut ())?;
+    let rows = lists.list();
+    let rule = DistrictRule { warehouses, rows };
+    check_list(Table::District, ends.districts, &rule, &mut ())?;
+    let rows = lists.list();
+    let rule = CustomerRule { warehouses, rows };
+    check_list(Table::Customer, ends.customers, &rule, customers)?;
+    let rows = lists.list();
+    let items = rows.len();
+    let rule = ItemRule { rows };
+    check_list(Table::Item, ends.items, &rule, &mut ())?;
+    let rows = lists.list();
+    let rule = StockRule {
+        warehouses,
+        items,
+        rows,
+    };
+    check_list(Table::Stock, ends.stock, &rule, &mut ())
 }
 
-/// The number of the first wrong row of CUSTOMER, if there is one.
-fn fault_in_customers(warehouses: usize, rows: &[Customer]) -> Option<u64>
-    ensures none { IfNone result
-        (IsRight (IsCustomerAt warehouses rows.now) (HasAllCustomers warehouses rows.now) rows.now) }
-    ensures fault { IfSome result
-        (IsFirstFault (IsCustomerAt warehouses rows.now) (HasAllCustomers warehouses rows.now) rows.now) }
+/// Tests the lists of orders, undelivered orders and order lines.
+fn check_orders(
+    alloc: Global,
+    lists: &Lists,
+    ends: FileEnds,
+    customers: Customers<'_>,
+) -> Result<(), Refusal>
+    requires base { AreBaseRight ends lists.now }
+    requires customers { HasCustomers customers }
+    requires districts { customers.districts.now ≡ lists.now.tables.districts }
+    requires rows { customers.rows.now ≡ lists.now.tables.customers }
+    ensures right { OnOk result (AreOrdersRight ends lists.now) }
+    ensures fault { IfErr result (IsRefusalOf ends lists.now) }
 {
-    let mut before: Option<&Customer> = None;
-    for (place, row) in rows.iter().enumerate() {
-        if !is_customer_at(warehouses, before, row) {
-            return Some(place as u64 + 1);
-        }
-        before = Some(row);
-    }
-    if is_end(warehouses, before) {
-        None
-    } else {
-        Some(rows.len() as u64 + 1)
-    }
-}
-
-/// Whether CUSTOMER may end behind a row.
-fn is_end(warehouses: usize, last: Option<&Customer>) -> bool
-    ensures { IsTrue result ↔ IsSomeAnd (option_copied last.entry)
-        (λ row. (row.warehouse ≡ warehouses) × (row.district ≡ districts_per_warehouse)) }
-{
-    match last {
-        None => false,
-        Some(row) => usize::from(row.warehouse) == warehouses
-            && row.district == DISTRICTS_PER_WAREHOUSE,
-    }
-}
-
-/// Whether a row of CUSTOMER is right behind the one before it.
-fn is_customer_at(warehouses: usize, before: Option<&Customer>, row: &Customer) -> bool
-    ensures { IsTrue result ↔ (IsCustomerInRange row.now × (row.now.warehouse ≤ warehouses)
-        × IsCustomerAfter (option_copied before.entry) row.now) }
-{
-    row.is_in_range() && usize::from(row.warehouse) <= warehouses && follows(before, row)
-}
-
-/// Whether a customer is the next one of the same district, or customer 1 of the next district.
-fn follows(before: Option<&Customer>, row: &Customer) -> bool
-    ensures { IsTrue result ↔ IsCustomerAfter (option_copied before.entry) row.now }
-{
-    match before {
-        None => row.warehouse == 1 && row.district == 1 && row.id == 1,
-        Some(before) => {
-            let same_district = row.warehouse == before.warehouse
-                && row.district == before.district;
-            (same_district && u32::from(row.id) == u32::from(before.id) + 1)
-                || (is_next_district(before, row) && row.id == 1)
-        }
-    }
-}
-
-/// Whether a customer is of the next district.
-fn is_next_district(before: &Customer, row: &Customer) -> bool
-    ensures { IsTrue result ↔ IsNextDistrict before.now row.now }
-{
-    (row.warehouse == before.warehouse && u32::from(row.district) == u32::from(before.district) + 1)
-        || (before.district == DISTRICTS_PER_WAREHOUSE
-            && u32::from(row.warehouse) == u32::from(before.warehouse) + 1
-            && row.district == 1)
-}
-
-/// Whether the rows meet consistency condition 1.
-fn meets_condition_1(warehouses: &[Warehouse], districts: &[District]) -> bool
-    ensures { result ≡ list_all (is_sum_of_districts districts.now) warehouses.now }
-{
-    warehouses.iter().all(|row| i128::from(row.ytd) == sum_of_districts(row.id, districts))
-}
-
-/// The sum of D_YTD over the districts of a warehouse.
-fn sum_of_districts(warehouse: u8, districts: &[District]) -> i128
-    ensures { result ≡ ytd_of_districts warehouse districts.now }
-{
-    let mut sum = 0;
-    for row in districts {
-        let ytd = row.ytd;
-        if row.warehouse == warehouse {
-            sum += i128::from(ytd);
-        }
-    }
-    sum
-}
-
-/// Whether the rows meet consistency condition 12.
-fn meets_condition_12(customers: &[Customer]) -> bool
-    ensures { result ≡ list_all (is_balanced [] []) customers.now }
-{
-    customers.iter().all(
-        |row: &Customer| -> bool
-            ensures { result ≡ is_balanced [] [] row.now }
-        { is_settled(row) },
-    )
-}
-
-/// Whether a customer without delivered orders meets consistency condition 12.
-fn is_settled(row: &Customer) -> bool
-    ensures { result ≡ is_balanced [] [] row.now }
-{
-    i128::from(row.balance) + i128::from(row.ytd_payment) == 0
+    let mut keys = IndexSet::new(alloc);
+    let order_rows = lists.list();
+    let rule = OrderRule {
+        customers,
+        rows: order_rows,
+    };
+    check_list(Table::Order, ends.orders, &rule, &mut keys)?;
+    let orders = Orders {
+        rows: order_rows,
+        keys: &keys,
+    };
+    let mut new_order_keys = IndexSet::new(alloc);
+    let rows = lists.list();
+    let rule = NewOrderRule { orders, rows };
+    check_list(Table::NewOrder, ends.new_orders, &rule, &mut new_order_keys)?;
+    let mut line_keys = IndexSet::new(alloc);
+    let rule = OrderLineRule {
+        warehouses: lists.list(),
+        items: lists.list(),
+        orders,
+        rows: lists.list(),
+    };
+    check_list(Table::OrderLine, ends.order_lines, &rule, &mut line_keys)
 }

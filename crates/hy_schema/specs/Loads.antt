@@ -200,8 +200,32 @@ pub record IsLoad (lists : Lists) : Type 0 where
   pub history : AreHistory lists.tables
   pub conditions : first_broken lists.tables ≡ None
 
--- the first fault of lists whose files were read so far: a row of the first list that isn't right, or else the first
--- broken condition
+-- each file was read to its end
+abbrev pub all_whole : FileEnds
+all_whole = record {
+  warehouses = end.Whole;
+  districts = end.Whole;
+  customers = end.Whole;
+  items = end.Whole;
+  stock = end.Whole;
+  orders = end.Whole;
+  new_orders = end.Whole;
+  order_lines = end.Whole;
+  history = end.Whole;
+}
+
+-- the first fault of lists whose files were read so far. Where all lists up to STOCK are right, it is one of the lists
+-- that gain rows, or else the first broken condition
+abbrev pub HasFaultInOrders : FileEnds → Lists → LoadFault → Type 0
+HasFaultInOrders ends lists fault =
+    let tables : Tables = lists.tables in
+    IsFirstIn table.Order ends.orders (IsOrderAt tables.districts tables.customers tables.orders) ⊤ tables.orders fault
+    (IsFirstIn table.NewOrder ends.new_orders (IsNewOrderAt tables.orders tables.new_orders) ⊤ tables.new_orders fault
+    (IsFirstIn table.OrderLine ends.order_lines
+    (IsOrderLineAt tables.warehouses lists.items tables.orders tables.order_lines) ⊤ tables.order_lines fault
+    (IsFirstIn table.History ends.history (IsHistoryAt tables.districts tables.customers) ⊤ tables.history fault
+    ((number : ℕ) × (fault ≡ faults.Condition number) × (first_broken tables ≡ Some number)))))
+
 abbrev pub HasFault : FileEnds → Lists → LoadFault → Type 0
 HasFault ends lists fault =
     let tables : Tables = lists.tables in
@@ -215,9 +239,4 @@ HasFault ends lists fault =
     (IsFirstIn table.Item ends.items IsItemAt (HasSome lists.items) lists.items fault
     (IsFirstIn table.Stock ends.stock (IsStockAt warehouses items) (HasAllStock warehouses items tables.stock)
     tables.stock fault
-    (IsFirstIn table.Order ends.orders (IsOrderAt tables.districts tables.customers tables.orders) ⊤ tables.orders fault
-    (IsFirstIn table.NewOrder ends.new_orders (IsNewOrderAt tables.orders tables.new_orders) ⊤ tables.new_orders fault
-    (IsFirstIn table.OrderLine ends.order_lines
-    (IsOrderLineAt tables.warehouses lists.items tables.orders tables.order_lines) ⊤ tables.order_lines fault
-    (IsFirstIn table.History ends.history (IsHistoryAt tables.districts tables.customers) ⊤ tables.history fault
-    ((number : ℕ) × (fault ≡ faults.Condition number) × (first_broken tables ≡ Some number))))))))))
+    (HasFaultInOrders ends lists fault)))))

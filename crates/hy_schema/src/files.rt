@@ -24,3 +24,25 @@ pub struct FileEnds {
     pub order_lines: FileEnd,
     pub history: FileEnd,
 }
+
+impl FileEnds {
+    ghost use Rattle.std.specs.Prelude.{◌≡◌};
+    ghost use Rattle.hy_schema.specs.Loads.{all_whole};
+
+    /// Each file was read to its end.
+    pub fn whole() -> FileEnds
+        ensures { result ≡ all_whole }
+    {
+        FileEnds {
+            warehouses: FileEnd::Whole,
+            districts: FileEnd::Whole,
+            customers: FileEnd::Whole,
+            items: FileEnd::Whole,
+            stock: FileEnd::Whole,
+            orders: FileEnd::Whole,
+            new_orders: FileEnd::Whole,
+            order_lines: FileEnd::Whole,
+            history: FileEnd::Whole,
+        }
+    }
+}

@@ -2,7 +2,7 @@ use Rattle.hy_rows.specs.Tables.{of_warehouse}
 use Rattle.hy_schema.specs.Replay.{replay}
 use Rattle.hy_schema.proofs.KeyLaws.{HasUniqueKeys-load, HasUniqueKeys-one_warehouse}
 use Rattle.hy_schema.proofs.KeptConditionLaws.{IsConsistent-load, IsConsistent-replay}
-use Rattle.hy_schema.proofs.load.Load.keys_are_unique.Goals as goal
+use Rattle.hy_loads.proofs.load.Load.keys_are_unique.Goals as goal
 
 -- the rows of a warehouse stay the rows of one warehouse, in which no key stands twice
 pub returns : goal.returns

@@ -1,0 +1,4 @@
+pub mod ListLaws
+pub mod KeyLaws
+pub mod ThereLaws
+pub mod RefusalLaws
