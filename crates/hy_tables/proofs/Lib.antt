@@ -1,2 +1,3 @@
 pub mod TextLaws
 pub mod GeneratedLaws
+pub mod JoinedLaws
