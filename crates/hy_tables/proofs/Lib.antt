@@ -1,3 +1,5 @@
 pub mod TextLaws
 pub mod GeneratedLaws
 pub mod JoinedLaws
+pub mod FollowLaws
+pub mod PrintableLaws
