@@ -3,3 +3,4 @@ pub mod GeneratedLaws
 pub mod JoinedLaws
 pub mod FollowLaws
 pub mod PrintableLaws
+pub mod RangeLaws
