@@ -4,3 +4,4 @@ pub mod JoinedLaws
 pub mod FollowLaws
 pub mod PrintableLaws
 pub mod RangeLaws
+pub mod ListLaws

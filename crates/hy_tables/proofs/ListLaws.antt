@@ -1,0 +1,121 @@
+-- Each generated list is right: its rows are in range and stand in their order, there are few enough, and none is missing.
+use Rattle.std.proofs.Common.{◌≡◌, ℕ, zero, suc, ◌+◌, ◌*◌, ◌/◌, ◌%◌, ◌<◌, ◌≤◌, List, length, Option, Some, None, IfSome, IsTrue, slice_get, refl, sym, ap, subst, ◌∙◌, inl, inr, arith, mul_comm}
+use Rattle.std.specs.List.{list_any}
+use Rattle.std.specs.Prelude.{IsSomeAnd}
+use Rattle.std.proofs.lemmas.Bool.{and_from, eq-eqb}
+use Rattle.std.proofs.lemmas.Nat.{div-mul-add, mod-mul-add, mul-le}
+use Rattle.hy_rows.specs.declared.customer.Customer.{Customer}
+use Rattle.hy_rows.specs.declared.district.District.{District}
+use Rattle.hy_rows.specs.declared.history.History.{History}
+use Rattle.hy_rows.specs.declared.item.Item.{Item}
+use Rattle.hy_rows.specs.declared.stock.Stock.{Stock}
+use Rattle.hy_rows.specs.declared.warehouse.Warehouse.{Warehouse}
+use Rattle.hy_rows.specs.Finding.{is_customer, is_district}
+use Rattle.hy_rows.specs.Limits.{districts_per_warehouse, max_customers, max_items, max_warehouses}
+use Rattle.hy_rows.specs.Ranges.{IsBetween, IsCustomerInRange}
+use Rattle.hy_rows.proofs.BetweenLaws.{IsBetween-bounds, bounds}
+use Rattle.hy_schema.specs.Loads.{HasAllCustomers, HasAllDistricts, HasAllStock, HasSome, IsCustomerAfter, IsCustomerAt, IsDistrictAt, IsHistoryAt, IsItemAt, IsRight, IsStockAt, IsWarehouseAt, max_rows, row_before}
+use Rattle.hy_tables.specs.Generated.{by_customer, generated_customer, generated_district, generated_item, generated_payment, generated_stock, generated_warehouse, joined_up_to, rows_up_to}
+use Rattle.hy_tables.proofs.FollowLaws.{Follow, follow-each, follow-joined, follow-rows, last_of, last_of-joined, last_of-rows, row_before-end}
+use Rattle.hy_tables.proofs.JoinedLaws.{Each, joined_up_to-each, length-joined_up_to, length-rows_up_to, list_any-joined, list_any-rows, rows_up_to-each}
+use Rattle.hy_tables.proofs.RangeLaws.{customer_in_range, district_in_range, item_in_range, payment_in_range, stock_in_range, warehouse_in_range}
+
+-- the numbers up to a last one are in the range of that one
+numbered : (limit last before : ℕ) → IsBetween 1 limit last → before < last → IsBetween 1 limit (suc before)
+numbered limit last before between below =
+    IsBetween-bounds 1 limit (suc before) (omega arith) (omega (arith, below, (bounds 1 limit last between).1))
+
+module _ (customers : ℕ) (customers_between : IsBetween 1 max_customers customers) where
+  -- WAREHOUSE
+  abbrev pub warehouse_rows : ℕ → List Warehouse
+  warehouse_rows warehouses = rows_up_to (generated_warehouse customers) warehouses
+
+  pub warehouses-right : (warehouses : ℕ) → IsBetween 1 max_warehouses warehouses
+      → IsRight IsWarehouseAt (HasSome (warehouse_rows warehouses)) (warehouse_rows warehouses)
+  warehouses-right warehouses between =
+      let ends = bounds 1 max_warehouses warehouses between in
+      let few = (bounds 1 max_customers customers customers_between).1 in
+      let count = length-rows_up_to (generated_warehouse customers) warehouses in
+      record {
+        each =
+            rows_up_to-each IsWarehouseAt (generated_warehouse customers) warehouses
+            (λ before below. (
+              warehouse_in_range customers (suc before) few (numbered max_warehouses warehouses before between below),
+              omega arith,
+            ));
+        few = omega (arith, count, ends.1);
+        whole = omega (arith, count, ends.0);
+      }
+
+  -- DISTRICT
+  abbrev pub districts_in : ℕ → List District
+  districts_in warehouse = rows_up_to (generated_district customers warehouse) districts_per_warehouse
+
+  pub districts-right : (warehouses : ℕ) → IsBetween 1 max_warehouses warehouses
+      → IsRight (IsDistrictAt warehouses) (HasAllDistricts warehouses (joined_up_to districts_in warehouses))
+      (joined_up_to districts_in warehouses)
+  districts-right warehouses between =
+      let ends = bounds 1 max_warehouses warehouses between in
+      let few = (bounds 1 max_customers customers customers_between).1 in
+      let wide : (warehouse : ℕ) → length (districts_in warehouse) ≡ 10 =
+      λ warehouse. length-rows_up_to (generated_district customers warehouse) 10 in
+      let count = length-joined_up_to districts_in 10 wide warehouses in
+      record {
+        each =
+            joined_up_to-each (IsDistrictAt warehouses) districts_in 10 wide warehouses
+            (λ before below. rows_up_to-each (λ place. IsDistrictAt warehouses (before * 10 + place))
+            (generated_district customers (suc before)) 10 (λ k less. (
+              district_in_range customers (suc before) (suc k) few
+              (numbered max_warehouses warehouses before between below)
+              (numbered districts_per_warehouse districts_per_warehouse k refl less),
+              omega (arith, less),
+              omega (arith, less),
+              omega (arith, below),
+            )));
+        few = omega (arith, count, ends.1);
+        whole = omega (arith, count);
+      }
+
+-- ITEM
+pub items-right : (items : ℕ) → IsBetween 1 max_items items
+    → IsRight IsItemAt (HasSome (rows_up_to generated_item items)) (rows_up_to generated_item items)
+items-right items between =
+    let ends = bounds 1 max_items items between in
+    let count = length-rows_up_to generated_item items in
+    record {
+      each =
+          rows_up_to-each IsItemAt generated_item items (λ before below. (
+            item_in_range (suc before) (numbered max_items items before between below),
+            omega arith,
+          ));
+      few = omega (arith, count, ends.1);
+      whole = omega (arith, count, ends.0);
+    }
+
+-- STOCK
+abbrev pub stock_in : ℕ → ℕ → List Stock
+stock_in items warehouse = rows_up_to (generated_stock warehouse) items
+
+pub stock-right : (warehouses items : ℕ) → IsBetween 1 max_warehouses warehouses → IsBetween 1 max_items items
+    → IsRight (IsStockAt warehouses items) (HasAllStock warehouses items (joined_up_to (stock_in items) warehouses))
+    (joined_up_to (stock_in items) warehouses)
+stock-right warehouses items between items_between =
+    let ends = bounds 1 max_warehouses warehouses between in
+    let item_ends = bounds 1 max_items items items_between in
+    let wide : (warehouse : ℕ) → length (stock_in items warehouse) ≡ items =
+    λ warehouse. length-rows_up_to (generated_stock warehouse) items in
+    let count = length-joined_up_to (stock_in items) items wide warehouses in
+    record {
+      each =
+          joined_up_to-each (IsStockAt warehouses items) (stock_in items) items wide warehouses
+          (λ before below. rows_up_to-each (λ place. IsStockAt warehouses items (before * items + place))
+          (generated_stock (suc before)) items (λ k less. (
+            stock_in_range (suc before) (suc k) (numbered max_warehouses warehouses before between below)
+            (numbered max_items items k items_between less),
+            omega (arith, div-mul-add before items k less),
+            omega (arith, mod-mul-add before items k less),
+            omega (arith, below),
+          )));
+      few = omega (arith, count, mul-le warehouses items max_warehouses max_items ends.1 item_ends.1);
+      whole = omega (arith, count, mul_comm warehouses items);
+    }
