@@ -5,3 +5,4 @@ pub mod FollowLaws
 pub mod PrintableLaws
 pub mod RangeLaws
 pub mod ListLaws
+pub mod CustomerLaws

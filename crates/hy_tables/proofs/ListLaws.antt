@@ -21,60 +21,60 @@ use Rattle.hy_tables.proofs.JoinedLaws.{Each, joined_up_to-each, length-joined_u
 use Rattle.hy_tables.proofs.RangeLaws.{customer_in_range, district_in_range, item_in_range, payment_in_range, stock_in_range, warehouse_in_range}
 
 -- the numbers up to a last one are in the range of that one
-numbered : (limit last before : ℕ) → IsBetween 1 limit last → before < last → IsBetween 1 limit (suc before)
+pub numbered : (limit last before : ℕ) → IsBetween 1 limit last → before < last → IsBetween 1 limit (suc before)
 numbered limit last before between below =
     IsBetween-bounds 1 limit (suc before) (omega arith) (omega (arith, below, (bounds 1 limit last between).1))
 
-module _ (customers : ℕ) (customers_between : IsBetween 1 max_customers customers) where
-  -- WAREHOUSE
-  abbrev pub warehouse_rows : ℕ → List Warehouse
-  warehouse_rows warehouses = rows_up_to (generated_warehouse customers) warehouses
+-- WAREHOUSE
+abbrev pub warehouse_rows : ℕ → ℕ → List Warehouse
+warehouse_rows customers warehouses = rows_up_to (generated_warehouse customers) warehouses
 
-  pub warehouses-right : (warehouses : ℕ) → IsBetween 1 max_warehouses warehouses
-      → IsRight IsWarehouseAt (HasSome (warehouse_rows warehouses)) (warehouse_rows warehouses)
-  warehouses-right warehouses between =
-      let ends = bounds 1 max_warehouses warehouses between in
-      let few = (bounds 1 max_customers customers customers_between).1 in
-      let count = length-rows_up_to (generated_warehouse customers) warehouses in
-      record {
-        each =
-            rows_up_to-each IsWarehouseAt (generated_warehouse customers) warehouses
-            (λ before below. (
-              warehouse_in_range customers (suc before) few (numbered max_warehouses warehouses before between below),
-              omega arith,
-            ));
-        few = omega (arith, count, ends.1);
-        whole = omega (arith, count, ends.0);
-      }
+pub warehouses-right : (customers warehouses : ℕ) → customers ≤ max_customers → IsBetween 1 max_warehouses warehouses
+    → IsRight IsWarehouseAt (HasSome (warehouse_rows customers warehouses)) (warehouse_rows customers warehouses)
+warehouses-right customers warehouses few between =
+    let ends = bounds 1 max_warehouses warehouses between in
+    let count = length-rows_up_to (generated_warehouse customers) warehouses in
+    record {
+      each =
+          rows_up_to-each IsWarehouseAt (generated_warehouse customers) warehouses
+          (λ before below. (
+            warehouse_in_range customers (suc before) few (numbered max_warehouses warehouses before between below),
+            omega arith,
+          ));
+      few = omega (arith, count, ends.1);
+      whole = omega (arith, count, ends.0);
+    }
 
-  -- DISTRICT
-  abbrev pub districts_in : ℕ → List District
-  districts_in warehouse = rows_up_to (generated_district customers warehouse) districts_per_warehouse
+-- DISTRICT
+abbrev pub districts_in : ℕ → ℕ → List District
+districts_in customers warehouse = rows_up_to (generated_district customers warehouse) districts_per_warehouse
 
-  pub districts-right : (warehouses : ℕ) → IsBetween 1 max_warehouses warehouses
-      → IsRight (IsDistrictAt warehouses) (HasAllDistricts warehouses (joined_up_to districts_in warehouses))
-      (joined_up_to districts_in warehouses)
-  districts-right warehouses between =
-      let ends = bounds 1 max_warehouses warehouses between in
-      let few = (bounds 1 max_customers customers customers_between).1 in
-      let wide : (warehouse : ℕ) → length (districts_in warehouse) ≡ 10 =
-      λ warehouse. length-rows_up_to (generated_district customers warehouse) 10 in
-      let count = length-joined_up_to districts_in 10 wide warehouses in
-      record {
-        each =
-            joined_up_to-each (IsDistrictAt warehouses) districts_in 10 wide warehouses
-            (λ before below. rows_up_to-each (λ place. IsDistrictAt warehouses (before * 10 + place))
-            (generated_district customers (suc before)) 10 (λ k less. (
-              district_in_range customers (suc before) (suc k) few
-              (numbered max_warehouses warehouses before between below)
-              (numbered districts_per_warehouse districts_per_warehouse k refl less),
-              omega (arith, less),
-              omega (arith, less),
-              omega (arith, below),
-            )));
-        few = omega (arith, count, ends.1);
-        whole = omega (arith, count);
-      }
+abbrev pub district_rows : ℕ → ℕ → List District
+district_rows customers warehouses = joined_up_to (districts_in customers) warehouses
+
+pub districts-right : (customers warehouses : ℕ) → customers ≤ max_customers → IsBetween 1 max_warehouses warehouses
+    → IsRight (IsDistrictAt warehouses) (HasAllDistricts warehouses (district_rows customers warehouses))
+    (district_rows customers warehouses)
+districts-right customers warehouses few between =
+    let ends = bounds 1 max_warehouses warehouses between in
+    let wide : (warehouse : ℕ) → length (districts_in customers warehouse) ≡ 10 =
+    λ warehouse. length-rows_up_to (generated_district customers warehouse) 10 in
+    let count = length-joined_up_to (districts_in customers) 10 wide warehouses in
+    record {
+      each =
+          joined_up_to-each (IsDistrictAt warehouses) (districts_in customers) 10 wide warehouses
+          (λ before below. rows_up_to-each (λ place. IsDistrictAt warehouses (before * 10 + place))
+          (generated_district customers (suc before)) 10 (λ k less. (
+            district_in_range customers (suc before) (suc k) few
+            (numbered max_warehouses warehouses before between below)
+            (numbered districts_per_warehouse districts_per_warehouse k refl less),
+            omega (arith, less),
+            omega (arith, less),
+            omega (arith, below),
+          )));
+      few = omega (arith, count, ends.1);
+      whole = omega (arith, count);
+    }
 
 -- ITEM
 pub items-right : (items : ℕ) → IsBetween 1 max_items items
