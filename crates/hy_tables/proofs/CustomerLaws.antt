@@ -20,7 +20,7 @@ use Rattle.hy_tables.proofs.RangeLaws.{customer_in_range, payment_in_range}
 
 -- rows for each customer of each district
 module _ {Row : Type 0} (row : ℕ → ℕ → ℕ → Row) (customers : ℕ) where
-  length-by_customer : (warehouse : ℕ) → length (by_customer row customers warehouse) ≡ 10 * customers
+  pub length-by_customer : (warehouse : ℕ) → length (by_customer row customers warehouse) ≡ 10 * customers
   length-by_customer warehouse =
       length-joined_up_to (λ district. rows_up_to (row warehouse district) customers) customers
       (λ district. length-rows_up_to (row warehouse district) customers) 10
@@ -35,18 +35,24 @@ module _ {Row : Type 0} (row : ℕ → ℕ → ℕ → Row) (customers : ℕ) wh
         mul-le warehouses (10 * customers) 16 30_000 few_warehouses (omega (arith, few_customers)),
       )
 
-  -- what holds of the row of each customer
+  -- what holds of the row of each customer of a warehouse, and of all
+  pub each-in_warehouse : (P : Row → Type 0) (warehouse : ℕ)
+      → ((district customer : ℕ) → district < 10 → customer < customers → P (row warehouse (suc district) (suc customer)))
+      → Each (λ place row. P row) (by_customer row customers warehouse)
+  each-in_warehouse P warehouse each =
+      joined_up_to-each (λ place row. P row) (λ district. rows_up_to (row warehouse district) customers) customers
+      (λ district. length-rows_up_to (row warehouse district) customers) 10
+      (λ district of_ten. rows_up_to-each (λ place row. P row) (row warehouse (suc district)) customers
+      (λ customer below. each district customer of_ten below))
+
   pub each-by_customer : (P : Row → Type 0) (warehouses : ℕ)
       → ((warehouse district customer : ℕ) → warehouse < warehouses → district < 10 → customer < customers
       → P (row (suc warehouse) (suc district) (suc customer)))
       → Each (λ place row. P row) (joined_up_to (by_customer row customers) warehouses)
   each-by_customer P warehouses each =
       joined_up_to-each (λ place row. P row) (by_customer row customers) (10 * customers) length-by_customer warehouses
-      (λ warehouse of_all. joined_up_to-each (λ place row. P row)
-      (λ district. rows_up_to (row (suc warehouse) district) customers) customers
-      (λ district. length-rows_up_to (row (suc warehouse) district) customers) 10
-      (λ district of_ten. rows_up_to-each (λ place row. P row) (row (suc warehouse) (suc district)) customers
-      (λ customer below. each warehouse district customer of_all of_ten below)))
+      (λ warehouse of_all. each-in_warehouse P (suc warehouse)
+      (λ district customer of_ten below. each warehouse district customer of_all of_ten below))
 
 -- the customers of a district, of a warehouse and of all stand in their order
 customers-follow : (few warehouse district : ℕ)

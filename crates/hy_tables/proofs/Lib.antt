@@ -6,3 +6,4 @@ pub mod PrintableLaws
 pub mod RangeLaws
 pub mod ListLaws
 pub mod CustomerLaws
+pub mod GeneratedConditionLaws
