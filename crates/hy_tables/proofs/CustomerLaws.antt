@@ -1,5 +1,5 @@
 -- The generated lists of customers and of their payments are right.
-use Rattle.std.proofs.Common.{◌≡◌, ℕ, zero, suc, ◌+◌, ◌*◌, ◌<◌, ◌≤◌, Bool, true, List, length, Option, Some, None, IfSome, IsTrue, slice_get, refl, sym, subst, ◌∙◌, inl, inr, arith}
+use Rattle.std.proofs.Common.{◌≡◌, ℕ, zero, suc, ◌*◌, ◌<◌, ◌≤◌, Bool, true, List, length, Option, Some, None, IfSome, slice_get, refl, sym, subst, ◌∙◌, inl, inr, arith}
 use Rattle.std.specs.Prelude.{IsSomeAnd, ⊤}
 use Rattle.std.specs.List.{list_any}
 use Rattle.std.proofs.lemmas.Bool.{and_from, eq-eqb}
@@ -121,9 +121,9 @@ customers-right (suc few) (suc last) customers_between between =
     let in_range : Each (λ place row. In row) rows =
     each-by_customer generated_customer (suc few) In (suc last) (λ warehouse district customer of_all of_ten below. (
       customer_in_range (suc warehouse) (suc district) (suc customer)
-      (numbered max_warehouses (suc last) warehouse between of_all)
-      (numbered districts_per_warehouse districts_per_warehouse district refl of_ten)
-      (numbered max_customers (suc few) customer customers_between below),
+          (numbered max_warehouses (suc last) warehouse between of_all)
+          (numbered districts_per_warehouse districts_per_warehouse district refl of_ten)
+          (numbered max_customers (suc few) customer customers_between below),
       omega (arith, of_all),
     )) in
     record {
@@ -133,7 +133,7 @@ customers-right (suc few) (suc last) customers_between between =
       few = omega (
         arith,
         few-by_customer generated_customer (suc few) (suc last)
-        ((bounds 1 max_warehouses (suc last) between).1) ((bounds 1 max_customers (suc few) customers_between).1),
+            ((bounds 1 max_warehouses (suc last) between).1) ((bounds 1 max_customers (suc few) customers_between).1),
       );
       whole = all-customers few last;
     }
@@ -172,16 +172,16 @@ history-right customers warehouses customers_between between =
           (IsHistoryAt districts (customer_rows customers warehouses) 0) warehouses
           (λ warehouse district customer of_all of_ten below. (
             payment_in_range (suc warehouse) (suc district) (suc customer)
-            (numbered max_warehouses warehouses warehouse between of_all)
-            (numbered districts_per_warehouse districts_per_warehouse district refl of_ten)
-            (numbered max_customers customers customer customers_between below),
+                (numbered max_warehouses warehouses warehouse between of_all)
+                (numbered districts_per_warehouse districts_per_warehouse district refl of_ten)
+                (numbered max_customers customers customer customers_between below),
             district-there customers warehouses warehouse district of_all of_ten,
             customer-there customers warehouses warehouse district customer of_all of_ten below,
           ));
       few = omega (
         arith,
         few-by_customer generated_payment customers warehouses
-        ((bounds 1 max_warehouses warehouses between).1) ((bounds 1 max_customers customers customers_between).1),
+            ((bounds 1 max_warehouses warehouses between).1) ((bounds 1 max_customers customers customers_between).1),
       );
       whole = tt;
     }

@@ -1,21 +1,18 @@
 -- The generated lists meet the consistency conditions.
-use Rattle.std.proofs.Common.{◌≡◌, ◌≢◌, ℕ, zero, suc, ◌+◌, ◌*◌, ◌<◌, ◌==◌, ◌&&◌, ℤ, pos, negsuc, ◌-ℤ◌, int_eq, Bool, true, false, cond, not, List, [], ◌∷◌, length, filter, find, Option, Some, None, option_map, refl, sym, ap, ◌∙◌, arith, eq-eqb, ne_eqb}
+use Rattle.std.proofs.Common.{◌≡◌, ◌≢◌, ℕ, suc, ◌*◌, ◌<◌, ◌==◌, ◌&&◌, pos, negsuc, ◌-ℤ◌, int_eq, Bool, true, false, cond, not, List, [], ◌∷◌, filter, find, Some, None, option_map, refl, sym, ap, ◌∙◌, arith, eq-eqb, ne_eqb}
 use Rattle.std.specs.Prelude.{⊤}
 use Rattle.std.specs.List.{list_all}
 use Rattle.std.proofs.lemmas.Bool.{and_from, and_left, and_right}
 use Rattle.std.proofs.lemmas.Bool.Decides.{Decides-int_eq}
-use Rattle.hy_rows.specs.declared.customer.Customer.{Customer}
 use Rattle.hy_rows.specs.declared.district.District.{District}
 use Rattle.hy_rows.specs.declared.history.History.{History}
-use Rattle.hy_rows.specs.declared.warehouse.Warehouse.{Warehouse}
-use Rattle.hy_rows.specs.Limits.{districts_per_warehouse}
 use Rattle.hy_rows.specs.Tables.{Tables}
 use Rattle.hy_schema.specs.Conditions.{column_sum, condition_1, condition_10, condition_12, condition_2, condition_3, condition_4, condition_8, condition_9, conditions, first_broken, has_all_lines, has_new_orders_in_row, is_balanced, is_behind_orders, is_delivered_less_paid, is_paid_in, is_paid_in_district, is_sum_of_districts, paid_amount, ytd_of_districts}
 use Rattle.hy_schema.specs.Related.{is_payment_by, payments_by, payments_in, payments_in_district}
 use Rattle.hy_tables.specs.Generated.{by_customer, generated_customer, generated_district, generated_lists, generated_payment, generated_warehouse, joined_up_to, rows_up_to}
-use Rattle.hy_tables.proofs.CustomerLaws.{customer_rows, each-in_warehouse, length-by_customer, payment_rows}
-use Rattle.hy_tables.proofs.JoinedLaws.{Each, column_sum-same, filter-joined_all, filter-joined_none, filter-joined_one, filter-rows_all, filter-rows_none, filter-rows_one, length-rows_up_to, list_all-joined, list_all-rows, rows_up_to-each}
-use Rattle.hy_tables.proofs.ListLaws.{district_rows, districts_in, warehouse_rows}
+use Rattle.hy_tables.proofs.CustomerLaws.{each-in_warehouse, length-by_customer, payment_rows}
+use Rattle.hy_tables.proofs.JoinedLaws.{column_sum-same, filter-joined_all, filter-joined_none, filter-joined_one, filter-rows_all, filter-rows_none, filter-rows_one, length-rows_up_to, list_all-joined, list_all-rows, rows_up_to-each}
+use Rattle.hy_tables.proofs.ListLaws.{district_rows, districts_in}
 
 -- rows that meet each of some conditions break none of them
 abbrev MeetsEach : Tables → List (ℕ × (Tables → Bool)) → Type 0

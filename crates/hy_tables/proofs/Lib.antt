@@ -7,3 +7,4 @@ pub mod RangeLaws
 pub mod ListLaws
 pub mod CustomerLaws
 pub mod GeneratedConditionLaws
+pub mod GeneratedLoad

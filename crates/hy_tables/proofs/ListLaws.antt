@@ -1,24 +1,16 @@
 -- Each generated list is right: its rows are in range and stand in their order, there are few enough, and none is missing.
-use Rattle.std.proofs.Common.{◌≡◌, ℕ, zero, suc, ◌+◌, ◌*◌, ◌/◌, ◌%◌, ◌<◌, ◌≤◌, List, length, Option, Some, None, IfSome, IsTrue, slice_get, refl, sym, ap, subst, ◌∙◌, inl, inr, arith, mul_comm}
-use Rattle.std.specs.List.{list_any}
-use Rattle.std.specs.Prelude.{IsSomeAnd}
-use Rattle.std.proofs.lemmas.Bool.{and_from, eq-eqb}
+use Rattle.std.proofs.Common.{◌≡◌, ℕ, suc, ◌+◌, ◌*◌, ◌<◌, ◌≤◌, List, length, refl, arith, mul_comm}
 use Rattle.std.proofs.lemmas.Nat.{div-mul-add, mod-mul-add, mul-le}
-use Rattle.hy_rows.specs.declared.customer.Customer.{Customer}
 use Rattle.hy_rows.specs.declared.district.District.{District}
-use Rattle.hy_rows.specs.declared.history.History.{History}
-use Rattle.hy_rows.specs.declared.item.Item.{Item}
 use Rattle.hy_rows.specs.declared.stock.Stock.{Stock}
 use Rattle.hy_rows.specs.declared.warehouse.Warehouse.{Warehouse}
-use Rattle.hy_rows.specs.Finding.{is_customer, is_district}
 use Rattle.hy_rows.specs.Limits.{districts_per_warehouse, max_customers, max_items, max_warehouses}
-use Rattle.hy_rows.specs.Ranges.{IsBetween, IsCustomerInRange}
+use Rattle.hy_rows.specs.Ranges.{IsBetween}
 use Rattle.hy_rows.proofs.BetweenLaws.{IsBetween-bounds, bounds}
-use Rattle.hy_schema.specs.Loads.{HasAllCustomers, HasAllDistricts, HasAllStock, HasSome, IsCustomerAfter, IsCustomerAt, IsDistrictAt, IsHistoryAt, IsItemAt, IsRight, IsStockAt, IsWarehouseAt, max_rows, row_before}
-use Rattle.hy_tables.specs.Generated.{by_customer, generated_customer, generated_district, generated_item, generated_payment, generated_stock, generated_warehouse, joined_up_to, rows_up_to}
-use Rattle.hy_tables.proofs.FollowLaws.{Follow, follow-each, follow-joined, follow-rows, last_of, last_of-joined, last_of-rows, row_before-end}
-use Rattle.hy_tables.proofs.JoinedLaws.{Each, joined_up_to-each, length-joined_up_to, length-rows_up_to, list_any-joined, list_any-rows, rows_up_to-each}
-use Rattle.hy_tables.proofs.RangeLaws.{customer_in_range, district_in_range, item_in_range, payment_in_range, stock_in_range, warehouse_in_range}
+use Rattle.hy_schema.specs.Loads.{HasAllDistricts, HasAllStock, HasSome, IsDistrictAt, IsItemAt, IsRight, IsStockAt, IsWarehouseAt}
+use Rattle.hy_tables.specs.Generated.{generated_district, generated_item, generated_stock, generated_warehouse, joined_up_to, rows_up_to}
+use Rattle.hy_tables.proofs.JoinedLaws.{joined_up_to-each, length-joined_up_to, length-rows_up_to, rows_up_to-each}
+use Rattle.hy_tables.proofs.RangeLaws.{district_in_range, item_in_range, stock_in_range, warehouse_in_range}
 
 -- the numbers up to a last one are in the range of that one
 pub numbered : (limit last before : ℕ) → IsBetween 1 limit last → before < last → IsBetween 1 limit (suc before)
@@ -66,8 +58,8 @@ districts-right customers warehouses few between =
           (λ before below. rows_up_to-each (λ place. IsDistrictAt warehouses (before * 10 + place))
           (generated_district customers (suc before)) 10 (λ k less. (
             district_in_range customers (suc before) (suc k) few
-            (numbered max_warehouses warehouses before between below)
-            (numbered districts_per_warehouse districts_per_warehouse k refl less),
+                (numbered max_warehouses warehouses before between below)
+                (numbered districts_per_warehouse districts_per_warehouse k refl less),
             omega (arith, less),
             omega (arith, less),
             omega (arith, below),
@@ -111,7 +103,7 @@ stock-right warehouses items between items_between =
           (λ before below. rows_up_to-each (λ place. IsStockAt warehouses items (before * items + place))
           (generated_stock (suc before)) items (λ k less. (
             stock_in_range (suc before) (suc k) (numbered max_warehouses warehouses before between below)
-            (numbered max_items items k items_between less),
+                (numbered max_items items k items_between less),
             omega (arith, div-mul-add before items k less),
             omega (arith, mod-mul-add before items k less),
             omega (arith, below),

@@ -9,7 +9,7 @@ use Rattle.hy_rows.specs.Ranges.{IsCredit, IsLoadedText}
 use Rattle.hy_rows.specs.Texts.{IsPrintable}
 use Rattle.hy_rows.proofs.PrintableLaws.{printable}
 use Rattle.hy_tables.specs.Generated.{credit, digit, last_name, payment_information, syllable, syllables, with_four_digits}
-use Rattle.hy_tables.proofs.TextLaws.{decimal_text, information_text, last_name_text, name_text, tested_text}
+use Rattle.hy_tables.proofs.TextLaws.{decimal_text, information_text, last_name_text}
 
 abbrev IsPrintableByte : ℕ → Type 0
 IsPrintableByte byte = (32 ≤ byte) × (byte ≤ 126)
@@ -32,7 +32,7 @@ pub name_loaded : (width : ℕ) (letters : List ℕ) (number : ℕ) → length l
 name_loaded width letters number short letters_printable small within = (
   omega (arith, short, within, length-append letters (decimal number), (decimal_text number small).fits),
   All-append IsPrintableByte letters (decimal number) (printable letters letters_printable)
-  (decimal-printable number (omega (arith, small))),
+      (decimal-printable number (omega (arith, small))),
 )
 
 -- the names of a warehouse and of a district, with four spaces between
@@ -41,11 +41,11 @@ pub information_loaded : (warehouse district : ℕ) → warehouse < 256 → dist
 information_loaded warehouse district small_warehouse small_district = (
   (information_text warehouse district small_warehouse small_district).fits,
   All-append IsPrintableByte (codes "W" ++ decimal warehouse ++ codes "    D") (decimal district)
-  (All-append IsPrintableByte (codes "W" ++ decimal warehouse) (codes "    D")
-  (All-append IsPrintableByte (codes "W") (decimal warehouse) (printable (codes "W") refl)
-  (decimal-printable warehouse (omega (arith, small_warehouse))))
-  (printable (codes "    D") refl))
-  (decimal-printable district (omega (arith, small_district))),
+      (All-append IsPrintableByte (codes "W" ++ decimal warehouse) (codes "    D")
+      (All-append IsPrintableByte (codes "W") (decimal warehouse) (printable (codes "W") refl)
+      (decimal-printable warehouse (omega (arith, small_warehouse))))
+      (printable (codes "    D") refl))
+      (decimal-printable district (omega (arith, small_district))),
 )
 
 -- each syllable, and a last name
@@ -57,9 +57,9 @@ pub last_name_loaded : (number : ℕ) → IsLoadedText 16 (last_name number)
 last_name_loaded number = (
   (last_name_text number).fits,
   All-append IsPrintableByte (syllable (number / 100) ++ syllable (number / 10)) (syllable number)
-  (All-append IsPrintableByte (syllable (number / 100)) (syllable (number / 10)) (syllable-printable (number / 100))
-  (syllable-printable (number / 10)))
-  (syllable-printable number),
+      (All-append IsPrintableByte (syllable (number / 100)) (syllable (number / 10)) (syllable-printable (number / 100))
+      (syllable-printable (number / 10)))
+      (syllable-printable number),
 )
 
 -- a letter and four digits
@@ -69,9 +69,19 @@ digit-printable number = omega arith
 pub four_digits_loaded : (letter number : ℕ) → 32 ≤ letter → letter ≤ 126 → IsLoadedText 16 (with_four_digits letter number)
 four_digits_loaded letter number above below = (
   lit< tt,
-  All-from_recursion IsPrintableByte (with_four_digits letter number)
-  ((above, below), (digit-printable (number / 1000), (digit-printable (number / 100), (digit-printable (number / 10),
-  (digit-printable number, tt))))),
+  All-from_recursion IsPrintableByte (with_four_digits letter number) (
+    (above, below),
+    (
+      digit-printable (number / 1000),
+      (
+        digit-printable (number / 100),
+        (
+          digit-printable (number / 10),
+          (digit-printable number, tt),
+        ),
+      ),
+    ),
+  ),
 )
 
 -- good or bad credit

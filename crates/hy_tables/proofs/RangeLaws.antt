@@ -1,5 +1,5 @@
 -- Each generated row is in range.
-use Rattle.std.proofs.Common.{ℕ, pos, negsuc, neg_ℤ, ◌+◌, ◌-◌, ◌*◌, ◌%◌, ◌≤◌, ◌≤ℤ◌, codes, arith, refl, lit<, lit≤}
+use Rattle.std.proofs.Common.{ℕ, pos, negsuc, ◌+◌, ◌-◌, ◌*◌, ◌%◌, ◌≤◌, codes, arith, refl, lit<}
 use Rattle.std.proofs.lemmas.Int.{ints}
 use Rattle.hy_rows.specs.Limits.{districts_per_warehouse, max_customers, max_items, max_warehouses}
 use Rattle.hy_rows.specs.Ranges.{IsBetween, IsCustomerInRange, IsDistrictInRange, IsHistoryInRange, IsItemInRange, IsLoadedMoney, IsStockInRange, IsWarehouseInRange}
