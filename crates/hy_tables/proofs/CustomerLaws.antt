@@ -37,7 +37,8 @@ module _ {Row : Type 0} (row : ℕ → ℕ → ℕ → Row) (customers : ℕ) wh
 
   -- what holds of the row of each customer of a warehouse, and of all
   pub each-in_warehouse : (P : Row → Type 0) (warehouse : ℕ)
-      → ((district customer : ℕ) → district < 10 → customer < customers → P (row warehouse (suc district) (suc customer)))
+      → ((district customer : ℕ) → district < 10 → customer < customers
+      → P (row warehouse (suc district) (suc customer)))
       → Each (λ place row. P row) (by_customer row customers warehouse)
   each-in_warehouse P warehouse each =
       joined_up_to-each (λ place row. P row) (λ district. rows_up_to (row warehouse district) customers) customers
@@ -56,7 +57,8 @@ module _ {Row : Type 0} (row : ℕ → ℕ → ℕ → Row) (customers : ℕ) wh
 
 -- the customers of a district, of a warehouse and of all stand in their order
 customers-follow : (few warehouse district : ℕ)
-    → IsCustomerAfter (Some (generated_customer warehouse district (suc few))) (generated_customer warehouse district (suc (suc few)))
+    → IsCustomerAfter (Some (generated_customer warehouse district (suc few)))
+    (generated_customer warehouse district (suc (suc few)))
 customers-follow few warehouse district = inl (refl, refl, omega arith)
 
 in_warehouse-follow : (few warehouse : ℕ) (before : Option Customer)
@@ -73,7 +75,8 @@ in_warehouse-follow few warehouse before first =
     (λ number. customers-follow number warehouse (suc (suc district))) (suc few)) 10
 
 warehouse-ends : (few warehouse : ℕ) (before : Option Customer)
-    → last_of before (by_customer generated_customer (suc few) warehouse) ≡ Some (generated_customer warehouse 10 (suc few))
+    → last_of before (by_customer generated_customer (suc few) warehouse)
+    ≡ Some (generated_customer warehouse 10 (suc few))
 warehouse-ends few warehouse before =
     last_of-joined (λ district. rows_up_to (generated_customer warehouse district) (suc few))
     (λ district. generated_customer warehouse district (suc few))
@@ -147,8 +150,9 @@ district-there : (customers warehouses warehouse district : ℕ) → warehouse <
     → list_any (is_district (suc warehouse) (suc district)) (district_rows customers warehouses) ≡ true
 district-there customers warehouses warehouse district of_all of_ten =
     list_any-joined (is_district (suc warehouse) (suc district)) (districts_in customers) warehouses warehouse of_all
-    (list_any-rows (is_district (suc warehouse) (suc district)) (generated_district customers (suc warehouse)) 10 district
-    of_ten (and_from _ _ (eq-eqb (suc warehouse) (suc warehouse) refl) (eq-eqb (suc district) (suc district) refl)))
+    (list_any-rows (is_district (suc warehouse) (suc district)) (generated_district customers (suc warehouse)) 10
+    district of_ten
+    (and_from _ _ (eq-eqb (suc warehouse) (suc warehouse) refl) (eq-eqb (suc district) (suc district) refl)))
 
 customer-there : (customers warehouses warehouse district customer : ℕ) → warehouse < warehouses → district < 10
     → customer < customers
@@ -156,9 +160,11 @@ customer-there : (customers warehouses warehouse district customer : ℕ) → wa
 customer-there customers warehouses warehouse district customer of_all of_ten below =
     let test : Customer → Bool = is_customer (suc warehouse) (suc district) (suc customer) in
     list_any-joined test (by_customer generated_customer customers) warehouses warehouse of_all
-    (list_any-joined test (λ number. rows_up_to (generated_customer (suc warehouse) number) customers) 10 district of_ten
+    (list_any-joined test (λ number. rows_up_to (generated_customer (suc warehouse) number) customers) 10 district
+    of_ten
     (list_any-rows test (generated_customer (suc warehouse) (suc district)) customers customer below
-    (and_from _ _ (and_from _ _ (eq-eqb (suc warehouse) (suc warehouse) refl) (eq-eqb (suc district) (suc district) refl))
+    (and_from _ _
+    (and_from _ _ (eq-eqb (suc warehouse) (suc warehouse) refl) (eq-eqb (suc district) (suc district) refl))
     (eq-eqb (suc customer) (suc customer) refl))))
 
 pub history-right : (customers warehouses : ℕ) → IsBetween 1 max_customers customers

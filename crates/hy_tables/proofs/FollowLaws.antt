@@ -23,7 +23,8 @@ row_before-suc rows place =
     rw (some, same) refl
 
 -- the row before the end
-last_behind : {Row : Type 0} (row : Row) (rows : List Row) → slice_get (row ∷ rows) (length rows) ≡ last_of (Some row) rows
+last_behind : {Row : Type 0} (row : Row) (rows : List Row)
+    → slice_get (row ∷ rows) (length rows) ≡ last_of (Some row) rows
 last_behind row [] = refl
 last_behind row (next ∷ rows) = last_behind next rows
 
@@ -90,4 +91,5 @@ module _ {Row : Type 0} (After : Option Row → Row → Type 0) where
   follow-joined list end ends before first next (suc (suc last)) =
       follow-append before (joined_up_to list (suc last)) (list (suc (suc last)))
       (follow-joined list end ends before first next (suc last))
-      (subst (λ other. Follow other (list (suc (suc last)))) (sym (last_of-joined list end ends last before)) (next last))
+      (subst (λ other. Follow other (list (suc (suc last)))) (sym (last_of-joined list end ends last before))
+      (next last))

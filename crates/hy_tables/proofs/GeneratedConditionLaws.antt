@@ -57,7 +57,8 @@ module _ {Row : Type 0} (test : Row → Bool) (row : ℕ → ℕ → ℕ → Row
 
   filter-district : (warehouse district : ℕ) → district < 10
       → ((other customer : ℕ) → other ≢ district → test (row warehouse (suc other) customer) ≡ false)
-      → filter test (by_customer row customers warehouse) ≡ filter test (rows_up_to (row warehouse (suc district)) customers)
+      → filter test (by_customer row customers warehouse)
+      ≡ filter test (rows_up_to (row warehouse (suc district)) customers)
   filter-district warehouse district of_ten others =
       filter-joined_one test (λ number. rows_up_to (row warehouse number) customers)
       (filter test (rows_up_to (row warehouse (suc district)) customers)) 10 district of_ten refl (λ other less differs.
@@ -74,7 +75,8 @@ module _ (customers warehouses items : ℕ) where
       ≡ districts_in customers (suc warehouse)
   districts-of warehouse of_all =
       let test : District → Bool = λ row. row.warehouse == suc warehouse in
-      filter-joined_one test (districts_in customers) (districts_in customers (suc warehouse)) warehouses warehouse of_all
+      filter-joined_one test (districts_in customers) (districts_in customers (suc warehouse)) warehouses warehouse
+      of_all
       (filter-rows_all test (generated_district customers (suc warehouse)) 10
       (λ district of_ten. eq-eqb (suc warehouse) (suc warehouse) refl))
       (λ other less differs. filter-rows_none test (generated_district customers (suc other)) 10
@@ -85,15 +87,16 @@ module _ (customers warehouses items : ℕ) where
   sum-of_districts warehouse of_all =
       ap (column_sum (λ (row : District). row.ytd)) (districts-of warehouse of_all)
       ∙ column_sum-same (λ row. row.ytd) (1_000 * customers) (districts_in customers (suc warehouse))
-      (rows_up_to-each (λ place row. row.ytd ≡ pos (1_000 * customers)) (generated_district customers (suc warehouse)) 10
-      (λ district of_ten. refl))
-      ∙ ap (λ count. pos (1_000 * customers * count)) (length-rows_up_to (generated_district customers (suc warehouse)) 10)
+      (rows_up_to-each (λ place row. row.ytd ≡ pos (1_000 * customers)) (generated_district customers (suc warehouse))
+      10 (λ district of_ten. refl))
+      ∙ ap (λ count. pos (1_000 * customers * count))
+      (length-rows_up_to (generated_district customers (suc warehouse)) 10)
       ∙ ap pos (omega arith)
 
   meets-1 : condition_1 Rows ≡ true
   meets-1 =
-      list_all-rows (is_sum_of_districts (district_rows customers warehouses)) (generated_warehouse customers) warehouses
-      (λ warehouse of_all. (Decides-int_eq (pos (10_000 * customers)) (ytd_of_districts (suc warehouse)
+      list_all-rows (is_sum_of_districts (district_rows customers warehouses)) (generated_warehouse customers)
+      warehouses (λ warehouse of_all. (Decides-int_eq (pos (10_000 * customers)) (ytd_of_districts (suc warehouse)
       (district_rows customers warehouses))).1 (sym (sum-of_districts warehouse of_all)))
 
   -- conditions 2 to 4, of districts that have no orders
@@ -151,8 +154,8 @@ module _ (customers warehouses items : ℕ) where
       (λ customer below. and_from _ _ (eq-eqb (suc warehouse) (suc warehouse) refl)
       (eq-eqb (suc district) (suc district) refl)))
       ∙ column_sum-same (λ row. row.amount) 1_000 rows
-      (rows_up_to-each (λ place row. row.amount ≡ pos 1_000) (generated_payment (suc warehouse) (suc district)) customers
-      (λ customer below. refl))
+      (rows_up_to-each (λ place row. row.amount ≡ pos 1_000) (generated_payment (suc warehouse) (suc district))
+      customers (λ customer below. refl))
       ∙ ap pos (omega (arith, length-rows_up_to (generated_payment (suc warehouse) (suc district)) customers))
 
   meets-9 : condition_9 Rows ≡ true
@@ -162,7 +165,8 @@ module _ (customers warehouses items : ℕ) where
 
   -- condition 10: each customer paid once
   payment-of : (warehouse district customer : ℕ) → warehouse < warehouses → district < 10 → customer < customers
-      → payments_by (generated_customer (suc warehouse) (suc district) (suc customer)) (payment_rows customers warehouses)
+      → payments_by (generated_customer (suc warehouse) (suc district) (suc customer))
+      (payment_rows customers warehouses)
       ≡ generated_payment (suc warehouse) (suc district) (suc customer) ∷ []
   payment-of warehouse district customer of_all of_ten below =
       let test : History → Bool = is_payment_by (generated_customer (suc warehouse) (suc district) (suc customer)) in
@@ -171,7 +175,8 @@ module _ (customers warehouses items : ℕ) where
       ∙ filter-district test generated_payment customers (suc warehouse) district of_ten
       (λ other payer differs. and_left _ _ (and_right _ _ (apart other district differs)))
       ∙ filter-rows_one test (generated_payment (suc warehouse) (suc district)) customers customer below
-      (and_from _ _ (and_from _ _ (eq-eqb (suc warehouse) (suc warehouse) refl) (eq-eqb (suc district) (suc district) refl))
+      (and_from _ _
+      (and_from _ _ (eq-eqb (suc warehouse) (suc warehouse) refl) (eq-eqb (suc district) (suc district) refl))
       (eq-eqb (suc customer) (suc customer) refl))
       (λ other less differs. and_right _ _ (apart other customer differs))
 
@@ -188,5 +193,7 @@ module _ (customers warehouses items : ℕ) where
 
   pub none_broken-generated : first_broken Rows ≡ None
   none_broken-generated =
-      none_broken Rows conditions
-      (meets-1, (meets-2, (meets-3, (meets-4, (refl, (refl, (refl, (meets-8, (meets-9, (meets-10, (meets-12, tt)))))))))))
+      none_broken Rows conditions (
+        meets-1,
+        (meets-2, (meets-3, (meets-4, (refl, (refl, (refl, (meets-8, (meets-9, (meets-10, (meets-12, tt)))))))))),
+      )

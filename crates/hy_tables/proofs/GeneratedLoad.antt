@@ -5,6 +5,7 @@ use Rattle.std.proofs.lemmas.Bool.{and_parts}
 use Rattle.hy_rows.specs.declared.district.District.{District}
 use Rattle.hy_rows.specs.declared.customer.Customer.{Customer}
 use Rattle.hy_rows.specs.declared.stock.Stock.{Stock}
+use Rattle.hy_rows.specs.Tables.{Lists}
 use Rattle.hy_rows.specs.Limits.{max_customers, max_items, max_warehouses}
 use Rattle.hy_rows.specs.Ranges.{IsBetween}
 use Rattle.hy_rows.proofs.BetweenLaws.{bounds}
@@ -25,23 +26,24 @@ pub generated-is_load : (warehouses customers items : ℕ) → IsBetween 1 max_w
     → IsLoad (generated_lists warehouses customers items)
 generated-is_load warehouses customers items warehouses_between customers_between items_between =
     let few = (bounds 1 max_customers customers customers_between).1 in
-    let all_warehouses : warehouses ≡ length (generated_lists warehouses customers items).tables.warehouses =
-    sym (length-rows_up_to (generated_warehouse customers) warehouses) in
-    let all_items : items ≡ length (generated_lists warehouses customers items).items =
-    sym (length-rows_up_to generated_item items) in
+    let lists : Lists = generated_lists warehouses customers items in
+    let counted : ℕ = length lists.tables.warehouses in
+    let all_warehouses : warehouses ≡ counted = sym (length-rows_up_to (generated_warehouse customers) warehouses) in
+    let all_items : items ≡ length lists.items = sym (length-rows_up_to generated_item items) in
     let districts : List District = district_rows customers warehouses in
-    let people : List Customer = customer_rows customers warehouses in
+    let of_customers : List Customer = customer_rows customers warehouses in
     let stock : List Stock = joined_up_to (stock_in items) warehouses in
     record {
       warehouses = warehouses-right customers warehouses few warehouses_between;
-      districts = subst (λ count. IsRight (IsDistrictAt count) (HasAllDistricts count districts) districts) all_warehouses
+      districts =
+          subst (λ count. IsRight (IsDistrictAt count) (HasAllDistricts count districts) districts) all_warehouses
           (districts-right customers warehouses few warehouses_between);
-      customers = subst (λ count. IsRight (IsCustomerAt count people) (HasAllCustomers count people) people) all_warehouses
-          (customers-right customers warehouses customers_between warehouses_between);
+      customers =
+          subst (λ count. IsRight (IsCustomerAt count of_customers) (HasAllCustomers count of_customers) of_customers)
+          all_warehouses (customers-right customers warehouses customers_between warehouses_between);
       items = items-right items items_between;
       stock =
-          subst (λ count. IsRight (IsStockAt (length (generated_lists warehouses customers items).tables.warehouses) count)
-          (HasAllStock (length (generated_lists warehouses customers items).tables.warehouses) count stock) stock) all_items
+          subst (λ count. IsRight (IsStockAt counted count) (HasAllStock counted count stock) stock) all_items
           (subst (λ count. IsRight (IsStockAt count items) (HasAllStock count items stock) stock) all_warehouses
           (stock-right warehouses items warehouses_between items_between));
       orders = no_rows-right _;

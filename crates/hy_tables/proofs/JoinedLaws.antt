@@ -1,5 +1,5 @@
--- Laws of lists that are made by number: of the rows of the numbers up to a last one, and of the lists of such numbers one
--- behind another.
+-- Laws of lists that are made by number: of the rows of the numbers up to a last one, and of the lists of such numbers
+-- one behind another.
 use Rattle.std.proofs.Common.{◌≡◌, ◌≢◌, ℕ, zero, suc, ◌+◌, ◌*◌, ◌<◌, ℤ, pos, ◌+ℤ◌, Bool, true, false, cond, List, [], ◌∷◌, ◌++◌, length, filter, fold, slice_get, IfSome, refl, sym, ap, ap₂, subst, ◌∙◌, inl, inr, arith, length-append, zero-add, suc-add, zero-mul, suc-mul, mul-suc}
 use Rattle.std.specs.List.{list_all, list_any}
 use Rattle.std.proofs.lemmas.Bool.{and_from, cases_lt, or_left, or_right}
@@ -37,7 +37,8 @@ length-rows_up_to row zero = refl
 length-rows_up_to row (suc last) =
     omega (arith, length-append (rows_up_to row last) (row (suc last) ∷ []), length-rows_up_to row last)
 
-pub length-joined_up_to : {Row : Type 0} (list : ℕ → List Row) (width : ℕ) → ((number : ℕ) → length (list number) ≡ width)
+pub length-joined_up_to : {Row : Type 0} (list : ℕ → List Row) (width : ℕ)
+    → ((number : ℕ) → length (list number) ≡ width)
     → (last : ℕ) → length (joined_up_to list last) ≡ last * width
 length-joined_up_to list width wide zero = sym (zero-mul width)
 length-joined_up_to list width wide (suc last) =
@@ -104,7 +105,8 @@ module _ {Row : Type 0} (test : Row → Bool) where
 
   -- a filter that none passes
   pub filter-joined_none : (list : ℕ → List Row) (last : ℕ)
-      → ((before : ℕ) → before < last → filter test (list (suc before)) ≡ []) → filter test (joined_up_to list last) ≡ []
+      → ((before : ℕ) → before < last → filter test (list (suc before)) ≡ [])
+      → filter test (joined_up_to list last) ≡ []
   filter-joined_none list zero each = refl
   filter-joined_none list (suc last) each =
       filter-append test (joined_up_to list last) (list (suc last))
@@ -138,7 +140,8 @@ module _ {Row : Type 0} (test : Row → Bool) where
         | inr later ↦
             let here : number ≡ last = omega arith in
             ap₂ (λ xs ys. xs ++ ys)
-            (filter-joined_none list last (λ before less. others before (omega (arith, less)) (λ same. omega (arith, same, less, later))))
+            (filter-joined_none list last (λ before less. others before (omega (arith, less))
+            (λ same. omega (arith, same, less, later))))
             (subst (λ n. filter test (list (suc n)) ≡ chosen) here passes)
       ]
 

@@ -1,4 +1,5 @@
--- Each generated list is right: its rows are in range and stand in their order, there are few enough, and none is missing.
+-- Each generated list is right: its rows are in range and stand in their order, there are few enough, and none is
+-- missing.
 use Rattle.std.proofs.Common.{◌≡◌, ℕ, suc, ◌+◌, ◌*◌, ◌<◌, ◌≤◌, List, length, refl, arith, mul_comm}
 use Rattle.std.proofs.lemmas.Nat.{div-mul-add, mod-mul-add, mul-le}
 use Rattle.hy_rows.specs.declared.district.District.{District}
@@ -56,10 +57,10 @@ districts-right customers warehouses few between =
       each =
           joined_up_to-each (IsDistrictAt warehouses) (districts_in customers) 10 wide warehouses
           (λ before below. rows_up_to-each (λ place. IsDistrictAt warehouses (before * 10 + place))
-          (generated_district customers (suc before)) 10 (λ k less. (
-            district_in_range customers (suc before) (suc k) few
+          (generated_district customers (suc before)) 10 (λ district less. (
+            district_in_range customers (suc before) (suc district) few
                 (numbered max_warehouses warehouses before between below)
-                (numbered districts_per_warehouse districts_per_warehouse k refl less),
+                (numbered districts_per_warehouse districts_per_warehouse district refl less),
             omega (arith, less),
             omega (arith, less),
             omega (arith, below),
@@ -101,11 +102,11 @@ stock-right warehouses items between items_between =
       each =
           joined_up_to-each (IsStockAt warehouses items) (stock_in items) items wide warehouses
           (λ before below. rows_up_to-each (λ place. IsStockAt warehouses items (before * items + place))
-          (generated_stock (suc before)) items (λ k less. (
-            stock_in_range (suc before) (suc k) (numbered max_warehouses warehouses before between below)
-                (numbered max_items items k items_between less),
-            omega (arith, div-mul-add before items k less),
-            omega (arith, mod-mul-add before items k less),
+          (generated_stock (suc before)) items (λ item less. (
+            stock_in_range (suc before) (suc item) (numbered max_warehouses warehouses before between below)
+                (numbered max_items items item items_between less),
+            omega (arith, div-mul-add before items item less),
+            omega (arith, mod-mul-add before items item less),
             omega (arith, below),
           )));
       few = omega (arith, count, mul-le warehouses items max_warehouses max_items ends.1 item_ends.1);

@@ -66,7 +66,8 @@ last_name_loaded number = (
 digit-printable : (number : ℕ) → IsPrintableByte (digit number)
 digit-printable number = omega arith
 
-pub four_digits_loaded : (letter number : ℕ) → 32 ≤ letter → letter ≤ 126 → IsLoadedText 16 (with_four_digits letter number)
+pub four_digits_loaded : (letter number : ℕ) → 32 ≤ letter → letter ≤ 126
+    → IsLoadedText 16 (with_four_digits letter number)
 four_digits_loaded letter number above below = (
   lit< tt,
   All-from_recursion IsPrintableByte (with_four_digits letter number) (

@@ -94,5 +94,6 @@ payment_in_range warehouse district customer warehouse_between district_between 
       warehouse = warehouse_between;
       date = refl;
       amount = money 1_000 (lit< tt);
-      information = information_loaded warehouse district (omega (arith, warehouse_ends.1)) (omega (arith, district_ends.1));
+      information =
+          information_loaded warehouse district (omega (arith, warehouse_ends.1)) (omega (arith, district_ends.1));
     }
