@@ -1,2 +1,10 @@
 pub mod TextLaws
 pub mod GeneratedLaws
+pub mod JoinedLaws
+pub mod FollowLaws
+pub mod PrintableLaws
+pub mod RangeLaws
+pub mod ListLaws
+pub mod CustomerLaws
+pub mod GeneratedConditionLaws
+pub mod GeneratedLoad
