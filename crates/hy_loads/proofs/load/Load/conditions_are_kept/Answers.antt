@@ -6,4 +6,4 @@ use Rattle.hy_loads.proofs.load.Load.conditions_are_kept.Goals as goal
 pub returns : goal.returns
 returns c = λ warehouse commits between.
     let load = c.args.self.now in
-    IsConsistent-replay warehouse (of_warehouse warehouse load) commits (IsConsistent-load warehouse load c.sound.ensures between)
+    IsConsistent-replay warehouse (of_warehouse warehouse load.tables) commits (IsConsistent-load warehouse load c.sound.ensures between)

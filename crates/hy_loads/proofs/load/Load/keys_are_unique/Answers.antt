@@ -11,7 +11,7 @@ returns c =
     record {
       loaded = HasUniqueKeys-load load c.sound.ensures;
       kept = λ warehouse commits between.
-          let loaded = of_warehouse warehouse load in
+          let loaded = of_warehouse warehouse load.tables in
           HasUniqueKeys-one_warehouse warehouse (replay warehouse loaded commits)
           (IsConsistent-replay warehouse loaded commits (IsConsistent-load warehouse load c.sound.ensures between)).rows;
     }
