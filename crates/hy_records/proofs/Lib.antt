@@ -1,0 +1,5 @@
+pub mod RecordLaws
+pub mod HeaderLaws
+pub mod ReadingLaws
+pub mod WritingLaws
+pub mod RoundTripLaws
