@@ -3,3 +3,4 @@ pub mod HeaderLaws
 pub mod ReadingLaws
 pub mod WritingLaws
 pub mod RoundTripLaws
+pub mod InRangeLaws
