@@ -12,6 +12,8 @@ mod order_line;
 mod reading;
 mod row;
 mod stock;
+#[cfg(test)]
+mod tests;
 mod warehouse;
 mod writing;
 
