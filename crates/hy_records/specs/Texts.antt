@@ -1,0 +1,49 @@
+-- What a text says as rows of a table, and the text of rows.
+use Rattle.std.specs.Prelude.{ℕ, ◌+◌, Bool, true, false, ◌&&◌, ◌==◌, if◌then◌else◌, List, [], ◌∷◌, length, map, Option, Some, None, bytes_eq}
+use Rattle.std.specs.List.{concat}
+use Rattle.csv.specs.Reading.{default_config, records, strip_bom}
+use Rattle.csv.specs.Writing.{default_writer, row_text}
+
+-- the rows that stand before the first record that is none, and the number of that record: 0 for the header
+pub record Reading (Row : Type 0) : Type 0 where
+  pub rows : List Row
+  pub unread : Option ℕ
+
+-- whether a record has these fields
+abbrev pub has_fields : List (List ℕ) → List (List ℕ) → Bool
+has_fields [] [] = true
+has_fields [] (name ∷ names) = false
+has_fields (field ∷ fields) [] = false
+has_fields (field ∷ fields) (name ∷ names) = bytes_eq field name && has_fields fields names
+
+-- the row that a record is, and then more rows
+abbrev pub rows_next : {Row : Type 0} → Option Row → List Row → List Row
+rows_next None later = []
+rows_next (Some row) later = row ∷ later
+
+-- the rows that the records are, up to the first that is none
+abbrev pub rows_of : {Row : Type 0} → (List (List ℕ) → Option Row) → List (List (List ℕ)) → List Row
+rows_of row_of [] = []
+rows_of row_of (fields ∷ later) = rows_next (row_of fields) (rows_of row_of later)
+
+-- rows before the end of so many records, or before the next record
+abbrev pub rows_before : {Row : Type 0} → ℕ → List Row → Reading Row
+rows_before count rows = record {
+  rows = rows;
+  unread = if length rows == count then None else Some (length rows + 1);
+}
+
+-- the records of a text: the names of the columns, and a row each
+abbrev pub reading_of : {Row : Type 0} → List (List ℕ) → (List (List ℕ) → Option Row) → List (List (List ℕ)) → Reading Row
+reading_of names row_of [] = record { rows = []; unread = Some 0 }
+reading_of names row_of (header ∷ later) =
+    if has_fields header names then rows_before (length later) (rows_of row_of later)
+    else record { rows = []; unread = Some 0 }
+
+-- what a text says, a byte order mark at its start passed over
+abbrev pub reading : {Row : Type 0} → List (List ℕ) → (List (List ℕ) → Option Row) → List ℕ → Reading Row
+reading names row_of text = reading_of names row_of (records default_config (strip_bom text))
+
+-- the text of rows: the names of the columns, and a record for each row
+abbrev pub text_of_rows : {Row : Type 0} → List (List ℕ) → (Row → List (List ℕ)) → List Row → List ℕ
+text_of_rows names fields_of rows = concat (map (row_text default_writer) (names ∷ map fields_of rows))
