@@ -8,3 +8,5 @@ pub mod ListLaws
 pub mod CustomerLaws
 pub mod GeneratedConditionLaws
 pub mod GeneratedLoad
+pub mod FilesLaws
+pub mod GenerateLaws

@@ -1,2 +1,3 @@
+pub mod Files
 pub mod Generated
 pub mod WorkedRows

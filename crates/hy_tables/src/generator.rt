@@ -5,6 +5,7 @@ ghost use Rattle.hy_rows.specs.Limits.{districts_per_warehouse, max_customers, m
 ghost use Rattle.hy_tables.specs.Generated.{by_customer, generated_customer, generated_district, generated_item, generated_lists, generated_payment, generated_stock, generated_warehouse, is_size, joined_up_to, rows_up_to};
 
 use crate::generated_rows::{customer, district, item, payment, stock, warehouse};
+use hy_loads::Load;
 use hy_rows::{
     Customer, DISTRICTS_PER_WAREHOUSE, District, History, Item, Lists, MAX_CUSTOMERS, MAX_ITEMS,
     MAX_WAREHOUSES, Stock, Tables, Warehouse,
@@ -32,6 +33,17 @@ pub fn generated(
     }
     let lists = lists(alloc, warehouses as u8, customers as u16, items as u32)?;
     Ok(lists)
+}
+
+/// The load of a generated database: so many warehouses, customers in each district, and items. E8 exactly where a number
+/// isn't 1 to 16, 1 to 3,000, 1 to 100,000; else E1.
+pub fn generate(alloc: Global, warehouses: u64, customers: u64, items: u64) -> Result<Load, Refusal>
+    ensures load { IfOk result (λ load. load ≡ generated_lists warehouses customers items) }
+    ensures out_of_range { IsErrOf result Refusal.OutOfRange ↔ IsFalse (is_size warehouses customers items) }
+    ensures refused { IfErr result (λ refusal. (refusal ≡ Refusal.OutOfRange) ⊎ (refusal ≡ Refusal.NoMemory)) }
+{
+    let lists = generated(alloc, warehouses, customers, items)?;
+    Load::of(alloc, lists)
 }
 
 /// The generated lists.
