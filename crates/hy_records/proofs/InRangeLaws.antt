@@ -1,9 +1,9 @@
 -- A row whose values a load may have is one that a record can say.
-use Rattle.std.proofs.Common.{◌≡◌, ◌<◌, ◌≤◌, ◌≤ℤ◌, ◌∷◌, [], ℕ, ℤ, List, pos, negsuc, neg_ℤ, arith, refl, subst, sym, inl, inr, w64, FitsSigned}
+use Rattle.std.proofs.Common.{◌≤◌, ◌∷◌, [], ℕ, ℤ, List, pos, negsuc, arith, subst, sym, inl, inr, w64, FitsSigned}
 use Rattle.std.proofs.lemmas.List.Elements.{All-cons, All-nil}
 use Rattle.std.proofs.lemmas.Int.{ints}
 use Rattle.hy_rows.proofs.BetweenLaws.{bounds}
-use Rattle.hy_rows.specs.Limits.{districts_per_warehouse, max_cents, max_customers, max_images, max_items, max_line_cents, max_lines, max_moment, max_order, max_price, max_quantity, max_warehouses, min_lines}
+use Rattle.hy_rows.specs.Limits.{districts_per_warehouse, max_customers, max_images, max_items, max_lines, max_moment, max_order, max_price, max_quantity, max_warehouses, min_lines}
 use Rattle.hy_rows.specs.Ranges.{IsCredit, IsCustomerInRange, IsDistrictInRange, IsHistoryInRange, IsItemInRange, IsLineAmount, IsLoadedMoney, IsLoadedText, IsNewOrderInRange, IsOrderInRange, IsOrderLineInRange, IsStockInRange, IsWarehouseInRange}
 use Rattle.hy_rows.specs.declared.warehouse.Warehouse.{Warehouse}
 use Rattle.hy_rows.specs.declared.district.District.{District}
@@ -36,9 +36,11 @@ two_printable first second one other = (
 
 credit_fits : (text : List ℕ) → IsCredit text → IsLoadedText 2 text
 credit_fits text (inl good) =
-    subst (λ text. IsLoadedText 2 text) (sym good) (two_printable 71 67 (omega arith, omega arith) (omega arith, omega arith))
+    subst (λ text. IsLoadedText 2 text) (sym good)
+    (two_printable 71 67 (omega arith, omega arith) (omega arith, omega arith))
 credit_fits text (inr bad) =
-    subst (λ text. IsLoadedText 2 text) (sym bad) (two_printable 66 67 (omega arith, omega arith) (omega arith, omega arith))
+    subst (λ text. IsLoadedText 2 text) (sym bad)
+    (two_printable 66 67 (omega arith, omega arith) (omega arith, omega arith))
 
 pub warehouse-fits : (row : Warehouse) → IsWarehouseInRange row → WarehouseFits row
 warehouse-fits row range = (

@@ -136,8 +136,8 @@ pub took : (old new : Reader (Bor (List ℕ))) (fields : List (List ℕ)) (recor
     → (later : List (List (List ℕ))) × (records ≡ fields ∷ later) × StandsBefore later new
 unfolding Reached
 took old new fields records stands read first =
-    let (left, source, reached) = rows-more (λ slice. Some slice.now) old new fields default_config old.state stands.text
-    stands.text [] stands.config stands.source (refl, refl) read in (
+    let (left, source, reached) = rows-more (λ slice. Some slice.now) old new fields default_config old.state
+    stands.text stands.text [] stands.config stands.source (refl, refl) read in (
       records_at new.state left,
       sym stands.records ∙ one_taken old.state new.state stands.text left fields reached,
       record {
@@ -154,13 +154,14 @@ took old new fields records stands read first =
 pub took_none : (old new : Reader (Bor (List ℕ))) (fields : List (List ℕ)) (records : List (List (List ℕ)))
     → StandsBefore records old → ReadRecord (λ slice. Some slice.now) old new false fields → records ≡ []
 took_none old new fields records stands read =
-    sym stands.records ∙ records-none old.state stands.text (rows-end (λ slice. Some slice.now) old new fields default_config
-    stands.text stands.config stands.source read)
+    sym stands.records ∙ records-none old.state stands.text (rows-end (λ slice. Some slice.now) old new fields
+    default_config stands.text stands.config stands.source read)
 
 -- both together
 pub reads_next : (old new : Reader (Bor (List ℕ))) (found : Bool) (fields : List (List ℕ))
     → (records : List (List (List ℕ))) → StandsBefore records old
     → ReadRecord (λ slice. Some slice.now) old new found fields → took_first new ≡ true
-    → MatchBool found ((later : List (List (List ℕ))) × (records ≡ fields ∷ later) × StandsBefore later new) (records ≡ [])
+    → MatchBool found ((later : List (List (List ℕ))) × (records ≡ fields ∷ later) × StandsBefore later new)
+    (records ≡ [])
 reads_next old new true fields records stands read first = took old new fields records stands read first
 reads_next old new false fields records stands read first = took_none old new fields records stands read

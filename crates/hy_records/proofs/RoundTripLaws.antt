@@ -33,7 +33,8 @@ names_unmarked ((byte ∷ bytes) ∷ names) text begins =
 
 -- records that are written are read
 read_written : (rows : List (List (List ℕ))) (count : ℕ) → length rows ≤ count
-    → records_from default_config count st.StartRecord (concat (map (row_text default_writer) rows)) ≡ map read_back rows
+    → records_from default_config count st.StartRecord (concat (map (row_text default_writer) rows))
+    ≡ map read_back rows
 unfolding records_from next_record
 read_written [] zero enough = refl
 read_written [] (suc count) enough = refl

@@ -1,4 +1,5 @@
 pub mod Fields
 pub mod Tables
 pub mod Texts
+pub mod WorkedTexts
 pub mod inside

@@ -34,7 +34,8 @@ rows_before count rows = record {
 }
 
 -- the records of a text: the names of the columns, and a row each
-abbrev pub reading_of : {Row : Type 0} → List (List ℕ) → (List (List ℕ) → Option Row) → List (List (List ℕ)) → Reading Row
+abbrev pub reading_of : {Row : Type 0} → List (List ℕ) → (List (List ℕ) → Option Row) → List (List (List ℕ))
+    → Reading Row
 reading_of names row_of [] = record { rows = []; unread = Some 0 }
 reading_of names row_of (header ∷ later) =
     if has_fields header names then rows_before (length later) (rows_of row_of later)

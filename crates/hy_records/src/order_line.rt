@@ -9,7 +9,8 @@ use std::alloc::AllocError;
 
 impl CsvRow for OrderLine {
     ghost use Rattle.std.proofs.Common.{rules};
-    ghost use Rattle.hy_records.specs.Tables.{order_line_names, order_line_fields, order_line_of, OrderLineFits};
+    ghost use Rattle.hy_records.specs.Tables.{order_line_names, order_line_fields, order_line_of};
+    ghost use Rattle.hy_records.specs.Tables.{OrderLineFits};
     ghost use Rattle.hy_records.specs.inside.RowLaws.{order_line-reads};
 
     ghost names = { order_line_names };

@@ -16,8 +16,8 @@ use std::marker::Model;
 pub struct Reading<R: Copy> {
     /// The rows of the records before the first one that is no row.
     pub rows: Vec<R>,
-    /// The number of the first record that is no row: 0 for the header, 1 for the record behind it; none where the text
-    /// ends behind the rows.
+    /// The number of the first record that is no row: 0 for the header, 1 for the record behind it. None where the
+    /// text ends behind the rows.
     pub unread: Option<u64>,
 }
 
@@ -85,7 +85,8 @@ fn read_rows<R: CsvRow>(
 fn next_record(reader: &mut Reader<&[u8]>, fields: &mut ByteRecord) -> Result<bool, AllocError>
     ensures { IfOk result (λ found. (records : List (List (List ℕ))) → StandsBefore records reader.old
         → MatchBool found
-        ((later : List (List (List ℕ))) × (records ≡ fields_of fields.new ∷ later) × StandsBefore later reader.new)
+        ((later : List (List (List ℕ)))
+        × (records ≡ fields_of fields.new ∷ later) × StandsBefore later reader.new)
         (records ≡ [])) }
 {
     match reader.read_byte_record(fields) {

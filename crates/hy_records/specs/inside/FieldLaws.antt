@@ -222,11 +222,12 @@ with_minus digits (Some zero) is = sym (never_some _ (λ number found.
     omega (arith, same)))
 with_minus digits (Some (suc less)) is =
     let digits_are = number-written 64 digits (suc less) (sym is) in
+    let some = ne_eqb (suc less) 0 (λ same. omega (arith, same)) in
     elim (cases_lt less (2 ^ 63)) [
       | inl small ↦
-          rw (ne_eqb (suc less) 0 (λ same. omega (arith, same)), le-leb (suc less) (2 ^ 63) (omega (arith, small)), digits_are.0) (signed-reads (negsuc less) small)
+          rw (some, le-leb (suc less) (2 ^ 63) (omega (arith, small)), digits_are.0) (signed-reads (negsuc less) small)
       | inr large ↦
-          rw (ne_eqb (suc less) 0 (λ same. omega (arith, same)), lt-leb (suc less) (2 ^ 63) (omega (arith, large))) (sym (never_some _ (λ number found.
+          rw (some, lt-leb (suc less) (2 ^ 63) (omega (arith, large))) (sym (never_some _ (λ number found.
           let written = signed-written (45 ∷ digits) number found in
           let behind = after_minus digits number written.0 written.1 in
           let same = decimal_injective (suc (mag number)) (suc less) (omega (arith, written.1)) digits_are.1
@@ -279,7 +280,8 @@ pub signed-uncut : (field : List ℕ) → bytes_eq (take 1 field) (45 ∷ []) �
     → signed_of field ≡ option_and_then above_zero (number_of 64 field)
 signed-uncut [] plain = signed-plain [] (λ same. omega (arith, same))
 signed-uncut (byte ∷ field) plain =
-    signed-plain (byte ∷ field) (λ same. false≢true (sym plain ∙ (bytes_eq-Decides _ _).1 (ap (λ first. first ∷ []) same)))
+    signed-plain (byte ∷ field)
+    (λ same. false≢true (sym plain ∙ (bytes_eq-Decides _ _).1 (ap (λ first. first ∷ []) same)))
 
 -- a conversion to fewer bits
 pub ok-narrowed : {Error : Type 0} (bits number : ℕ) (result : Result ℕ Error) → OkIff result (number < 2 ^ bits) number

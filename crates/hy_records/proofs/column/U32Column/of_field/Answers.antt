@@ -10,6 +10,7 @@ returns-in_err-number c =
 
 pub returns : goal.returns
 returns c =
-    let read : Some c.in_ok-number.field-0 ≡ number_of 64 c.args.field.now = sym c.in_ok-number.was ∙ c.number.ensures in
+    let read : Some c.in_ok-number.field-0 ≡ number_of 64 c.args.field.now =
+    sym c.in_ok-number.was ∙ c.number.ensures in
     let whole = number-narrowed 32 c.args.field.now (omega arith) ∙ ap (narrowed 32) (sym read) in
     c.ok.ensures.value ∙ ok-narrowed 32 c.in_ok-number.field-0 c.try_from.result c.try_from.ensures ∙ sym whole

@@ -5,6 +5,7 @@ use Rattle.hy_records.proofs.order_line.OrderLineCsvRow.write.Goals as goal
 
 pub returns : goal.returns
 returns c =
+    let amount = ap signed_decimal (to_z-of_z w64 c.args.self.now.amount (search rules)) in
     rw (
       c.as_bytes.ensures.value ∙ c.format.ensures.text,
       c.as_bytes-2.ensures.value ∙ c.format-2.ensures.text,
@@ -14,5 +15,5 @@ returns c =
       c.as_bytes-6.ensures.value ∙ c.format-6.ensures.text,
       c.as_bytes-7.ensures.value ∙ c.format-7.ensures.text,
       c.as_bytes-8.ensures.value ∙ c.format-8.ensures.text,
-      c.as_bytes-9.ensures.value ∙ c.format-9.ensures.text ∙ ap signed_decimal (to_z-of_z w64 c.args.self.now.amount (search rules)),
+      c.as_bytes-9.ensures.value ∙ c.format-9.ensures.text ∙ amount,
     ) at c.write_record.ensures

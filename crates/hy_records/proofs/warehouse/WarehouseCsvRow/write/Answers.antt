@@ -5,9 +5,10 @@ use Rattle.hy_records.proofs.warehouse.WarehouseCsvRow.write.Goals as goal
 
 pub returns : goal.returns
 returns c =
+    let ytd = ap signed_decimal (to_z-of_z w64 c.args.self.now.ytd (search rules)) in
     rw (
       c.as_bytes.ensures.value ∙ c.format.ensures.text,
       c.as_bytes-2.ensures.bytes,
       c.as_bytes-3.ensures.value ∙ c.format-2.ensures.text,
-      c.as_bytes-4.ensures.value ∙ c.format-3.ensures.text ∙ ap signed_decimal (to_z-of_z w64 c.args.self.now.ytd (search rules)),
+      c.as_bytes-4.ensures.value ∙ c.format-3.ensures.text ∙ ytd,
     ) at c.write_record.ensures
