@@ -19,7 +19,7 @@ const ROWS: u32 = 5000;
 const ROWS_PER_DISTRICT: u64 = 500;
 
 /// How many districts have rows, numbered from 1 on.
-const DISTRICTS: u64 = 10;
+const DISTRICTS: u8 = 10;
 
 /// How many steps lie between two comparisons of all rows and keys.
 const STEPS: usize = 100;
@@ -103,8 +103,8 @@ impl Key for OrderKey {
         (high_bytes_of 1 one.district ++ high_bytes_of 4 one.order)
         (high_bytes_of 1 other.district ++ high_bytes_of 4 other.order) is_one.0 is_other.0
         ∙ ap (ordering_then (nat_cmp one.warehouse other.warehouse))
-        (compared-number 1 one.district other.district (high_bytes_of 4 one.order) (high_bytes_of 4 other.order)
-        is_one.1 is_other.1
+        (compared-number 1 one.district other.district
+        (high_bytes_of 4 one.order) (high_bytes_of 4 other.order) is_one.1 is_other.1
         ∙ ap (ordering_then (nat_cmp one.district other.district))
         (compared-last 4 one.order other.order is_one.2 is_other.2)))) };
 }
@@ -113,7 +113,7 @@ impl Key for OrderKey {
 fn row_of(number: u64) -> NewOrder {
     NewOrder {
         order: (number % ROWS_PER_DISTRICT + 1) as u32,
-        district: (number / ROWS_PER_DISTRICT % DISTRICTS + 1) as u8,
+        district: (number / ROWS_PER_DISTRICT % u64::from(DISTRICTS) + 1) as u8,
         warehouse: 1,
     }
 }
@@ -387,10 +387,10 @@ fn entries_agree(rt: &impl Abort, found: &[Entry<OrderKey>], all: &[(OrderKey, u
 /// The index has the keys of the lists, in order, and by districts.
 fn ranges_agree<const N: usize>(rt: &(impl Abort + AllocGlobal), store: &Store<N>, lists: &Lists) {
     let all = lists.entries(rt);
-    let found = store.range(rt, &first_key_of(1), &first_key_of(11));
+    let found = store.range(rt, &first_key_of(1), &first_key_of(DISTRICTS + 1));
     entries_agree(rt, found.as_slice(), all.as_slice());
     let mut joined = Vec::new(rt.alloc());
-    for district in 1..=10 {
+    for district in 1..=DISTRICTS {
         for entry in &store.range(rt, &first_key_of(district), &first_key_of(district + 1)) {
             joined.push(*entry).expect(rt, "an entry");
         }

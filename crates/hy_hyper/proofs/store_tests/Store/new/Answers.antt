@@ -14,7 +14,8 @@ create-requires-2 g c =
     let after : IsUndoLog g.row.N c.create.new.space c.expect-undo.result = search rules in
     let segments : length c.create.new.space.owner ≡ 9 =
     nine_segments g.row.N c.expect-space.result c.create.new.space c.expect-undo.result nine before after in
-    let changes : ChangesSegment (owner_bytes c.expect-space.result) (owner_bytes c.create.new.space) 4 = search rules in
+    let changes : ChangesSegment (owner_bytes c.expect-space.result) (owner_bytes c.create.new.space) 4 =
+    search rules in
     let none : page_count c.expect-space.result 8 ≡ 0 = search rules in (
       lit< tt,
       (
