@@ -3,4 +3,3 @@ pub mod GeneratedLaws
 pub mod FirstLaws
 pub mod AmountLaws
 pub mod OpenLaws
-pub mod StoreLaws

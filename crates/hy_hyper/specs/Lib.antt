@@ -6,4 +6,3 @@ pub mod Refusals
 pub mod Runs
 pub mod WorkedRows
 pub mod Open
-pub mod Stores
