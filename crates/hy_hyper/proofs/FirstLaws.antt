@@ -1,12 +1,10 @@
 -- Why the payment of `first` isn't done.
-use Rattle.std.proofs.Common.{◌≡◌, ◌⊎◌, inl, inr, ℕ, ℤ, List, [], ◌∷◌, ◌++◌, length, IsErrAnd, Result, Ok, Err, Option, Some, None, ◌||◌, ◌==◌, cond, is_some, refl, sym, ap, ◌∙◌, subst}
+use Rattle.std.proofs.Common.{◌≡◌, inl, inr, ℕ, ℤ, List, [], ◌∷◌, ◌++◌, length, IsErrAnd, Result, Ok, Err, Option, Some, None, ◌||◌, ◌==◌, cond, is_some, refl, sym, ap, ◌∙◌}
 use Rattle.std.specs.Option.{option_or}
 use Rattle.hy_schema.specs.declared.command.Command.{Command}
 use Rattle.hy_schema.specs.declared.command.Commit.{Commit}
 use Rattle.hy_schema.specs.declared.refusal.Refusal.{Refusal}
 use Rattle.hy_schema.specs.declared.refusal.Refusal.TheVariants as refusals
-use Rattle.hy_schema.specs.declared.refusal.LoadFault.{LoadFault}
-use Rattle.hy_schema.specs.Loads.{HasFault, IsLoad}
 use Rattle.hy_schema.specs.Replay.{replay}
 use Rattle.hy_rows.specs.Tables.{Tables, of_warehouse}
 use Rattle.hy_schema.specs.declared.command.Commit.TheVariants as commits
@@ -15,10 +13,7 @@ use Rattle.hy_partition.specs.Jobs.{DoneState, RunningJob}
 use Rattle.hy_partition.specs.Partition.{PartitionState, rows_now}
 use Rattle.hy_partition.specs.Steps.{Begins, HasSnapshot, begin_refusal}
 use Rattle.hy_hyper.specs.First.{IsFirstRefusal, IsPaid, IsPayRefusal, IsYtdAfter, first_command, first_payment, ytds_of}
-use Rattle.hy_schema.proofs.FaultLaws.{load-no_fault}
-use Rattle.hy_schema.proofs.FreshLoad.{fresh-is_load}
 use Rattle.hy_hyper.specs.Generated.{generated}
-use Rattle.hy_hyper.specs.WorkedRows.{generated-fresh}
 
 -- the refusal of a command by the parts of a partition
 abbrev refusal_by : Command → Option RunningJob → Option DoneState → ℕ → Tables → List Commit → ℕ → Option Refusal
@@ -81,13 +76,3 @@ pub err_is : {T E : Type 0} (answer : Result T E) (value : E) → IsErrAnd answe
     → answer ≡ Err value
 err_is (Ok x) value is = absurd (is)
 err_is (Err error) value is = ap Err is
-
--- the generated rows are a load, so that a refusal to generate them is for want of memory
-generated-is_load : IsLoad (generated 3)
-generated-is_load = subst (λ (tables : Tables). IsLoad tables) (sym generated-fresh) fresh-is_load
-
-pub generated_refusal : (amount : ℕ) (refusal : Refusal) → (refusal ≡ refusals.NoMemory) ⊎ ((fault : LoadFault) × (refusal ≡ refusals.BadLoad fault) × HasFault (generated 3) fault) → IsFirstRefusal amount refusal
-generated_refusal amount refusal why = elim why [
-  | inl memory ↦ inr (inl memory)
-  | inr bad ↦ absurd (load-no_fault (generated 3) bad.0 generated-is_load bad.2)
-]

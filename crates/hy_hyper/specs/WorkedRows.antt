@@ -1,13 +1,12 @@
--- Worked examples, which the checker computes: what words say, a generated load and the payment of `first`.
-use Rattle.std.specs.Prelude.{◌≡◌, pos, Option, Some, List, [], ◌∷◌, codes, option_map, refl}
-use Rattle.std.specs.Fmt.{digits}
+-- Worked examples, which the checker computes: what words say, and the payment of `first`.
+use Rattle.std.specs.Prelude.{◌≡◌, pos, Option, Some, List, [], ◌∷◌, codes, length, option_map, refl}
 use Rattle.clap.specs.Words.{Text, one_of, subcommand_of}
 use Rattle.clap.specs.Faults.{fault_of}
 use Rattle.clap.proofs.OnLiterals.{clap_on_literals}
 use Rattle.clap.specs.declared.error.kind.ErrorKind.TheVariants as kind
 use Rattle.hy_schema.specs.declared.refusal.Refusal.TheVariants as refusals
 use Rattle.hy_schema.specs.Transactions.{refusal_of}
-use Rattle.hy_rows.specs.WorkedRows.{fresh}
+use Rattle.hy_rows.specs.Tables.{of_warehouse}
 use Rattle.hy_hyper.specs.declared.words.Line.TheVariants as line
 use Rattle.hy_hyper.specs.CommandLine.{Says, program_app}
 use Rattle.hy_hyper.specs.First.{IsYtdAfter, first_command}
@@ -69,10 +68,16 @@ pub help_option-refused : fault_of program_app (codes "--help" ∷ []) ≡ kind.
 unfolding clap_on_literals
 help_option-refused = refl
 
--- the load of three customers in each district
-pub generated-fresh : generated 3 ≡ fresh
-unfolding digits
-generated-fresh = refl
+-- with three customers in each district, each has paid once, and the one item is in stock
+pub generated-payments : length (generated 3).history ≡ 30
+generated-payments = refl
+
+pub generated-stock : length (generated 3).stock ≡ 1
+generated-stock = refl
+
+-- all rows are those of warehouse 1
+pub generated-warehouse_1 : of_warehouse 1 (generated 3) ≡ generated 3
+generated-warehouse_1 = refl
 
 -- 1.00 more are paid to the warehouse, which had 300.00
 pub first-ytd : IsYtdAfter 100 (pos 30_100)

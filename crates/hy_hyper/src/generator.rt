@@ -1,29 +1,22 @@
 //! The generated load of one warehouse.
 
-ghost use Rattle.std.specs.Prelude.{◌≡◌, ◌⊎◌, MatchResult};
+ghost use Rattle.std.specs.Prelude.{◌≡◌, MatchResult};
 ghost use Rattle.hy_rows.specs.Limits.{max_customers};
 ghost use Rattle.hy_rows.specs.Ranges.{IsBetween};
-ghost use Rattle.hy_schema.specs.Loads.{HasFault};
-ghost use Rattle.hy_hyper.specs.Generated.{generated};
+ghost use Rattle.hy_tables.specs.Generated.{generated_lists};
 
-use hy_rows::{Lists, Tables};
-use hy_schema::{Load, LoadFault, Refusal};
-use hy_tables::generated as generated_lists;
+use hy_loads::Load;
+use hy_schema::Refusal;
+use hy_tables::generated;
 use std::alloc::Global;
 
-/// The generated load of warehouse 1, with so many customers in each district. E1 where memory is refused.
+/// The generated load of warehouse 1, with so many customers in each district, and one item. E1 where memory is
+/// refused.
 pub fn generate(alloc: Global, customers: u64) -> Result<Load, Refusal>
     requires { IsBetween 1 max_customers customers }
-    ensures { MatchResult result (λ load. load ≡ generated customers)
-        (λ refusal. (refusal ≡ Refusal.NoMemory)
-        ⊎ ((fault : LoadFault) × (refusal ≡ Refusal.BadLoad fault) × HasFault (generated customers) fault)) }
+    ensures { MatchResult result (λ load. load ≡ generated_lists 1 customers 1)
+        (λ refusal. refusal ≡ Refusal.NoMemory) }
 {
-    let Lists { tables, .. } = generated_lists(alloc, 1, customers, 1)?;
-    let Tables {
-        warehouses,
-        districts,
-        customers,
-        ..
-    } = tables;
-    Load::of(warehouses, districts, customers)
+    let lists = generated(alloc, 1, customers, 1)?;
+    Load::of(alloc, lists)
 }

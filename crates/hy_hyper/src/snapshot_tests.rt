@@ -441,15 +441,15 @@ fn refuses_in_order(rt: HostRuntime) -> Result<(), Fail> {
 #[test]
 fn limits_of_a_partition(rt: HostRuntime) -> Result<(), Fail> {
     let load = generate(rt.alloc(), 3).expect(&rt, "a load");
-    match Partition::<4096>::new(rt.alloc(), &load, 1, 10, 1) {
-        Ok(_) => panic!(rt; "eleven pages in ten frames"),
+    match Partition::<4096>::new(rt.alloc(), &load, 1, 12, 1) {
+        Ok(_) => panic!(rt; "thirteen pages in twelve frames"),
         Err(refusal) => assert_eq!(rt; refusal, Refusal::NoFrame),
     }
-    let mut partition = Partition::<4096>::new(rt.alloc(), &load, 1, 11, 1).expect(
+    let mut partition = Partition::<4096>::new(rt.alloc(), &load, 1, 13, 1).expect(
         &rt,
         "a partition",
     );
-    assert!(rt; partition.free() == 0 && partition.set_max(10) == Err(Refusal::OutOfRange));
+    assert!(rt; partition.free() == 0 && partition.set_max(12) == Err(Refusal::OutOfRange));
     assert!(rt; pay(&mut partition, 100).is_ok());
     assert_eq!(rt; pay(&mut partition, 100), Err(Refusal::HistoryFull));
     Ok(())

@@ -196,6 +196,9 @@ fn generates_a_warehouse(rt: HostRuntime) -> Result<(), Fail> {
         assert!(rt; row.ytd == 3000 && row.next_order == 1);
     }
     assert_eq!(rt; load.list::<Customer>().len(), 30);
+    assert_eq!(rt; load.list::<History>().len(), 30);
+    assert!(rt; load.list::<Item>().len() == 1 && load.list::<Stock>().len() == 1);
+    assert_eq!(rt; load.list::<Order>().len(), 0);
     Ok(())
 }
 

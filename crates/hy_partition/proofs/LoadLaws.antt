@@ -6,7 +6,7 @@ use Rattle.std.proofs.lemmas.Int.{ints}
 use Rattle.hy_rows.specs.declared.customer.Customer.{Customer}
 use Rattle.hy_schema.specs.Loads.{IsLoad, IsWarehouseAt, IsDistrictAt, IsCustomerAt}
 use Rattle.hy_rows.specs.Ranges.{IsLoadedMoney, IsCustomerInRange}
-use Rattle.hy_rows.specs.Tables.{Tables, of_warehouse}
+use Rattle.hy_rows.specs.Tables.{Lists, of_warehouse}
 use Rattle.hy_partition.specs.inside.Growth.{IsGrown, IsGrownCustomer, IsGrownMoney}
 
 -- what follows of each row at its place holds of all, and so of those that pass a test
@@ -29,9 +29,15 @@ grown_customer row in_range = record {
   payment_count = omega (arith, in_range.payment_count);
 }
 
-pub IsGrown-loaded : (warehouse : ℕ) (load : Tables) → IsLoad load → IsGrown 0 (of_warehouse warehouse load)
+pub IsGrown-loaded : (warehouse : ℕ) (load : Lists) → IsLoad load → IsGrown 0 (of_warehouse warehouse load.tables)
 IsGrown-loaded warehouse load is_load = record {
-  warehouses = all_passing IsWarehouseAt _ (λ row. row.id == warehouse) load.warehouses (λ place row right. grown_loaded row.ytd right.0.ytd) is_load.warehouses.each;
-  districts = all_passing (IsDistrictAt _) _ (λ row. row.warehouse == warehouse) load.districts (λ place row right. grown_loaded row.ytd right.0.ytd) is_load.districts.each;
-  customers = all_passing (IsCustomerAt _ load.customers) _ (λ row. row.warehouse == warehouse) load.customers (λ place row right. grown_customer row right.0) is_load.customers.each;
+  warehouses =
+      all_passing IsWarehouseAt _ (λ row. row.id == warehouse) load.tables.warehouses
+      (λ place row right. grown_loaded row.ytd right.0.ytd) is_load.warehouses.each;
+  districts =
+      all_passing (IsDistrictAt _) _ (λ row. row.warehouse == warehouse) load.tables.districts
+      (λ place row right. grown_loaded row.ytd right.0.ytd) is_load.districts.each;
+  customers =
+      all_passing (IsCustomerAt _ load.tables.customers) _ (λ row. row.warehouse == warehouse) load.tables.customers
+      (λ place row right. grown_customer row right.0) is_load.customers.each;
 }

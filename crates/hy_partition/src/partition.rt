@@ -18,7 +18,8 @@ use crate::job::{Done, Job, Progress, Running};
 use crate::refusals::refusal_of_shortage;
 use crate::slices::{find_customer, run_slice};
 use crate::snapshot::Snapshot;
-use hy_schema::{Commit, Load, Refusal, Reply, Tables};
+use hy_loads::Load;
+use hy_schema::{Commit, Refusal, Reply, Tables};
 use hy_space::Space;
 use hy_undo::Undo;
 use std::alloc::Global;
@@ -70,8 +71,8 @@ impl<const N: usize> Partition<N> {
         requires some_kept { 1 ≤ max_kept }
         requires kept { max_kept ≤ most_kept }
         requires first { 1 ≤ warehouse }
-        requires last { warehouse ≤ length load.now.warehouses }
-        ensures begins { IfOk result (Begins load.now warehouse max_frames max_kept) }
+        requires last { warehouse ≤ length load.now.tables.warehouses }
+        ensures begins { IfOk result (Begins load.now.tables warehouse max_frames max_kept) }
         ensures refused { IfErr result
             (λ refusal. (refusal ≡ Refusal.NoMemory) ⊎ (refusal ≡ Refusal.NoFrame)) }
     {

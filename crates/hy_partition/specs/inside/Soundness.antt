@@ -1,6 +1,6 @@
 -- What holds of every partition, beside the counts of its frames, which its pages keep by themselves.
 use Rattle.std.specs.Prelude.{◌≡◌, ℕ, ◌<◌, ◌≤◌, length, None, MatchOption}
-use Rattle.hy_rows.specs.Tables.{Tables, of_warehouse}
+use Rattle.hy_rows.specs.Tables.{Lists, Tables, of_warehouse}
 use Rattle.hy_rows.specs.Ranges.{IsBetween}
 use Rattle.hy_schema.specs.Loads.{IsLoad}
 use Rattle.hy_schema.specs.Transactions.{refusal_of}
@@ -18,8 +18,8 @@ use Rattle.hy_partition.specs.inside.Finds.{IsCustomerSlot}
 -- the rows are those of one warehouse of a load
 abbrev pub AreLoaded : ℕ → Tables → Type 0
 AreLoaded warehouse loaded =
-    (load : Tables) × IsLoad load × IsBetween 1 (length load.warehouses) warehouse
-    × (loaded ≡ of_warehouse warehouse load)
+    (load : Lists) × IsLoad load × IsBetween 1 (length load.tables.warehouses) warehouse
+    × (loaded ≡ of_warehouse warehouse load.tables)
 
 -- a job runs: the live pages spell the rows after its slices, its customer is in the slot that begin found, and its
 -- commit has room

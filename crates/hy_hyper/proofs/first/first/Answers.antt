@@ -2,9 +2,9 @@ use Rattle.std.proofs.Common.{rules, ◌≡◌, ℤ, Result, Err, IfErr, inl, in
 use Rattle.std.proofs.lemmas.Result.{IfErr-weaker, IfOk-weaker}
 use Rattle.hy_schema.specs.declared.refusal.Refusal.{Refusal}
 use Rattle.hy_schema.specs.declared.command.Payment.{Payment}
-use Rattle.hy_rows.specs.Tables.{Tables}
+use Rattle.hy_rows.specs.Tables.{Lists}
 use Rattle.hy_hyper.specs.First.{IsFirstRefusal, IsPaid, IsPayRefusal}
-use Rattle.hy_hyper.proofs.FirstLaws.{HasBegun, err_is, first_refusal, generated_refusal, ytd_after}
+use Rattle.hy_hyper.proofs.FirstLaws.{HasBegun, err_is, first_refusal, ytd_after}
 use Rattle.hy_hyper.proofs.first.first.Goals as goal
 
 -- what refuses the payment refuses `first`
@@ -13,7 +13,7 @@ returns-in_err-pay-clause-refused c =
     let partition = c.in_ok-partition.partition in
     let refusal = c.in_err-pay.field-0.0 in
     let begins =
-    subst (λ (load : Tables). HasBegun load partition)
+    subst (λ (load : Lists). HasBegun load.tables partition)
     c.in_ok-load.ensures c.in_ok-partition.ensures.begins in
     let why =
     subst (λ (payment : Payment). IsPayRefusal partition payment refusal)
@@ -27,14 +27,14 @@ pub returns-in_err-load-clause-refused : goal.returns-in_err-load-clause-refused
 returns-in_err-load-clause-refused c =
     let is : c.from_residual.result ≡ Err c.in_err-load.field-0.0 = search rules in
     subst (λ (r : Result ℤ Refusal). IfErr r (IsFirstRefusal c.args.amount)) (sym is)
-    (generated_refusal c.args.amount c.in_err-load.field-0.0 c.in_err-load.ensures)
+    (inr (inl c.in_err-load.ensures))
 
 -- what the snapshot shows is W_YTD after the payment
 pub returns-clause-ytd : goal.returns-clause-ytd
 returns-clause-ytd c =
     let partition = c.in_ok-partition.partition in
     let begins =
-    subst (λ (load : Tables). HasBegun load partition)
+    subst (λ (load : Lists). HasBegun load.tables partition)
     c.in_ok-load.ensures c.in_ok-partition.ensures.begins in
     let paid =
     subst (λ (payment : Payment). IsPaid payment partition c.pay.new.partition)
