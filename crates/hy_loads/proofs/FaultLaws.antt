@@ -11,9 +11,9 @@ right-no_fault : {Row : Type 0} (right : ℕ → Row → Type 0) (Whole : Type 0
     → IsRight right Whole rows → IsFirstFault right Whole rows number → ⊥
 right-no_fault {Row} right Whole rows number good bad =
     elim (slice_get rows (number - 1)) as (λ (found : Option Row).
-        slice_get rows (number - 1) ≡ found → IfSome found (right (number - 1))
-        → MatchOption found ((number ≡ length rows + 1) × ¬ Whole)
-        (λ row. (number ≡ max_rows + 1) ⊎ ¬ (right (number - 1) row)) → ⊥) [
+    slice_get rows (number - 1) ≡ found → IfSome found (right (number - 1))
+    → MatchOption found ((number ≡ length rows + 1) × ¬ Whole)
+    (λ row. (number ≡ max_rows + 1) ⊎ ¬ (right (number - 1) row)) → ⊥) [
       | None ↦ λ is here missing. missing.1 good.whole
       | Some row ↦ λ is here wrong. elim wrong [
         | inl many ↦ absurd (omega (arith, slice_get_within rows (number - 1) row is, good.few, many))

@@ -36,5 +36,16 @@ IfErr-weaker (Err error) P Q weaker holds = weaker error holds
 pub HasFault-orders : (ends : FileEnds) (lists : Lists) (fault : LoadFault) → AreBaseRight ends lists
     → HasFaultInOrders ends lists fault → HasFault ends lists fault
 HasFault-orders ends lists fault base later =
-    inr (base.warehouses_end, base.warehouses, inr (base.districts_end, base.districts, inr (base.customers_end,
-    base.customers, inr (base.items_end, base.items, inr (base.stock_end, base.stock, later)))))
+    inr (
+      base.warehouses_end,
+      base.warehouses,
+      inr (
+        base.districts_end,
+        base.districts,
+        inr (
+          base.customers_end,
+          base.customers,
+          inr (base.items_end, base.items, inr (base.stock_end, base.stock, later)),
+        ),
+      ),
+    )

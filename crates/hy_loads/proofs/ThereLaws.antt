@@ -80,8 +80,7 @@ HasDistricts-right warehouses rows right warehouse number = (there, back)
         let key = and_parts (at.1.warehouse == warehouse) (at.1.id == number) at.4 in
         let home : at.1.warehouse ≡ warehouse = eqb-true at.1.warehouse warehouse key.0 in
         let own : at.1.id ≡ number = eqb-true at.1.id number key.1 in
-        let low = (bounds 1 16 at.1.warehouse here.0.warehouse).0 in
-        (
+        let low = (bounds 1 16 at.1.warehouse here.0.warehouse).0 in (
           IsBetween-bounds 1 warehouses warehouse (omega (arith, home, low)) (omega (arith, home, here.3)),
           subst (IsBetween 1 10) own here.0.id,
         )

@@ -24,9 +24,13 @@ impl Rule<Warehouse, ()> for WarehouseRule<'_> {
     ghost use Rattle.std.specs.Prelude.{⊤};
 
     ghost rows = { λ rule. rule.rows.now };
+
     ghost right = { λ rule. IsWarehouseAt };
+
     ghost Whole = { λ rule. HasSome rule.rows.now };
+
     ghost holds = { λ rule. ⊤ };
+
     ghost has_seen = { λ seen rows. ⊤ };
 
     fn rows(&self) -> &[Warehouse] {
@@ -53,9 +57,13 @@ impl Rule<District, ()> for DistrictRule<'_> {
     ghost use Rattle.std.specs.Prelude.{⊤};
 
     ghost rows = { λ rule. rule.rows.now };
+
     ghost right = { λ rule. IsDistrictAt rule.warehouses };
+
     ghost Whole = { λ rule. HasAllDistricts rule.warehouses rule.rows.now };
+
     ghost holds = { λ rule. rule.warehouses ≤ max_warehouses };
+
     ghost has_seen = { λ seen rows. ⊤ };
 
     fn rows(&self) -> &[District] {
@@ -64,10 +72,12 @@ impl Rule<District, ()> for DistrictRule<'_> {
 
     fn is_right(&self, _seen: &mut (), place: usize, row: &District) -> Result<bool, AllocError> {
         let count = usize::from(DISTRICTS_PER_WAREHOUSE);
-        Ok(row.is_in_range()
-            && usize::from(row.warehouse) == place / count + 1
-            && usize::from(row.id) == place % count + 1
-            && usize::from(row.warehouse) <= self.warehouses)
+        Ok(
+            row.is_in_range()
+                && usize::from(row.warehouse) == place / count + 1
+                && usize::from(row.id) == place % count + 1
+                && usize::from(row.warehouse) <= self.warehouses,
+        )
     }
 
     fn is_whole(&self) -> bool {
@@ -87,9 +97,13 @@ impl Rule<Customer, IndexSet<CustomerKey>> for CustomerRule<'_> {
     ghost use Rattle.std.specs.Prelude.{⊤};
 
     ghost rows = { λ rule. rule.rows.now };
+
     ghost right = { λ rule. IsCustomerAt rule.warehouses rule.rows.now };
+
     ghost Whole = { λ rule. HasAllCustomers rule.warehouses rule.rows.now };
+
     ghost holds = { λ rule. ⊤ };
+
     ghost has_seen = { λ seen rows. HasKeys same_customer is_customer_by seen rows };
 
     fn rows(&self) -> &[Customer] {
@@ -175,9 +189,13 @@ impl Rule<Item, ()> for ItemRule<'_> {
     ghost use Rattle.std.specs.Prelude.{⊤};
 
     ghost rows = { λ rule. rule.rows.now };
+
     ghost right = { λ rule. IsItemAt };
+
     ghost Whole = { λ rule. HasSome rule.rows.now };
+
     ghost holds = { λ rule. ⊤ };
+
     ghost has_seen = { λ seen rows. ⊤ };
 
     fn rows(&self) -> &[Item] {
@@ -205,10 +223,14 @@ impl Rule<Stock, ()> for StockRule<'_> {
     ghost use Rattle.std.specs.Prelude.{⊤};
 
     ghost rows = { λ rule. rule.rows.now };
+
     ghost right = { λ rule. IsStockAt rule.warehouses rule.items };
+
     ghost Whole = { λ rule. HasAllStock rule.warehouses rule.items rule.rows.now };
+
     ghost holds = { λ rule.
         (rule.warehouses ≤ max_warehouses) × (0 < rule.items) × (rule.items ≤ max_rows) };
+
     ghost has_seen = { λ seen rows. ⊤ };
 
     fn rows(&self) -> &[Stock] {
@@ -216,10 +238,12 @@ impl Rule<Stock, ()> for StockRule<'_> {
     }
 
     fn is_right(&self, _seen: &mut (), place: usize, row: &Stock) -> Result<bool, AllocError> {
-        Ok(row.is_in_range()
-            && usize::from(row.warehouse) == place / self.items + 1
-            && row.item as usize == place % self.items + 1
-            && usize::from(row.warehouse) <= self.warehouses)
+        Ok(
+            row.is_in_range()
+                && usize::from(row.warehouse) == place / self.items + 1
+                && row.item as usize == place % self.items + 1
+                && usize::from(row.warehouse) <= self.warehouses,
+        )
     }
 
     fn is_whole(&self) -> bool {

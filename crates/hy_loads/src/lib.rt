@@ -9,3 +9,6 @@ mod load;
 mod orders;
 
 pub use load::Load;
+
+#[cfg(test)]
+mod tests;

@@ -107,10 +107,7 @@ fn is_complete<R, S, L: Rule<R, S>>(end: FileEnd, rule: &L) -> bool
 }
 
 /// The number of the first row that is wrong or one too many, if there is one.
-fn first_wrong<R: Copy, S, L: Rule<R, S>>(
-    rule: &L,
-    seen: &mut S,
-) -> Result<Option<u64>, AllocError>
+fn first_wrong<R: Copy, S, L: Rule<R, S>>(rule: &L, seen: &mut S) -> Result<Option<u64>, AllocError>
     requires holds { L.holds rule.now }
     requires seen { L.has_seen seen.old [] }
     ensures right { IfOk result (λ number. IfNone number (IsRight (L.right rule.now) ⊤ (L.rows rule.now))) }

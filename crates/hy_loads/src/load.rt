@@ -9,9 +9,7 @@ ghost use Rattle.hy_loads.specs.There.{HasCustomers, HasKeys, is_customer_by};
 
 use crate::base::{CustomerRule, DistrictRule, ItemRule, StockRule, WarehouseRule};
 use crate::list::check_list;
-use crate::orders::{
-    Customers, HistoryRule, NewOrderRule, OrderLineRule, OrderRule, Orders,
-};
+use crate::orders::{Customers, HistoryRule, NewOrderRule, OrderLineRule, OrderRule, Orders};
 use hy_conditions::{CustomerKey, first_broken};
 use hy_rows::{Listed, Lists, Tables, Warehouse};
 use hy_schema::{FileEnd, FileEnds, LoadFault, Refusal, Table};
@@ -114,7 +112,7 @@ impl Load {
         ensures { (warehouse : ℕ) (commits : List Commit)
             → IsBetween 1 (length self.now.tables.warehouses) warehouse
             → IsConsistent warehouse
-                (replay warehouse (of_warehouse warehouse self.now.tables) commits) }
+            (replay warehouse (of_warehouse warehouse self.now.tables) commits) }
     {
         self.sound();
     }

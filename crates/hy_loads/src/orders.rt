@@ -78,10 +78,14 @@ pub(crate) struct OrderRule<'a> {
 
 impl Rule<Order, IndexSet<OrderKey>> for OrderRule<'_> {
     ghost rows = { λ rule. rule.rows.now };
+
     ghost right = { λ rule.
         IsOrderAt rule.customers.districts.now rule.customers.rows.now rule.rows.now };
+
     ghost Whole = { λ rule. ⊤ };
+
     ghost holds = { λ rule. HasCustomers rule.customers };
+
     ghost has_seen = { λ seen rows. HasKeys same_order is_order_with seen rows };
 
     fn rows(&self) -> &[Order] {
@@ -112,7 +116,7 @@ fn is_order_of(customers: &Customers<'_>, row: &Order) -> bool
     ensures { IsTrue result ↔ (IsOrderInRange row.now
         × IsTrue (list_any (is_district row.now.warehouse row.now.district) customers.now.districts.now)
         × IsTrue (list_any (is_customer row.now.warehouse row.now.district row.now.customer)
-            customers.now.rows.now)) }
+        customers.now.rows.now)) }
 {
     row.is_in_range()
         && customers.has_district(row.warehouse, row.district)
@@ -128,9 +132,13 @@ pub(crate) struct NewOrderRule<'a> {
 
 impl Rule<NewOrder, IndexSet<OrderKey>> for NewOrderRule<'_> {
     ghost rows = { λ rule. rule.rows.now };
+
     ghost right = { λ rule. IsNewOrderAt rule.orders.rows.now rule.rows.now };
+
     ghost Whole = { λ rule. ⊤ };
+
     ghost holds = { λ rule. HasOrders rule.orders };
+
     ghost has_seen = { λ seen rows. HasKeys same_order is_new_order_with seen rows };
 
     fn rows(&self) -> &[NewOrder] {
@@ -175,10 +183,14 @@ pub(crate) struct OrderLineRule<'a> {
 
 impl Rule<OrderLine, IndexSet<LineKey>> for OrderLineRule<'_> {
     ghost rows = { λ rule. rule.rows.now };
+
     ghost right = { λ rule.
         IsOrderLineAt rule.warehouses.now rule.items.now rule.orders.rows.now rule.rows.now };
+
     ghost Whole = { λ rule. ⊤ };
+
     ghost holds = { λ rule. KnowsLines rule };
+
     ghost has_seen = { λ seen rows. HasKeys same_line is_line_with seen rows };
 
     fn rows(&self) -> &[OrderLine] {
@@ -211,7 +223,7 @@ impl OrderLineRule<'_> {
         requires { KnowsLines self.now }
         ensures { IsTrue result ↔ (IsOrderLineInRange row.now
             × IsTrue (list_any (is_order row.now.warehouse row.now.district row.now.order)
-                self.now.orders.rows.now)
+            self.now.orders.rows.now)
             × IsTrue (list_any (is_item row.now.item) self.now.items.now)
             × IsTrue (list_any (is_warehouse row.now.supply_warehouse) self.now.warehouses.now)) }
     {
@@ -231,9 +243,13 @@ pub(crate) struct HistoryRule<'a> {
 
 impl Rule<History, ()> for HistoryRule<'_> {
     ghost rows = { λ rule. rule.rows.now };
+
     ghost right = { λ rule. IsHistoryAt rule.customers.districts.now rule.customers.rows.now };
+
     ghost Whole = { λ rule. ⊤ };
+
     ghost holds = { λ rule. HasCustomers rule.customers };
+
     ghost has_seen = { λ seen rows. ⊤ };
 
     fn rows(&self) -> &[History] {
@@ -241,9 +257,11 @@ impl Rule<History, ()> for HistoryRule<'_> {
     }
 
     fn is_right(&self, _seen: &mut (), _place: usize, row: &History) -> Result<bool, AllocError> {
-        Ok(row.is_in_range()
-            && self.customers.has_district(row.warehouse, row.district)
-            && self.customers.has(row.customer_warehouse, row.customer_district, row.customer))
+        Ok(
+            row.is_in_range()
+                && self.customers.has_district(row.warehouse, row.district)
+                && self.customers.has(row.customer_warehouse, row.customer_district, row.customer),
+        )
     }
 
     fn is_whole(&self) -> bool {

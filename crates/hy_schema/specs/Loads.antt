@@ -73,7 +73,6 @@ IsStockAt warehouses items place row =
     IsStockInRange row
     × (row.warehouse ≡ place / items + 1) × (row.item ≡ place % items + 1) × (row.warehouse ≤ warehouses)
 
-
 -- ORDER: the key is new; the district and the customer are there
 abbrev pub IsOrderAt : List District → List Customer → List Order → ℕ → Order → Type 0
 IsOrderAt districts customers rows place row =

@@ -6,12 +6,12 @@ mod files;
 mod refusal;
 
 pub use command::{Command, Commit, MAX_PAYMENT, MIN_PAYMENT, Payment, Reply, Who};
+pub use files::{FileEnd, FileEnds};
 pub use hy_rows::{
     Customer, DISTRICTS_PER_WAREHOUSE, District, History, MAX_CENTS, MAX_COUNT, MAX_CUSTOMERS,
     MAX_MOMENT, MAX_ORDER, MAX_RATE, MAX_WAREHOUSES, NewOrder, Order, OrderLine, Row, SEGMENTS,
     SlotBytes, Stock, Tables, Text, Warehouse,
 };
-pub use files::{FileEnd, FileEnds};
 pub use refusal::{LoadFault, Refusal, Table};
 
 #[cfg(test)]

@@ -1,4 +1,4 @@
-//! Refusals, loads, rows and commands on examples.
+//! Refusals, rows and commands on examples.
 
 use super::*;
 use hy_rows::Item;
@@ -6,45 +6,28 @@ use std::alloc::Global;
 use std::process::Abort;
 use std::test::Fail;
 
-/// The three lists of a load.
-#[derive(Drop)]
-struct Lists {
-    warehouses: Vec<Warehouse>,
-    districts: Vec<District>,
-    customers: Vec<Customer>,
-}
-
-impl Lists {
-    /// A fresh warehouse with ten districts of three customers.
-    fn fresh(rt: &impl Abort, alloc: Global) -> Result<Lists, Fail> {
-        let mut warehouses = Vec::new(alloc);
-        warehouses.push(warehouse(rt))?;
-        let mut districts = Vec::new(alloc);
-        let mut customers = Vec::new(alloc);
-        for number in 1..=10 {
-            districts.push(district(rt, number))?;
-            for id in 1..=3 {
-                customers.push(customer(rt, number, id))?;
-            }
+/// A fresh warehouse with ten districts of three customers.
+fn fresh(rt: &impl Abort, alloc: Global) -> Result<Tables, Fail> {
+    let mut warehouses = Vec::new(alloc);
+    warehouses.push(warehouse(rt))?;
+    let mut districts = Vec::new(alloc);
+    let mut customers = Vec::new(alloc);
+    for number in 1..=10 {
+        districts.push(district(rt, number))?;
+        for id in 1..=3 {
+            customers.push(customer(rt, number, id))?;
         }
-        assert_eq!(rt; districts.len(), 10);
-        assert_eq!(rt; customers.len(), 30);
-        Ok(Lists {
-            warehouses,
-            districts,
-            customers,
-        })
     }
-
-    /// Why the lists are no load.
-    fn refusal(self) -> Option<Refusal> {
-        let Lists {
-            warehouses,
-            districts,
-            customers,
-        } = self;
-        Load::of(warehouses, districts, customers).err()
-    }
+    Ok(Tables {
+        warehouses,
+        districts,
+        customers,
+        history: Vec::new(alloc),
+        new_orders: Vec::new(alloc),
+        orders: Vec::new(alloc),
+        order_lines: Vec::new(alloc),
+        stock: Vec::new(alloc),
+    })
 }
 
 fn text<const WIDTH: usize>(rt: &impl Abort, bytes: &[u8]) -> Text<WIDTH> {
@@ -88,14 +71,6 @@ fn customer(rt: &impl Abort, district: u8, id: u16) -> Customer {
     }
 }
 
-fn row_fault(table: Table, number: u64) -> Option<Refusal> {
-    Some(Refusal::BadLoad(LoadFault::Row(table, number)))
-}
-
-fn condition_fault(number: u8) -> Option<Refusal> {
-    Some(Refusal::BadLoad(LoadFault::Condition(number)))
-}
-
 #[test]
 fn refusals_print_their_numbers_and_names(rt: HostRuntime) -> Result<(), Fail> {
     let cases = [
@@ -123,6 +98,30 @@ fn refusals_print_their_numbers_and_names(rt: HostRuntime) -> Result<(), Fail> {
             "E12 BadLoad CUSTOMER row 30",
         ),
         (
+            Refusal::BadLoad(LoadFault::Row(Table::Item, 0)),
+            "E12 BadLoad ITEM row 0",
+        ),
+        (
+            Refusal::BadLoad(LoadFault::Row(Table::Stock, 40)),
+            "E12 BadLoad STOCK row 40",
+        ),
+        (
+            Refusal::BadLoad(LoadFault::Row(Table::Order, 1)),
+            "E12 BadLoad ORDER row 1",
+        ),
+        (
+            Refusal::BadLoad(LoadFault::Row(Table::NewOrder, 2)),
+            "E12 BadLoad NEW-ORDER row 2",
+        ),
+        (
+            Refusal::BadLoad(LoadFault::Row(Table::OrderLine, 5)),
+            "E12 BadLoad ORDER-LINE row 5",
+        ),
+        (
+            Refusal::BadLoad(LoadFault::Row(Table::History, 61)),
+            "E12 BadLoad HISTORY row 61",
+        ),
+        (
             Refusal::BadLoad(LoadFault::Condition(1)),
             "E12 BadLoad condition 1",
         ),
@@ -139,98 +138,15 @@ fn refusals_print_their_numbers_and_names(rt: HostRuntime) -> Result<(), Fail> {
 }
 
 #[test]
-fn load_of_fresh_lists(rt: HostRuntime) -> Result<(), Fail> {
-    let Lists {
-        warehouses,
-        districts,
-        customers,
-    } = Lists::fresh(&rt, rt.alloc())?;
-    let load = Load::of(warehouses, districts, customers)?;
-    load.sound();
-    load.keys_are_unique();
-    load.conditions_are_kept();
-    assert_eq!(rt; load.list::<Warehouse>().len(), 1);
-    assert_eq!(rt; load.list::<District>().len(), 10);
-    assert_eq!(rt; load.list::<Customer>().len(), 30);
-    assert_eq!(rt; load.list::<Warehouse>().first(), Some(&warehouse(&rt)));
-    assert_eq!(rt; load.list::<District>().first(), Some(&district(&rt, 1)));
-    assert_eq!(rt; load.list::<Customer>().last(), Some(&customer(&rt, 10, 3)));
-    Ok(())
-}
-
-#[test]
 fn tables_of_one_warehouse(rt: HostRuntime) -> Result<(), Fail> {
-    let Lists {
-        warehouses,
-        districts,
-        customers,
-    } = Lists::fresh(&rt, rt.alloc())?;
-    let load = Load::of(warehouses, districts, customers)?;
-    let own = load.tables().of_warehouse(rt.alloc(), 1)?;
+    let tables = fresh(&rt, rt.alloc())?;
+    let own = tables.of_warehouse(rt.alloc(), 1)?;
     assert_eq!(rt; own.list::<Warehouse>().len(), 1);
-    assert_eq!(rt; own.list::<District>(), load.list::<District>());
+    assert_eq!(rt; own.list::<District>(), tables.list::<District>());
     assert_eq!(rt; own.list::<Customer>().len(), 30);
-    let other = load.tables().of_warehouse(rt.alloc(), 2)?;
+    let other = tables.of_warehouse(rt.alloc(), 2)?;
     assert_eq!(rt; other.list::<Warehouse>().is_empty(), true);
     assert_eq!(rt; other.list::<Customer>().is_empty(), true);
-    Ok(())
-}
-
-#[test]
-fn load_names_missing_rows(rt: HostRuntime) -> Result<(), Fail> {
-    let mut lists = Lists::fresh(&rt, rt.alloc())?;
-    lists.warehouses.clear();
-    assert_eq!(rt; lists.refusal(), row_fault(Table::Warehouse, 1));
-    let mut lists = Lists::fresh(&rt, rt.alloc())?;
-    lists.districts.clear();
-    assert_eq!(rt; lists.refusal(), row_fault(Table::District, 1));
-    let mut lists = Lists::fresh(&rt, rt.alloc())?;
-    lists.customers.clear();
-    assert_eq!(rt; lists.refusal(), row_fault(Table::Customer, 1));
-    let mut lists = Lists::fresh(&rt, rt.alloc())?;
-    lists.districts.truncate(9);
-    assert_eq!(rt; lists.refusal(), row_fault(Table::District, 10));
-    let mut lists = Lists::fresh(&rt, rt.alloc())?;
-    lists.customers.truncate(27);
-    assert_eq!(rt; lists.refusal(), row_fault(Table::Customer, 28));
-    Ok(())
-}
-
-#[test]
-fn load_names_wrong_rows(rt: HostRuntime) -> Result<(), Fail> {
-    let mut lists = Lists::fresh(&rt, rt.alloc())?;
-    lists.warehouses.push(warehouse(&rt))?;
-    assert_eq!(rt; lists.refusal(), row_fault(Table::Warehouse, 2));
-    let mut lists = Lists::fresh(&rt, rt.alloc())?;
-    lists.districts.truncate(4);
-    lists.districts.push(district(&rt, 6))?;
-    assert_eq!(rt; lists.refusal(), row_fault(Table::District, 5));
-    let mut lists = Lists::fresh(&rt, rt.alloc())?;
-    lists.customers.truncate(4);
-    let mut row = customer(&rt, 2, 2);
-    row.credit = text(&rt, b"XX");
-    lists.customers.push(row)?;
-    assert_eq!(rt; lists.refusal(), row_fault(Table::Customer, 5));
-    let mut lists = Lists::fresh(&rt, rt.alloc())?;
-    lists.districts.push(district(&rt, 1))?;
-    lists.customers.clear();
-    assert_eq!(rt; lists.refusal(), row_fault(Table::District, 11));
-    Ok(())
-}
-
-#[test]
-fn load_names_broken_conditions(rt: HostRuntime) -> Result<(), Fail> {
-    let mut lists = Lists::fresh(&rt, rt.alloc())?;
-    lists.warehouses.clear();
-    let mut row = warehouse(&rt);
-    row.ytd = 30_001;
-    lists.warehouses.push(row)?;
-    assert_eq!(rt; lists.refusal(), condition_fault(1));
-    let mut lists = Lists::fresh(&rt, rt.alloc())?;
-    let mut row = customer(&rt, 10, 4);
-    row.balance = -999;
-    lists.customers.push(row)?;
-    assert_eq!(rt; lists.refusal(), condition_fault(12));
     Ok(())
 }
 

@@ -13,8 +13,8 @@ loop-place-preserved g c =
     let row = c.index-rows-place.result in
     let here = c.in_ok-is_right.ensures in
     let one_more : take (place + 1) rows ≡ take place rows ++ row ∷ [] =
-        take_more rows place row c.loop-place-test.true
-        ∙ ap (λ last. take place rows ++ last ∷ []) (sym c.index-rows-place.is) in
+    take_more rows place row c.loop-place-test.true
+    ∙ ap (λ last. take place rows ++ last ∷ []) (sym c.index-rows-place.is) in
     let seen = here.seen c.if-not-branch.false in
     record {
       right =

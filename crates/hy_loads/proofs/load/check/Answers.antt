@@ -43,8 +43,11 @@ returns-in_err-check_list-clause-fault c =
     (IsRefusalOf-row table.History ends.history (IsHistoryAt tables.districts tables.customers) ⊤ tables.history ends
     lists _
     (λ fault here.
-      HasFault-orders ends lists fault c.in_ok-check_base.ensures.right (inr (orders.orders_end, orders.orders,
-      inr (orders.new_orders_end, orders.new_orders, inr (orders.order_lines_end, orders.order_lines, inl here)))))
+    HasFault-orders ends lists fault c.in_ok-check_base.ensures.right (inr (
+      orders.orders_end,
+      orders.orders,
+      inr (orders.new_orders_end, orders.new_orders, inr (orders.order_lines_end, orders.order_lines, inl here)),
+    )))
     why)
 
 -- the rows are right, and break a condition
@@ -56,8 +59,22 @@ returns-clause-fault c =
     let history = rw (c.list-2.ensures, c.list-3.ensures, c.list-rows.ensures) at c.in_ok-check_list.ensures.right in
     let fault = faults.Condition c.in-Some.number in
     let broken : first_broken lists.tables ≡ Some c.in-Some.number =
-        sym (ap (λ (all : Lists). first_broken all.tables) c.lists.view_is)
-        ∙ sym c.in_ok-first_broken.ensures ∙ c.in-Some.is in
-    inr (fault, refl, HasFault-orders ends lists fault c.in_ok-check_base.ensures.right (inr (orders.orders_end,
-    orders.orders, inr (orders.new_orders_end, orders.new_orders, inr (orders.order_lines_end, orders.order_lines,
-    inr (c.in_ok-check_list.ensures.end, history, (c.in-Some.number, refl, broken)))))))
+    sym (ap (λ (all : Lists). first_broken all.tables) c.lists.view_is)
+    ∙ sym c.in_ok-first_broken.ensures ∙ c.in-Some.is in
+    inr (
+      fault,
+      refl,
+      HasFault-orders ends lists fault c.in_ok-check_base.ensures.right (inr (
+        orders.orders_end,
+        orders.orders,
+        inr (
+          orders.new_orders_end,
+          orders.new_orders,
+          inr (
+            orders.order_lines_end,
+            orders.order_lines,
+            inr (c.in_ok-check_list.ensures.end, history, (c.in-Some.number, refl, broken)),
+          ),
+        ),
+      )),
+    )

@@ -24,7 +24,7 @@ returns-in_err-check_list-3-clause-fault c =
     (IsRefusalOf-row table.Customer ends.customers (IsCustomerAt count tables.customers)
     (HasAllCustomers count tables.customers) tables.customers ends lists _
     (λ fault here.
-      inr (c.in_ok-check_list.ensures.end, warehouses, inr (c.in_ok-check_list-2.ensures.end, districts, inl here)))
+    inr (c.in_ok-check_list.ensures.end, warehouses, inr (c.in_ok-check_list-2.ensures.end, districts, inl here)))
     why)
 
 -- the first fault is one of ITEM
@@ -40,8 +40,15 @@ returns-in_err-check_list-4-clause-fault c =
     IfErr-this _ _ (IsRefusalOf ends lists) c.from_residual-in_err-check_list-4.ensures.1
     (IsRefusalOf-row table.Item ends.items IsItemAt (HasSome lists.items) lists.items ends lists _
     (λ fault here.
-      inr (c.in_ok-check_list.ensures.end, warehouses, inr (c.in_ok-check_list-2.ensures.end, districts,
-      inr (c.in_ok-check_list-3.ensures.end, customers, inl here))))
+    inr (
+      c.in_ok-check_list.ensures.end,
+      warehouses,
+      inr (
+        c.in_ok-check_list-2.ensures.end,
+        districts,
+        inr (c.in_ok-check_list-3.ensures.end, customers, inl here),
+      ),
+    ))
     why)
 
 -- the first fault is one of STOCK
@@ -57,15 +64,29 @@ returns-clause-fault c =
     let customers = rw (c.list-rows.ensures, c.list-rows-3.ensures) at c.in_ok-check_list-3.ensures.right in
     let item_rows = rw c.list-rows-4.ensures at c.in_ok-check_list-4.ensures.right in
     let why =
-        rw (c.list-rows.ensures, c.list-rows-4.ensures, c.list-rows-5.ensures) at c.check_list-5.ensures.fault in
+    rw (c.list-rows.ensures, c.list-rows-4.ensures, c.list-rows-5.ensures) at c.check_list-5.ensures.fault in
     let right = IsStockAt count items in
     let Whole = HasAllStock count items tables.stock in
     IfErr-weaker c.check_list-5.result (IsRowRefusal table.Stock ends.stock right Whole tables.stock)
     (IsRefusalOf ends lists)
     (λ refusal.
-      IsRefusalOf-row table.Stock ends.stock right Whole tables.stock ends lists refusal
-      (λ fault here.
-        inr (c.in_ok-check_list.ensures.end, warehouses, inr (c.in_ok-check_list-2.ensures.end, districts,
-        inr (c.in_ok-check_list-3.ensures.end, customers, inr (c.in_ok-check_list-4.ensures.end, item_rows,
-        inl here))))))
+    IsRefusalOf-row table.Stock ends.stock right Whole tables.stock ends lists refusal
+    (λ fault here.
+    inr (
+      c.in_ok-check_list.ensures.end,
+      warehouses,
+      inr (
+        c.in_ok-check_list-2.ensures.end,
+        districts,
+        inr (
+          c.in_ok-check_list-3.ensures.end,
+          customers,
+          inr (
+            c.in_ok-check_list-4.ensures.end,
+            item_rows,
+            inl here,
+          ),
+        ),
+      ),
+    )))
     why

@@ -14,13 +14,13 @@ returns-in_err-check_list-2-clause-fault c =
     let tables = lists.tables in
     let ends = c.args.ends in
     let orders =
-        rw (c.requires.districts, c.requires.rows, c.list-order_rows.ensures) at c.in_ok-check_list.ensures.right in
+    rw (c.requires.districts, c.requires.rows, c.list-order_rows.ensures) at c.in_ok-check_list.ensures.right in
     let why = rw (c.list-order_rows.ensures, c.list-rows.ensures) at c.in_err-check_list-2.ensures.fault in
     IfErr-this _ _ (IsRefusalOf ends lists) c.from_residual-in_err-check_list-2.ensures.1
     (IsRefusalOf-row table.NewOrder ends.new_orders (IsNewOrderAt tables.orders tables.new_orders) ⊤ tables.new_orders
     ends lists _
     (λ fault here.
-      HasFault-orders ends lists fault c.requires.base (inr (c.in_ok-check_list.ensures.end, orders, inl here)))
+    HasFault-orders ends lists fault c.requires.base (inr (c.in_ok-check_list.ensures.end, orders, inl here)))
     why)
 
 -- the orders, the warehouses and the items are known
@@ -38,16 +38,19 @@ returns-clause-fault c =
     let tables = lists.tables in
     let ends = c.args.ends in
     let orders =
-        rw (c.requires.districts, c.requires.rows, c.list-order_rows.ensures) at c.in_ok-check_list.ensures.right in
+    rw (c.requires.districts, c.requires.rows, c.list-order_rows.ensures) at c.in_ok-check_list.ensures.right in
     let new_orders = rw (c.list-order_rows.ensures, c.list-rows.ensures) at c.in_ok-check_list-2.ensures.right in
     let why =
-        rw (c.list-order_rows.ensures, c.list.ensures, c.list-2.ensures, c.list-3.ensures) at c.check_list-3.ensures.fault in
+    rw (c.list-order_rows.ensures, c.list.ensures, c.list-2.ensures, c.list-3.ensures) at c.check_list-3.ensures.fault in
     let right = IsOrderLineAt tables.warehouses lists.items tables.orders tables.order_lines in
     IfErr-weaker c.check_list-3.result (IsRowRefusal table.OrderLine ends.order_lines right ⊤ tables.order_lines)
     (IsRefusalOf ends lists)
     (λ refusal.
-      IsRefusalOf-row table.OrderLine ends.order_lines right ⊤ tables.order_lines ends lists refusal
-      (λ fault here.
-        HasFault-orders ends lists fault c.requires.base (inr (c.in_ok-check_list.ensures.end, orders,
-        inr (c.in_ok-check_list-2.ensures.end, new_orders, inl here)))))
+    IsRefusalOf-row table.OrderLine ends.order_lines right ⊤ tables.order_lines ends lists refusal
+    (λ fault here.
+    HasFault-orders ends lists fault c.requires.base (inr (
+      c.in_ok-check_list.ensures.end,
+      orders,
+      inr (c.in_ok-check_list-2.ensures.end, new_orders, inl here),
+    ))))
     why

@@ -15,8 +15,8 @@ returns-clause-decides c =
     let before = take c.args._place c.args.self.now.rows.now in
     let own : OrderKey → LineKey = λ order. record { order = order; number = row.number } in
     let there =
-        c.requires.seen (own c.order_key-order.result)
-        ∙ ap (λ order. list_any (is_line_with (own order)) before) c.order_key-order.ensures in
+    c.requires.seen (own c.order_key-order.result)
+    ∙ ap (λ order. list_any (is_line_with (own order)) before) c.order_key-order.ensures in
     decides-new c.in_ok-is_new.is_new (list_any (is_line row.warehouse row.district row.order row.number) before)
     (c.if-not-is_line.ensures.0 refl)
     (λ rest new. (rest.0, new, rest.1, rest.2, rest.3)) (λ right. right.1) (c.in_ok-is_new.ensures.added ∙ ap not there)
