@@ -1,15 +1,20 @@
 //! Rounds over a partition of one warehouse.
 
+use hy_loads::Load;
 use hy_partition::{Job, Partition};
-use hy_schema::{Command, Customer, District, Load, Payment, Refusal, Reply, Text, Warehouse, Who};
-use std::alloc::{AllocError, Global};
+use hy_rows::Warehouse;
+use hy_schema::{Command, Payment, Refusal, Reply, Who};
+use hy_tables::generated;
+use std::alloc::Global;
 
 /// The bytes of a page.
 const SIZE: usize = 4096;
 
-/// Payments of the first customer of the first district, in a warehouse with so many customers in each district.
+/// Payments of the first customer of the first district, in a generated warehouse with so many customers in each
+/// district and one item.
 pub fn run(alloc: Global, rounds: u64, customers: u64) -> Option<u64> {
-    let load = load_with(alloc, (customers % 3001) as u16).ok()?;
+    let lists = generated(alloc, 1, customers % 3001, 1).ok()?;
+    let load = Load::of(alloc, lists).ok()?;
     if load.list::<Warehouse>().is_empty() {
         return None;
     }
@@ -47,82 +52,5 @@ fn pay(partition: &mut Partition<SIZE>) -> Result<(), Refusal> {
             Reply::Refused(refusal) => Err(refusal),
         },
         None => Err(Refusal::NotRunning),
-    }
-}
-
-/// A warehouse of ten districts.
-fn load_with(alloc: Global, customers: u16) -> Result<Load, Refusal> {
-    let mut warehouses = Vec::new(alloc);
-    let mut districts = Vec::new(alloc);
-    let mut people = Vec::new(alloc);
-    let share = 1000 * i64::from(customers);
-    if warehouses.push(warehouse(10 * share)).is_err() {
-        return Err(Refusal::NoMemory);
-    }
-    for before in 0..10 {
-        let number = before + 1;
-        if districts.push(district(number, share)).is_err()
-            || add_customers(&mut people, number, customers).is_err()
-        {
-            return Err(Refusal::NoMemory);
-        }
-    }
-    Load::of(warehouses, districts, people)
-}
-
-/// Adds the customers of a district.
-fn add_customers(
-    people: &mut Vec<Customer>,
-    district: u8,
-    customers: u16,
-) -> Result<(), AllocError> {
-    for before in 0..customers {
-        people.push(customer(district, before + 1))?;
-    }
-    Ok(())
-}
-
-fn warehouse(ytd: i64) -> Warehouse {
-    Warehouse {
-        id: 1,
-        name: text(b"Lake"),
-        tax: 700,
-        ytd,
-    }
-}
-
-fn district(id: u8, ytd: i64) -> District {
-    District {
-        id,
-        warehouse: 1,
-        name: text(b"Shore"),
-        tax: 300,
-        ytd,
-        next_order: 1,
-    }
-}
-
-fn customer(district: u8, id: u16) -> Customer {
-    Customer {
-        id,
-        district,
-        warehouse: 1,
-        first: text(b"Ada"),
-        middle: text(b"OE"),
-        last: text(b"ABLEPRIESE"),
-        credit: text(b"GC"),
-        discount: 900,
-        balance: -1000,
-        ytd_payment: 1000,
-        payment_count: 1,
-        delivery_count: 0,
-    }
-}
-
-/// A text with these bytes, or an empty one where they are no such text.
-fn text<const WIDTH: usize>(bytes: &[u8]) -> Text<WIDTH> {
-    match Text::new(bytes) {
-        Some(text) => text,
-        None => Text::of_field(&[0; WIDTH]),
     }
 }
