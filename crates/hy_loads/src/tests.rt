@@ -110,8 +110,41 @@ fn line(number: u8) -> OrderLine {
     }
 }
 
+/// The rows of a load, before they are one.
+#[derive(Drop)]
+struct NineLists {
+    warehouses: Vec<Warehouse>,
+    districts: Vec<District>,
+    customers: Vec<Customer>,
+    items: Vec<Item>,
+    stock: Vec<Stock>,
+    orders: Vec<Order>,
+    new_orders: Vec<NewOrder>,
+    order_lines: Vec<OrderLine>,
+    history: Vec<History>,
+}
+
+impl NineLists {
+    /// The lists of these rows.
+    fn into_lists(self) -> Lists {
+        Lists {
+            items: self.items,
+            tables: Tables {
+                warehouses: self.warehouses,
+                districts: self.districts,
+                customers: self.customers,
+                history: self.history,
+                new_orders: self.new_orders,
+                orders: self.orders,
+                order_lines: self.order_lines,
+                stock: self.stock,
+            },
+        }
+    }
+}
+
 /// One warehouse, two items, a customer in each district and one undelivered order of five lines.
-fn lists(rt: &impl Abort, alloc: Global) -> Result<Lists, Fail> {
+fn rows(rt: &impl Abort, alloc: Global) -> Result<NineLists, Fail> {
     let mut warehouses = Vec::new(alloc);
     warehouses.push(Warehouse {
         id: 1,
@@ -133,22 +166,22 @@ fn lists(rt: &impl Abort, alloc: Global) -> Result<Lists, Fail> {
     }
     let mut items = Vec::from_slice(alloc, &[item(rt, 1)])?;
     items.push(item(rt, 2))?;
-    let tables = Tables {
+    Ok(NineLists {
         warehouses,
         districts,
         customers,
-        history,
-        new_orders: Vec::from_slice(alloc, &[new_order(1)])?,
-        orders: Vec::from_slice(alloc, &[order(1)])?,
-        order_lines,
+        items,
         stock: Vec::from_slice(alloc, &[stock(1), stock(2)])?,
-    };
-    Ok(Lists { items, tables })
+        orders: Vec::from_slice(alloc, &[order(1)])?,
+        new_orders: Vec::from_slice(alloc, &[new_order(1)])?,
+        order_lines,
+        history,
+    })
 }
 
-/// Why lists are no load.
-fn refusal(alloc: Global, lists: Lists) -> Option<Refusal> {
-    Load::of(alloc, lists).err()
+/// Why the rows are no load.
+fn refusal(alloc: Global, rows: NineLists) -> Option<Refusal> {
+    Load::of(alloc, rows.into_lists()).err()
 }
 
 fn row(table: Table, number: u64) -> Option<Refusal> {
@@ -157,7 +190,7 @@ fn row(table: Table, number: u64) -> Option<Refusal> {
 
 #[test]
 fn loads_nine_lists(rt: HostRuntime) -> Result<(), Fail> {
-    let load = Load::of(rt.alloc(), lists(&rt, rt.alloc())?)?;
+    let load = Load::of(rt.alloc(), rows(&rt, rt.alloc())?.into_lists())?;
     load.sound();
     load.keys_are_unique();
     load.conditions_are_kept();
@@ -172,20 +205,20 @@ fn loads_nine_lists(rt: HostRuntime) -> Result<(), Fail> {
 #[test]
 fn names_rows_that_are_missing(rt: HostRuntime) -> Result<(), Fail> {
     let alloc = rt.alloc();
-    let mut none = lists(&rt, alloc)?;
-    none.tables.warehouses.clear();
+    let mut none = rows(&rt, alloc)?;
+    none.warehouses.clear();
     assert_eq!(rt; refusal(alloc, none), row(Table::Warehouse, 1));
-    let mut few = lists(&rt, alloc)?;
-    few.tables.districts.truncate(9);
+    let mut few = rows(&rt, alloc)?;
+    few.districts.truncate(9);
     assert_eq!(rt; refusal(alloc, few), row(Table::District, 10));
-    let mut few = lists(&rt, alloc)?;
-    few.tables.customers.truncate(9);
+    let mut few = rows(&rt, alloc)?;
+    few.customers.truncate(9);
     assert_eq!(rt; refusal(alloc, few), row(Table::Customer, 10));
-    let mut none = lists(&rt, alloc)?;
+    let mut none = rows(&rt, alloc)?;
     none.items.clear();
     assert_eq!(rt; refusal(alloc, none), row(Table::Item, 1));
-    let mut few = lists(&rt, alloc)?;
-    few.tables.stock.truncate(1);
+    let mut few = rows(&rt, alloc)?;
+    few.stock.truncate(1);
     assert_eq!(rt; refusal(alloc, few), row(Table::Stock, 2));
     Ok(())
 }
@@ -193,19 +226,19 @@ fn names_rows_that_are_missing(rt: HostRuntime) -> Result<(), Fail> {
 #[test]
 fn names_base_rows_that_are_wrong(rt: HostRuntime) -> Result<(), Fail> {
     let alloc = rt.alloc();
-    let mut wrong = lists(&rt, alloc)?;
-    wrong.tables.districts.push(district(&rt, 1))?;
+    let mut wrong = rows(&rt, alloc)?;
+    wrong.districts.push(district(&rt, 1))?;
     assert_eq!(rt; refusal(alloc, wrong), row(Table::District, 11));
-    let mut wrong = lists(&rt, alloc)?;
+    let mut wrong = rows(&rt, alloc)?;
     let mut broken = customer(&rt, 10);
     broken.id = 3;
-    wrong.tables.customers.push(broken)?;
+    wrong.customers.push(broken)?;
     assert_eq!(rt; refusal(alloc, wrong), row(Table::Customer, 11));
-    let mut wrong = lists(&rt, alloc)?;
+    let mut wrong = rows(&rt, alloc)?;
     wrong.items.push(item(&rt, 4))?;
     assert_eq!(rt; refusal(alloc, wrong), row(Table::Item, 3));
-    let mut wrong = lists(&rt, alloc)?;
-    wrong.tables.stock.push(stock(1))?;
+    let mut wrong = rows(&rt, alloc)?;
+    wrong.stock.push(stock(1))?;
     assert_eq!(rt; refusal(alloc, wrong), row(Table::Stock, 3));
     Ok(())
 }
@@ -213,19 +246,19 @@ fn names_base_rows_that_are_wrong(rt: HostRuntime) -> Result<(), Fail> {
 #[test]
 fn names_orders_that_are_wrong(rt: HostRuntime) -> Result<(), Fail> {
     let alloc = rt.alloc();
-    let mut twice = lists(&rt, alloc)?;
-    twice.tables.orders.push(order(1))?;
+    let mut twice = rows(&rt, alloc)?;
+    twice.orders.push(order(1))?;
     assert_eq!(rt; refusal(alloc, twice), row(Table::Order, 2));
-    let mut unknown = lists(&rt, alloc)?;
+    let mut unknown = rows(&rt, alloc)?;
     let mut wrong = order(2);
     wrong.customer = 2;
-    unknown.tables.orders.push(wrong)?;
+    unknown.orders.push(wrong)?;
     assert_eq!(rt; refusal(alloc, unknown), row(Table::Order, 2));
-    let mut twice = lists(&rt, alloc)?;
-    twice.tables.new_orders.push(new_order(1))?;
+    let mut twice = rows(&rt, alloc)?;
+    twice.new_orders.push(new_order(1))?;
     assert_eq!(rt; refusal(alloc, twice), row(Table::NewOrder, 2));
-    let mut unknown = lists(&rt, alloc)?;
-    unknown.tables.new_orders.push(new_order(2))?;
+    let mut unknown = rows(&rt, alloc)?;
+    unknown.new_orders.push(new_order(2))?;
     assert_eq!(rt; refusal(alloc, unknown), row(Table::NewOrder, 2));
     Ok(())
 }
@@ -233,23 +266,23 @@ fn names_orders_that_are_wrong(rt: HostRuntime) -> Result<(), Fail> {
 #[test]
 fn names_lines_and_payments_that_are_wrong(rt: HostRuntime) -> Result<(), Fail> {
     let alloc = rt.alloc();
-    let mut twice = lists(&rt, alloc)?;
-    twice.tables.order_lines.push(line(5))?;
+    let mut twice = rows(&rt, alloc)?;
+    twice.order_lines.push(line(5))?;
     assert_eq!(rt; refusal(alloc, twice), row(Table::OrderLine, 6));
-    let mut unknown = lists(&rt, alloc)?;
+    let mut unknown = rows(&rt, alloc)?;
     let mut wrong = line(6);
     wrong.item = 3;
-    unknown.tables.order_lines.push(wrong)?;
+    unknown.order_lines.push(wrong)?;
     assert_eq!(rt; refusal(alloc, unknown), row(Table::OrderLine, 6));
-    let mut unknown = lists(&rt, alloc)?;
+    let mut unknown = rows(&rt, alloc)?;
     let mut wrong = line(6);
     wrong.supply_warehouse = 2;
-    unknown.tables.order_lines.push(wrong)?;
+    unknown.order_lines.push(wrong)?;
     assert_eq!(rt; refusal(alloc, unknown), row(Table::OrderLine, 6));
-    let mut unknown = lists(&rt, alloc)?;
+    let mut unknown = rows(&rt, alloc)?;
     let mut wrong = payment(&rt, 1);
     wrong.customer = 2;
-    unknown.tables.history.push(wrong)?;
+    unknown.history.push(wrong)?;
     assert_eq!(rt; refusal(alloc, unknown), row(Table::History, 11));
     Ok(())
 }
@@ -257,12 +290,12 @@ fn names_lines_and_payments_that_are_wrong(rt: HostRuntime) -> Result<(), Fail> 
 #[test]
 fn names_conditions_that_are_broken(rt: HostRuntime) -> Result<(), Fail> {
     let alloc = rt.alloc();
-    let mut paid_twice = lists(&rt, alloc)?;
-    paid_twice.tables.history.push(payment(&rt, 1))?;
+    let mut paid_twice = rows(&rt, alloc)?;
+    paid_twice.history.push(payment(&rt, 1))?;
     let broken = Some(Refusal::BadLoad(LoadFault::Condition(8)));
     assert_eq!(rt; refusal(alloc, paid_twice), broken);
-    let mut short = lists(&rt, alloc)?;
-    short.tables.order_lines.truncate(4);
+    let mut short = rows(&rt, alloc)?;
+    short.order_lines.truncate(4);
     let broken = Some(Refusal::BadLoad(LoadFault::Condition(4)));
     assert_eq!(rt; refusal(alloc, short), broken);
     Ok(())
@@ -274,10 +307,10 @@ fn names_records_that_are_no_rows(rt: HostRuntime) -> Result<(), Fail> {
     let mut ends = FileEnds::whole();
     ends.stock = FileEnd::BadRecord;
     ends.history = FileEnd::BadHeader;
-    let cut = Load::of_files(alloc, lists(&rt, alloc)?, ends).err();
+    let cut = Load::of_files(alloc, rows(&rt, alloc)?.into_lists(), ends).err();
     assert_eq!(rt; cut, row(Table::Stock, 3));
     ends.stock = FileEnd::Whole;
-    let headless = Load::of_files(alloc, lists(&rt, alloc)?, ends).err();
+    let headless = Load::of_files(alloc, rows(&rt, alloc)?.into_lists(), ends).err();
     assert_eq!(rt; headless, row(Table::History, 0));
     Ok(())
 }
