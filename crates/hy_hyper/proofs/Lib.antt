@@ -3,3 +3,4 @@ pub mod GeneratedLaws
 pub mod FirstLaws
 pub mod AmountLaws
 pub mod OpenLaws
+pub mod StoreLaws

@@ -6,3 +6,4 @@ pub mod Refusals
 pub mod Runs
 pub mod WorkedRows
 pub mod Open
+pub mod Stores

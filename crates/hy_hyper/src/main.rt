@@ -19,6 +19,8 @@ mod shelf;
 #[cfg(test)]
 mod snapshot_tests;
 #[cfg(test)]
+mod store_tests;
+#[cfg(test)]
 mod tests;
 
 fn main(rt: HostRuntime) -> ExitCode {

@@ -156,7 +156,7 @@ struct Store<const N: usize> {
 // What holds of a store between two calls. Clauses see the space.
 impl<const N: usize> Model for Store<N> {
     ghost use Rattle.hy_space.specs.Space.{SpaceState};
-    ghost use Rattle.hy_stores.specs.Stores.{IsStore};
+    ghost use Rattle.hy_hyper.specs.Stores.{IsStore};
 
     ghost Value = { SpaceState };
 

@@ -8,7 +8,7 @@ use Rattle.hy_undo.proofs.PrivatePageLaws.{length-segment-owner_bytes}
 use Rattle.hy_undo.proofs.RollBackLaws.{undone-empty_log}
 use Rattle.hy_index.specs.Writes.{IsIndex, WritesSegment}
 use Rattle.hy_relation.specs.Relation.{ChangesSegment}
-use Rattle.hy_stores.specs.Stores.{AreStored, IsStore}
+use Rattle.hy_hyper.specs.Stores.{AreStored, IsStore}
 
 -- the index's segment has no page while the table's alone changes
 pub no_page : (old new : SpaceState) → page_count old 8 ≡ 0 → ChangesSegment (owner_bytes old) (owner_bytes new) 4
