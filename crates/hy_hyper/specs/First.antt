@@ -1,5 +1,7 @@
 -- What `first` does: one payment on the generated warehouse of three customers a district.
-use Rattle.std.specs.Prelude.{◌≡◌, ◌⊎◌, ℕ, ℤ, None, Some, List, [], ◌∷◌, ◌++◌, map}
+use Rattle.std.specs.Prelude.{◌≡◌, ◌⊎◌, ℕ, ℤ, Option, None, Some, List, [], ◌∷◌, ◌++◌, codes, map}
+use Rattle.std.specs.Fmt.{signed_decimal}
+use Rattle.std.specs.Io.KnownBytes.{Appends}
 use Rattle.hy_schema.specs.declared.command.Command.{Command}
 use Rattle.hy_schema.specs.declared.command.Command.TheVariants as commands
 use Rattle.hy_schema.specs.declared.command.Payment.{Payment}
@@ -16,6 +18,8 @@ use Rattle.hy_rows.specs.Spelling.{tables_of}
 use Rattle.hy_partition.specs.Partition.{PartitionState, rows_now}
 use Rattle.hy_partition.specs.Snapshots.{SnapshotState}
 use Rattle.hy_undo.specs.UndoLog.{empty_log}
+use Rattle.hy_hyper.specs.declared.fault.RunFault.{RunFault}
+use Rattle.hy_hyper.specs.declared.fault.RunFault.TheVariants as fault
 use Rattle.hy_hyper.specs.Generated.{generated}
 
 -- customer 1 of district 1 pays an amount there, at moment 1
@@ -73,3 +77,14 @@ abbrev pub IsPayRefusal : PartitionState → Payment → Refusal → Type 0
 IsPayRefusal p payment refusal =
     (begin_refusal p (commands.Payment payment) ≡ Some refusal) ⊎ (refusal ≡ refusals.NoMemory)
     ⊎ ((refusal ≡ refusals.NoFrame) × HasSnapshot p)
+
+-- the payment was done, and what W_YTD is after it stands behind the bytes that were there
+abbrev pub IsFirstPrinted : ℕ → Option (List ℕ) → Option (List ℕ) → Type 0
+IsFirstPrinted amount old new =
+    (ytd : ℤ) × IsYtdAfter amount ytd × Appends old new (codes "ytd " ++ signed_decimal ytd ++ codes "\n")
+
+-- why it isn't done: it is refused, before anything was printed; or the writer failed
+abbrev pub IsFirstFault : ℕ → Type 0 → RunFault → Type 0
+IsFirstFault amount unprinted (fault.Refused refusal) = IsFirstRefusal amount refusal × unprinted
+IsFirstFault amount unprinted (fault.Writer error) = refusal_of 1 (first_command amount) (generated 3) ≡ None
+IsFirstFault amount unprinted why = ⊥

@@ -1,6 +1,7 @@
-pub mod CommandLine
-pub mod Files
+pub mod Check
+pub mod Faults
 pub mod First
+pub mod Generate
 pub mod Generated
 pub mod Refusals
 pub mod Runs

@@ -1,55 +1,77 @@
--- What a run of the program leaves, by the way in which it ended.
-use Rattle.std.specs.Prelude.{◌≡◌, ◌⊎◌, ℕ, ℤ, List, ◌++◌, None, Option, codes}
-use Rattle.std.specs.Fmt.{signed_decimal}
-use Rattle.std.specs.Io.KnownBytes.{Appends}
-use Rattle.hy_schema.specs.declared.refusal.Refusal.{Refusal}
+-- What a run of the program leaves, by the way in which it ended. Of files and of bytes that were written, a pair has
+-- what was there before, and what is there after it, as far as they are known.
+use Rattle.std.specs.Prelude.{◌≡◌, ◌⊎◌, ⊤, ℕ, List, Option}
+use Rattle.std.specs.declared.io.error.Error.{Error}
 use Rattle.hy_schema.specs.declared.refusal.Refusal.TheVariants as refusals
-use Rattle.hy_schema.specs.Transactions.{refusal_of}
+use Rattle.hy_place.specs.Directory.{KeepsOtherFiles}
+use Rattle.hy_place.specs.Files.{FilesByPath}
+use Rattle.hy_words.specs.CommandLine.{Says}
+use Rattle.hy_words.specs.declared.words.Line.{Line}
+use Rattle.hy_words.specs.declared.words.Line.TheVariants as line
 use Rattle.hy_hyper.specs.declared.ending.Ending.{Ending}
 use Rattle.hy_hyper.specs.declared.ending.Ending.TheVariants as ending
-use Rattle.hy_hyper.specs.declared.words.Line.{Line}
-use Rattle.hy_hyper.specs.declared.words.Line.TheVariants as line
-use Rattle.hy_hyper.specs.declared.run.RunFault.{RunFault}
-use Rattle.hy_hyper.specs.declared.run.RunFault.TheVariants as fault
-use Rattle.hy_hyper.specs.CommandLine.{Says}
-use Rattle.hy_hyper.specs.First.{IsFirstRefusal, IsYtdAfter, first_command}
-use Rattle.hy_hyper.specs.Generated.{generated}
-use Rattle.hy_hyper.specs.Refusals.{Explains}
+use Rattle.hy_hyper.specs.declared.fault.RunFault.{RunFault}
+use Rattle.hy_hyper.specs.declared.fault.RunFault.TheVariants as fault
+use Rattle.hy_hyper.specs.declared.generate.Size.{Size}
+use Rattle.hy_hyper.specs.Check.{IsCheckFault, IsChecked}
+use Rattle.hy_hyper.specs.Faults.{Explains}
+use Rattle.hy_hyper.specs.First.{IsFirstFault, IsFirstPrinted}
+use Rattle.hy_hyper.specs.Generate.{IsGenerateFault, IsGenerated, IsSize}
 
--- the bytes that a command line prints stand behind those that were there
-abbrev pub Prints : Line → Option (List ℕ) → Option (List ℕ) → Type 0
-Prints (line.First amount) old new =
-    (ytd : ℤ) × IsYtdAfter amount ytd × Appends old new (codes "ytd " ++ signed_decimal ytd ++ codes "\n")
+abbrev pub KnownFiles : Type 0
+KnownFiles = Option FilesByPath × Option FilesByPath
 
--- the words say a command line, and what it prints was printed
-abbrev pub Completes : List (List ℕ) → Option (List ℕ) → Option (List ℕ) → Type 0
-Completes words old new = (line : Line) × Says words line × Prints line old new
+abbrev pub KnownBytes : Type 0
+KnownBytes = Option (List ℕ) × Option (List ℕ)
 
--- a command line is refused so
-abbrev pub IsRefusalOf : Line → Refusal → Type 0
-IsRefusalOf (line.First amount) refusal = IsFirstRefusal amount refusal
+-- the size that `gen` is given
+abbrev pub size_of : ℕ → ℕ → ℕ → Size
+size_of warehouses customers items = record {
+  warehouses = warehouses;
+  customers = customers;
+  items = items;
+}
 
--- nothing refuses a command line but memory
-abbrev pub IsAccepted : Line → Type 0
-IsAccepted (line.First amount) = refusal_of 1 (first_command amount) (generated 3) ≡ None
+-- a command line was done: it printed what it found behind the bytes that were there
+abbrev pub IsDone : Line → KnownFiles → KnownBytes → Type 0
+IsDone (line.First amount) files bytes = IsFirstPrinted amount bytes.0 bytes.1
+IsDone (line.Generate directory warehouses customers items) files bytes =
+    IsGenerated directory.now (size_of warehouses customers items) files.1 bytes.0 bytes.1
+IsDone (line.Check directory) files bytes = IsChecked directory.now files.0 bytes.0 bytes.1
 
--- why a command line wasn't done: what refuses it, before anything was printed; or a writer failed at the print
-abbrev pub IsFaultOf : Line → Type 0 → RunFault → Type 0
-IsFaultOf line unprinted (fault.Refused refusal) = IsRefusalOf line refusal × unprinted
-IsFaultOf line unprinted (fault.Writer error) = IsAccepted line
+-- why a command line isn't done; where it is refused, nothing is printed
+abbrev pub IsFaultOf : Line → KnownFiles → Type 0 → RunFault → Type 0
+IsFaultOf (line.First amount) files unprinted why = IsFirstFault amount unprinted why
+IsFaultOf (line.Generate directory warehouses customers items) files unprinted why =
+    IsGenerateFault directory.now (size_of warehouses customers items) files.1 unprinted why
+IsFaultOf (line.Check directory) files unprinted why = IsCheckFault directory.now files.0 unprinted why
 
--- the words are refused so: their command line is, or memory ran out
-abbrev pub AreRefused : List (List ℕ) → Refusal → Type 0
-AreRefused words refusal =
-    (refusal ≡ refusals.NoMemory) ⊎ ((line : Line) × Says words line × IsRefusalOf line refusal)
+-- `gen` alone writes files, those of its folder, where there is a database of its size
+abbrev pub MayWrite : Line → KnownFiles → Type 0
+MayWrite (line.Generate directory warehouses customers items) files =
+    IsSize (size_of warehouses customers items) × KeepsOtherFiles files.0 files.1 directory.now
+MayWrite other files = ⊥
 
--- the words are refused, and the line of the refusal stands behind the bytes that were there
-abbrev pub ExplainsRefusal : List (List ℕ) → Option (List ℕ) → Option (List ℕ) → Type 0
-ExplainsRefusal words old new = (refusal : Refusal) × AreRefused words refusal × Explains refusal old new
+-- the files stay as they were, but where the words say a command line that writes some
+abbrev pub KeepsFiles : List (List ℕ) → KnownFiles → Type 0
+KeepsFiles words files = (files.1 ≡ files.0) ⊎ ((line : Line) × Says words line × MayWrite line files)
 
--- the words say a command line that nothing refuses but memory
-abbrev pub AreAccepted : List (List ℕ) → Type 0
-AreAccepted words = (line : Line) × Says words line × IsAccepted line
+-- the words say a command line that was done
+abbrev pub Completes : List (List ℕ) → KnownFiles → KnownBytes → Type 0
+Completes words files bytes = (line : Line) × Says words line × IsDone line files bytes
+
+-- this is why the words aren't done: their command line isn't, or memory is refused
+abbrev pub IsWhyUndone : List (List ℕ) → KnownFiles → RunFault → Type 0
+IsWhyUndone words files why =
+    (why ≡ fault.Refused refusals.NoMemory) ⊎ ((line : Line) × Says words line × IsFaultOf line files ⊤ why)
+
+-- the words aren't done, and the line that says why stands behind the bytes that were there
+abbrev pub ExplainsRefusal : List (List ℕ) → KnownFiles → KnownBytes → Type 0
+ExplainsRefusal words files bytes = (why : RunFault) × IsWhyUndone words files why × Explains why bytes.0 bytes.1
+
+-- the words say a command line that is done as far as its print
+abbrev pub AreDoneUnprinted : List (List ℕ) → KnownFiles → Type 0
+AreDoneUnprinted words files = (error : Error) × IsWhyUndone words files (fault.Writer error)
 
 -- the exit status of a run that ended so
 abbrev pub status_of : Ending → ℕ

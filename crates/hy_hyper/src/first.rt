@@ -3,15 +3,17 @@
 ghost use Rattle.std.specs.Prelude.{◌≡◌, ◌⊎◌, ◌∷◌, [], length, IfErr, IfOk, IsSomeAnd, OnOk};
 ghost use Rattle.hy_schema.specs.declared.refusal.Refusal.{Refusal};
 ghost use Rattle.hy_partition.specs.Steps.{Accepts, Refuses};
-ghost use Rattle.hy_hyper.specs.First.{HasTwoSlices, IsFirstRefusal, IsPaid, IsPayRefusal, IsYtdAfter, first_payment, ytds, ytds_of};
+ghost use Rattle.hy_hyper.specs.First.{HasTwoSlices, IsFirstFault, IsFirstPrinted, IsFirstRefusal, IsPaid, IsPayRefusal, IsYtdAfter, first_payment, ytds, ytds_of};
 ghost use Rattle.hy_partition.specs.Partition.{rows_now};
 ghost use Rattle.hy_partition.specs.Slices.{all_writes};
 ghost use Rattle.hy_undo.specs.UndoLog.{empty_log};
 
-use crate::generator::generate;
+use crate::fault::RunFault;
 use hy_partition::{Job, Partition, Progress, Snapshot};
 use hy_schema::{Command, Payment, Refusal, Reply, Warehouse, Who};
+use hy_tables::generate;
 use std::alloc::Global;
+use std::io;
 
 /// The size of a page in bytes.
 const PAGE_BYTES: usize = 4096;
@@ -28,14 +30,28 @@ const WAREHOUSE: u8 = 1;
 /// How many customers each district of the warehouse has.
 const CUSTOMERS: u64 = 3;
 
+/// Runs one payment on a generated warehouse, and writes W_YTD after it.
+pub fn run_first<'a, O: io::Write>(
+    alloc: Global,
+    amount: u64,
+    out: &mut O,
+) -> Result<(), RunFault<'a>>
+    ensures done { OnOk result (IsFirstPrinted amount (O.contents out.old) (O.contents out.new)) }
+    ensures fault { IfErr result (IsFirstFault amount (out.new ≡ out.old)) }
+{
+    let ytd = first(alloc, amount)?;
+    writeln!(out, "ytd {ytd}")?;
+    Ok(())
+}
+
 /// W_YTD of a generated warehouse after a payment of an amount in cents, in cents, as a snapshot behind the payment
 /// has it. E8 where the amount is out of range, E2 where the frames are too few for the rows, and E1 where memory is
 /// refused.
-pub fn first(alloc: Global, amount: u64) -> Result<i64, Refusal>
+fn first(alloc: Global, amount: u64) -> Result<i64, Refusal>
     ensures ytd { IfOk result (IsYtdAfter amount) }
     ensures refused { IfErr result (IsFirstRefusal amount) }
 {
-    let load = generate(alloc, CUSTOMERS)?;
+    let load = generate(alloc, 1, CUSTOMERS, 1)?;
     let mut partition = Partition::<PAGE_BYTES>::new(
         alloc, &load, WAREHOUSE, MAX_FRAMES, MAX_KEPT,
     )?;

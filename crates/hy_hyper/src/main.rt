@@ -1,19 +1,21 @@
 //! The program `hyper`, which runs the order-entry database from a command line.
 #![tactic(auto)]
 
+mod check;
 mod ending;
+mod fault;
 mod first;
-mod generator;
-mod place;
+mod generate;
 mod reason;
 mod run;
 mod system;
-mod words;
 
 use std::process::ExitCode;
 
 #[cfg(test)]
-mod place_tests;
+mod example;
+#[cfg(test)]
+mod file_tests;
 #[cfg(test)]
 mod shelf;
 #[cfg(test)]

@@ -2,9 +2,9 @@
 
 ghost use Rattle.std.specs.Prelude.{◌≡◌, Some, IfOk, OnOk, option_map};
 ghost use Rattle.std.specs.BTreeMap.{get_by_text};
-ghost use Rattle.hy_hyper.specs.Files.{HasFile, KeepsOthers};
+ghost use Rattle.hy_place.specs.Files.{HasFile, KeepsOthers};
 
-use crate::place::Place;
+use hy_place::Place;
 use std::alloc::Global;
 use std::collections::BTreeMap;
 use std::io;
@@ -41,6 +41,10 @@ impl Place for Shelf {
         let name = path.to_string(self.alloc)?;
         let copy = bytes.to_vec(self.alloc)?;
         self.files.insert(name, copy)?;
+        Ok(())
+    }
+
+    fn make_folder(&mut self, _path: &str) -> io::Result<()> {
         Ok(())
     }
 }

@@ -4,9 +4,9 @@ ghost use Rattle.hy_frames.specs.FrameTable.{IsPageSize};
 ghost use Rattle.hy_partition.specs.Steps.{Closes, Forks};
 ghost use Rattle.hy_hyper.specs.Open.{Holds, KeepsOpen};
 
-use crate::generator::generate;
 use hy_partition::{Job, Partition, Progress, Snapshot};
 use hy_schema::{Command, Payment, Refusal, Reply, Warehouse, Who};
+use hy_tables::generate;
 use std::process::Abort;
 use std::test::Fail;
 
@@ -17,7 +17,7 @@ const FRAMES: u64 = 1000;
 fn begun<const N: usize>(rt: &(impl Abort + AllocGlobal)) -> Partition<N>
     requires { IsPageSize N }
 {
-    let load = generate(rt.alloc(), 3).expect(rt, "a load");
+    let load = generate(rt.alloc(), 1, 3, 1).expect(rt, "a load");
     Partition::new(rt.alloc(), &load, 1, FRAMES, 1000).expect(rt, "a partition")
 }
 
@@ -440,7 +440,7 @@ fn refuses_in_order(rt: HostRuntime) -> Result<(), Fail> {
 
 #[test]
 fn limits_of_a_partition(rt: HostRuntime) -> Result<(), Fail> {
-    let load = generate(rt.alloc(), 3).expect(&rt, "a load");
+    let load = generate(rt.alloc(), 1, 3, 1).expect(&rt, "a load");
     match Partition::<4096>::new(rt.alloc(), &load, 1, 12, 1) {
         Ok(_) => panic!(rt; "thirteen pages in twelve frames"),
         Err(refusal) => assert_eq!(rt; refusal, Refusal::NoFrame),

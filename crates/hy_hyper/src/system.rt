@@ -1,9 +1,9 @@
 //! The program on the system that it runs on.
 
 use crate::ending::Ending;
-use crate::place::Files;
 use crate::reason::Reason;
 use crate::run::run_words;
+use hy_place::Files;
 use hy_schema::Refusal;
 use std::io::{self, Write};
 

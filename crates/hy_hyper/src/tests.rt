@@ -3,14 +3,12 @@
 ghost use Rattle.std.specs.Prelude.{None, Some};
 
 use crate::ending::Ending;
-use crate::generator::generate;
-use crate::place::Place;
 use crate::reason::Reason;
 use crate::run::run_words;
-use crate::words::{Line, read_words};
+use hy_place::Place;
 use hy_rows::{History, Item, Order, Stock};
 use hy_schema::{Customer, District, LoadFault, Refusal, Warehouse};
-use hy_tables::generated;
+use hy_tables::{generate, generated};
 use std::alloc::Global;
 use std::io;
 use std::test::Fail;
@@ -29,6 +27,10 @@ impl Place for Nowhere {
     fn write(&mut self, _path: &str, _bytes: &[u8]) -> io::Result<()> {
         Err(io::Error::from(io::ErrorKind::PermissionDenied))
     }
+
+    fn make_folder(&mut self, _path: &str) -> io::Result<()> {
+        Err(io::Error::from(io::ErrorKind::PermissionDenied))
+    }
 }
 
 /// A writer that refuses each byte.
@@ -43,22 +45,6 @@ impl io::Write for Broken {
     fn flush(&mut self) -> io::Result<()> {
         Ok(())
     }
-}
-
-#[test]
-fn reads_the_amount(rt: HostRuntime) -> Result<(), Fail> {
-    let alloc = rt.alloc();
-    let cases: [(&[&str], u64); 4] = [
-        (&["first"], 100),
-        (&["first", "--amount", "7"], 7),
-        (&["first", "--amount=7"], 7),
-        (&["first", "--amount", "18446744073709551615"], u64::MAX),
-    ];
-    for (words, amount) in cases {
-        let line = read_words(alloc, words).expect(&rt, "a command line");
-        assert!(rt; line == Line::First { amount });
-    }
-    Ok(())
 }
 
 #[test]
@@ -186,7 +172,7 @@ fn answers_1_where_a_writer_fails(rt: HostRuntime) -> Result<(), Fail> {
 
 #[test]
 fn generates_a_warehouse(rt: HostRuntime) -> Result<(), Fail> {
-    let load = generate(rt.alloc(), 3).expect(&rt, "a load");
+    let load = generate(rt.alloc(), 1, 3, 1).expect(&rt, "a load");
     assert_eq!(rt; load.list::<Warehouse>().len(), 1);
     for row in load.list::<Warehouse>() {
         assert!(rt; row.name.as_bytes() == b"W1".as_slice() && row.tax == 500 && row.ytd == 30_000);
@@ -204,7 +190,7 @@ fn generates_a_warehouse(rt: HostRuntime) -> Result<(), Fail> {
 
 #[test]
 fn generates_names(rt: HostRuntime) -> Result<(), Fail> {
-    let load = generate(rt.alloc(), 1001).expect(&rt, "a load");
+    let load = generate(rt.alloc(), 1, 1001, 1).expect(&rt, "a load");
     let rows = load.list::<Customer>();
     assert_eq!(rt; rows.len(), 10_010);
     let cases: [(usize, &[u8], &[u8], &[u8], u16); 6] = [

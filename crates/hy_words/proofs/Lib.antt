@@ -1,0 +1,4 @@
+pub mod WalkLaws
+pub mod ParameterLaws
+pub mod GivenLaws
+pub mod ProgramLaws

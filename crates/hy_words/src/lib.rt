@@ -1,0 +1,10 @@
+//! The command line of the program: what it takes, and what its words say.
+#![tactic(auto)]
+
+mod given;
+mod program;
+#[cfg(test)]
+mod tests;
+mod words;
+
+pub use words::{Line, LineFault, read_words};
