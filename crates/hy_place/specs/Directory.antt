@@ -45,9 +45,10 @@ abbrev pub IsFirstMissing : Option FilesByPath → List ℕ → Table → Type 0
 IsFirstMissing known directory table =
     IsMissing known (path_of directory table) × (texts : List (List ℕ)) × AreFilesBefore known directory table texts
 
--- known files stay as they were, but for those of a directory's tables
+-- known files stay as they were, but for those of a directory's tables; others stay unknown
 abbrev pub KeepsOtherFiles : Option FilesByPath → Option FilesByPath → List ℕ → Type 0
-KeepsOtherFiles None new directory = ⊤
+KeepsOtherFiles None None directory = ⊤
+KeepsOtherFiles None (Some new) directory = ⊥
 KeepsOtherFiles (Some old) None directory = ⊥
 KeepsOtherFiles (Some old) (Some new) directory =
     (other : List ℕ) → ((table : Table) → other ≢ path_of directory table) → new other ≡ old other

@@ -1,13 +1,11 @@
 //! The nine files of a directory.
 
-ghost use Rattle.std.specs.Prelude.{◌≡◌, ◌≢◌, ◌⊎◌, ℕ, List, IfErr, IfOk, OnOk, map};
-ghost use Rattle.std.specs.IoError.{error_kind};
-ghost use Rattle.std.specs.declared.io.ErrorKind.TheVariants as kinds;
+ghost use Rattle.std.specs.Prelude.{◌≡◌, ◌≢◌, ◌⊎◌, ℕ, List, IfErr, IfOk, OnOk, map, string_bytes};
 ghost use Rattle.hy_schema.specs.declared.refusal.Refusal.TheVariants as refusals;
 ghost use Rattle.hy_place.specs.declared.directory.FileFault.TheVariants as fault;
 ghost use Rattle.hy_place.specs.Directory.{AreFiles, KeepsOtherFiles, file_name, path_of, tables};
 ghost use Rattle.hy_place.specs.Faults.{IsUnread, IsUnwritten};
-ghost use Rattle.hy_place.specs.Files.{HasFile, IsMissing, KeepsOthers};
+ghost use Rattle.hy_place.specs.Files.{HasFile, IsMissing, IsOutOfMemory, KeepsOthers};
 
 use crate::place::Place;
 use hy_schema::{Refusal, Table};
@@ -73,7 +71,7 @@ pub fn file_name(table: Table) -> &'static str
 
 /// The path of the file of a table.
 fn path_of(alloc: Global, directory: &str, table: Table) -> Result<String, AllocError>
-    ensures { IfOk result (λ path. path ≡ path_of directory.now table) }
+    ensures { IfOk result (λ path. string_bytes path ≡ path_of directory.now table) }
 {
     let mut path = directory.to_string(alloc)?;
     path.push_str("/")?;
@@ -83,8 +81,8 @@ fn path_of(alloc: Global, directory: &str, table: Table) -> Result<String, Alloc
 
 /// Why a file wasn't reached: memory was refused, or else this.
 fn reason(error: io::Error, otherwise: FileFault) -> FileFault
-    ensures { ((error_kind error ≡ kinds.OutOfMemory) × (result ≡ fault.Refused refusals.NoMemory))
-        ⊎ ((error_kind error ≢ kinds.OutOfMemory) × (result ≡ otherwise)) }
+    ensures { (IsOutOfMemory error × (result ≡ fault.Refused refusals.NoMemory))
+        ⊎ ((IsOutOfMemory error → ⊥) × (result ≡ otherwise)) }
 {
     match error.kind() {
         io::ErrorKind::OutOfMemory => FileFault::Refused(Refusal::NoMemory),

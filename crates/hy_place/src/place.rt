@@ -1,9 +1,7 @@
 //! Where files stand.
 
 ghost use Rattle.std.specs.Prelude.{◌≡◌, ◌⊎◌, Option, None, IfErr, IfOk, OnOk};
-ghost use Rattle.std.specs.IoError.{error_kind};
-ghost use Rattle.std.specs.declared.io.ErrorKind.TheVariants as kinds;
-ghost use Rattle.hy_place.specs.Files.{FilesByPath, HasFile, IsMissing, KeepsOthers};
+ghost use Rattle.hy_place.specs.Files.{FilesByPath, HasFile, IsMissing, IsOutOfMemory, KeepsOthers};
 
 use std::alloc::Global;
 use std::{fs, io, rt};
@@ -17,8 +15,7 @@ pub trait Place {
     /// read: where the files are known, there is none at the path.
     fn read(&mut self, alloc: Global, path: &str) -> io::Result<Vec<u8>>
         ensures bytes { IfOk result (λ bytes. HasFile (files self.old) path.now bytes.items) }
-        ensures missing { IfErr result
-            (λ error. (error_kind error ≡ kinds.OutOfMemory) ⊎ IsMissing (files self.old) path.now) }
+        ensures missing { IfErr result (λ error. IsOutOfMemory error ⊎ IsMissing (files self.old) path.now) }
         ensures files { files self.new ≡ files self.old };
 
     /// Makes these the bytes of a file, which is a new one where there is none at the path. An `Err` where it can't be
