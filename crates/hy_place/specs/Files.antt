@@ -1,0 +1,30 @@
+-- Files by their paths, as far as they are known.
+use Rattle.std.specs.Prelude.{◌≡◌, ◌≢◌, ⊤, ℕ, List, Option, None, Some}
+use Rattle.std.specs.IoError.{error_kind}
+use Rattle.std.specs.declared.io.Error.{Error}
+use Rattle.std.specs.declared.io.ErrorKind.TheVariants.{OutOfMemory}
+
+-- the bytes of the file at each path, where there is one
+abbrev pub FilesByPath : Type 0
+FilesByPath = List ℕ → Option (List ℕ)
+
+-- known files have these bytes at the path
+abbrev pub HasFile : Option FilesByPath → List ℕ → List ℕ → Type 0
+HasFile None path bytes = ⊤
+HasFile (Some files) path bytes = files path ≡ Some bytes
+
+-- known files have none at the path
+abbrev pub IsMissing : Option FilesByPath → List ℕ → Type 0
+IsMissing None path = ⊤
+IsMissing (Some files) path = files path ≡ None
+
+-- known files stay as they were, but for the one at the path; others stay unknown
+abbrev pub KeepsOthers : Option FilesByPath → Option FilesByPath → List ℕ → Type 0
+KeepsOthers None None path = ⊤
+KeepsOthers None (Some new) path = ⊥
+KeepsOthers (Some old) None path = ⊥
+KeepsOthers (Some old) (Some new) path = (other : List ℕ) → other ≢ path → new other ≡ old other
+
+-- an error for want of memory
+abbrev pub IsOutOfMemory : Error → Type 0
+IsOutOfMemory error = error_kind error ≡ OutOfMemory

@@ -1,0 +1,5 @@
+pub mod Directory
+pub mod Faults
+pub mod Files
+pub mod Loads
+pub mod WorkedRows

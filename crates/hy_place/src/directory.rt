@@ -1,0 +1,170 @@
+//! The nine files of a directory.
+
+ghost use Rattle.std.specs.Prelude.{◌≡◌, ◌≢◌, ◌⊎◌, ℕ, List, IfErr, IfOk, OnOk, map, string_bytes};
+ghost use Rattle.hy_schema.specs.declared.refusal.Refusal.TheVariants as refusals;
+ghost use Rattle.hy_place.specs.declared.directory.FileFault.TheVariants as fault;
+ghost use Rattle.hy_place.specs.Directory.{AreFiles, KeepsOtherFiles, file_name, path_of, tables};
+ghost use Rattle.hy_place.specs.Faults.{IsUnread, IsUnwritten};
+ghost use Rattle.hy_place.specs.Files.{HasFile, IsMissing, IsOutOfMemory, KeepsOthers};
+
+use crate::place::Place;
+use hy_schema::{Refusal, Table};
+use std::alloc::{AllocError, Global};
+use std::io;
+
+/// The tables in the order of their files.
+const TABLES: [Table; 9] = [
+    Table::Warehouse,
+    Table::District,
+    Table::Customer,
+    Table::Item,
+    Table::Stock,
+    Table::Order,
+    Table::NewOrder,
+    Table::OrderLine,
+    Table::History,
+];
+
+/// Why the files of a directory weren't read or written.
+#[derive(Clone, Copy, Debug, PartialEq, Eq)]
+pub enum FileFault {
+    /// The file of this table can't be read.
+    CannotRead(Table),
+    /// The file of this table can't be written.
+    CannotWrite(Table),
+    /// The files were read and are no load, or memory was refused.
+    Refused(Refusal),
+}
+
+impl From<AllocError> for FileFault {
+    ghost from_gives = { λ _ made. made ≡ fault.Refused refusals.NoMemory };
+
+    fn from(_refused: AllocError) -> FileFault {
+        FileFault::Refused(Refusal::NoMemory)
+    }
+}
+
+impl From<Refusal> for FileFault {
+    ghost from_gives = { λ refusal made. made ≡ fault.Refused refusal };
+
+    fn from(refusal: Refusal) -> FileFault {
+        FileFault::Refused(refusal)
+    }
+}
+
+/// The name of the file of a table.
+pub fn file_name(table: Table) -> &'static str
+    ensures { result.now ≡ file_name table }
+{
+    match table {
+        Table::Warehouse => "warehouse.csv",
+        Table::District => "district.csv",
+        Table::Customer => "customer.csv",
+        Table::Item => "item.csv",
+        Table::Stock => "stock.csv",
+        Table::Order => "orders.csv",
+        Table::NewOrder => "neworder.csv",
+        Table::OrderLine => "orderline.csv",
+        Table::History => "history.csv",
+    }
+}
+
+/// The path of the file of a table.
+fn path_of(alloc: Global, directory: &str, table: Table) -> Result<String, AllocError>
+    ensures { IfOk result (λ path. string_bytes path ≡ path_of directory.now table) }
+{
+    let mut path = directory.to_string(alloc)?;
+    path.push_str("/")?;
+    path.push_str(file_name(table))?;
+    Ok(path)
+}
+
+/// Why a file wasn't reached: memory was refused, or else this.
+fn reason(error: io::Error, otherwise: FileFault) -> FileFault
+    ensures { (IsOutOfMemory error × (result ≡ fault.Refused refusals.NoMemory))
+        ⊎ ((IsOutOfMemory error → ⊥) × (result ≡ otherwise)) }
+{
+    match error.kind() {
+        io::ErrorKind::OutOfMemory => FileFault::Refused(Refusal::NoMemory),
+        _ => otherwise,
+    }
+}
+
+/// The bytes of the file of a table.
+fn read_file<F: Place>(
+    alloc: Global,
+    place: &mut F,
+    directory: &str,
+    table: Table,
+) -> Result<Vec<u8>, FileFault>
+    ensures files { F.files place.new ≡ F.files place.old }
+    ensures bytes { IfOk result
+        (λ bytes. HasFile (F.files place.old) (path_of directory.now table) bytes.items) }
+    ensures fault { IfErr result
+        (λ why. (why ≡ fault.Refused refusals.NoMemory)
+            ⊎ ((why ≡ fault.CannotRead table) × IsMissing (F.files place.old) (path_of directory.now table))) }
+{
+    let path = path_of(alloc, directory, table)?;
+    match place.read(alloc, path.as_str()) {
+        Ok(bytes) => Ok(bytes),
+        Err(error) => Err(reason(error, FileFault::CannotRead(table))),
+    }
+}
+
+/// Makes these the bytes of the file of a table.
+fn write_file<F: Place>(
+    alloc: Global,
+    place: &mut F,
+    directory: &str,
+    table: Table,
+    bytes: &[u8],
+) -> Result<(), FileFault>
+    ensures bytes { OnOk result (HasFile (F.files place.new) (path_of directory.now table) bytes.now) }
+    ensures others { KeepsOthers (F.files place.old) (F.files place.new) (path_of directory.now table) }
+    ensures fault { IfErr result
+        (λ why. (why ≡ fault.Refused refusals.NoMemory) ⊎ (why ≡ fault.CannotWrite table)) }
+{
+    let path = path_of(alloc, directory, table)?;
+    match place.write(path.as_str(), bytes) {
+        Ok(()) => Ok(()),
+        Err(error) => Err(reason(error, FileFault::CannotWrite(table))),
+    }
+}
+
+/// The texts of the nine files, in their order.
+pub fn read_files<F: Place>(
+    alloc: Global,
+    place: &mut F,
+    directory: &str,
+) -> Result<Vec<Vec<u8>>, FileFault>
+    ensures files { F.files place.new ≡ F.files place.old }
+    ensures texts { IfOk result
+        (λ texts. AreFiles (F.files place.old) directory.now tables (map (λ text. text.items) texts.items)) }
+    ensures fault { IfErr result (IsUnread (F.files place.old) directory.now) }
+{
+    let mut texts = Vec::with_capacity(alloc, TABLES.len())?;
+    for table in &TABLES {
+        let bytes = read_file(alloc, place, directory, *table)?;
+        texts.push_reserved(bytes);
+    }
+    Ok(texts)
+}
+
+/// Makes these the texts of the nine files, in their order.
+pub fn write_files<F: Place>(
+    alloc: Global,
+    place: &mut F,
+    directory: &str,
+    texts: &[Vec<u8>; 9],
+) -> Result<(), FileFault>
+    ensures files { OnOk result
+        (AreFiles (F.files place.new) directory.now tables (map (λ text. text.items) texts.now)) }
+    ensures others { KeepsOtherFiles (F.files place.old) (F.files place.new) directory.now }
+    ensures fault { IfErr result
+        (IsUnwritten (F.files place.new) directory.now (map (λ text. text.items) texts.now)) }
+{
+    for (number, table) in TABLES.iter().enumerate() {
+        write_file(alloc, place, directory, *table, &texts[number])?;
+    }
+    Ok(())
+}

@@ -1,0 +1,60 @@
+//! Where files stand.
+
+ghost use Rattle.std.specs.Prelude.{◌≡◌, ◌⊎◌, Option, None, IfErr, IfOk, OnOk};
+ghost use Rattle.hy_place.specs.Files.{FilesByPath, HasFile, IsMissing, IsOutOfMemory, KeepsOthers};
+
+use std::alloc::Global;
+use std::{fs, io, rt};
+
+/// Where files stand, named by their paths.
+pub trait Place {
+    // The files, where they are known.
+    ghost files: { Self → Option FilesByPath };
+
+    /// The bytes of a file. An `Err` of the kind `OutOfMemory` for want of memory, and of another kind where it can't be
+    /// read: where the files are known, there is none at the path.
+    fn read(&mut self, alloc: Global, path: &str) -> io::Result<Vec<u8>>
+        ensures bytes { IfOk result (λ bytes. HasFile (files self.old) path.now bytes.items) }
+        ensures missing { IfErr result (λ error. IsOutOfMemory error ⊎ IsMissing (files self.old) path.now) }
+        ensures files { files self.new ≡ files self.old };
+
+    /// Makes these the bytes of a file, which is a new one where there is none at the path. An `Err` where it can't be
+    /// written: the file may then have other bytes, or be gone.
+    fn write(&mut self, path: &str, bytes: &[u8]) -> io::Result<()>
+        ensures bytes { OnOk result (HasFile (files self.new) path.now bytes.now) }
+        ensures others { KeepsOthers (files self.old) (files self.new) path.now };
+
+    /// Makes a folder, where there is none at the path; the folder that it is to stand in must be there. An `Err` where
+    /// it can't be made, or is there already.
+    fn make_folder(&mut self, path: &str) -> io::Result<()>
+        ensures { files self.new ≡ files self.old };
+}
+
+/// The files of the system. No clause knows what they have.
+#[derive(Drop)]
+pub struct Files<'a, R> {
+    runtime: &'a R,
+}
+
+impl<'a, R: rt::Files + AllocGlobal> Files<'a, R> {
+    /// The files that a runtime reaches.
+    pub fn new(runtime: &'a R) -> Files<'a, R> {
+        Files { runtime }
+    }
+}
+
+impl<R: rt::Files + AllocGlobal> Place for Files<'_, R> {
+    ghost files = { λ _. None };
+
+    fn read(&mut self, _alloc: Global, path: &str) -> io::Result<Vec<u8>> {
+        fs::read(self.runtime, path)
+    }
+
+    fn write(&mut self, path: &str, bytes: &[u8]) -> io::Result<()> {
+        fs::write(self.runtime, path, bytes)
+    }
+
+    fn make_folder(&mut self, path: &str) -> io::Result<()> {
+        fs::create_dir(self.runtime, path)
+    }
+}
