@@ -1,15 +1,12 @@
 -- What `check` does: it tests the load in the files of a folder, and prints what it finds.
-use Rattle.std.specs.Prelude.{◌≡◌, ℕ, List, ◌++◌, Option, codes, length, map}
+use Rattle.std.specs.Prelude.{ℕ, List, ◌++◌, Option, codes, length}
 use Rattle.std.specs.List.{flat_map}
 use Rattle.std.specs.Fmt.{decimal, signed_decimal}
 use Rattle.std.specs.Io.KnownBytes.{Appends}
 use Rattle.hy_rows.specs.declared.warehouse.Warehouse.{Warehouse}
 use Rattle.hy_rows.specs.Tables.{Lists, Tables, of_warehouse}
-use Rattle.hy_schema.specs.Loads.{IsLoad, all_whole}
-use Rattle.hy_tables.specs.Files.{ends_read, lists_read, readings_of}
-use Rattle.hy_place.specs.Directory.{AreFiles, tables}
-use Rattle.hy_place.specs.Faults.{IsReadFault}
 use Rattle.hy_place.specs.Files.{FilesByPath}
+use Rattle.hy_place.specs.Loads.{HaveTexts, IsReadFault, SayLoad}
 use Rattle.hy_hyper.specs.declared.fault.RunFault.{RunFault}
 use Rattle.hy_hyper.specs.declared.fault.RunFault.TheVariants as fault
 use Rattle.hy_hyper.specs.Faults.{IsOfFiles}
@@ -28,9 +25,7 @@ report tables =
 
 -- the files of the folder are those of a load with these lists
 abbrev pub HasLoad : Option FilesByPath → List ℕ → Lists → Type 0
-HasLoad files directory lists =
-    (texts : List (List ℕ)) × AreFiles files directory tables texts × (lists ≡ lists_read (readings_of texts))
-    × (ends_read (readings_of texts) ≡ all_whole) × IsLoad lists
+HasLoad files directory lists = HaveTexts files directory (SayLoad lists)
 
 -- the files are those of a load, and what is found stands behind the bytes that were there
 abbrev pub IsChecked : List ℕ → Option FilesByPath → Option (List ℕ) → Option (List ℕ) → Type 0

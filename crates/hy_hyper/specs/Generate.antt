@@ -7,7 +7,7 @@ use Rattle.hy_schema.specs.declared.refusal.Refusal.TheVariants as refusals
 use Rattle.hy_tables.specs.Files.{texts_of}
 use Rattle.hy_tables.specs.Generated.{generated_lists, is_size}
 use Rattle.hy_place.specs.Directory.{AreFiles, tables}
-use Rattle.hy_place.specs.Faults.{IsWriteFault}
+use Rattle.hy_place.specs.Faults.{IsUnwritten}
 use Rattle.hy_place.specs.Files.{FilesByPath}
 use Rattle.hy_hyper.specs.declared.fault.RunFault.{RunFault}
 use Rattle.hy_hyper.specs.declared.fault.RunFault.TheVariants as fault
@@ -36,4 +36,4 @@ IsGenerateFault directory size files unprinted (fault.Refused refusal) =
     ((refusal ≡ refusals.NoMemory) ⊎ ((refusal ≡ refusals.OutOfRange) × IsFalse (is_size size.warehouses size.customers size.items)))
     × unprinted
 IsGenerateFault directory size files unprinted why =
-    IsOfFiles directory (IsWriteFault files directory (generated_texts size)) why × IsSize size × unprinted
+    IsOfFiles directory (IsUnwritten files directory (generated_texts size)) why × IsSize size × unprinted
