@@ -1,10 +1,10 @@
 -- Laws on the files of a directory.
-use Rattle.std.proofs.Common.{◌≡◌, inl, inr, ℕ, suc, zero, ◌+◌, ◌<◌, Bool, true, false, not, ◌&&◌, IsErrAnd, IfErr, List, [], ◌∷◌, ◌++◌, get_or, length, take, refl, ap, subst, sym, arith, ◌∙◌}
-use Rattle.std.specs.Prelude.{◌≢◌, ◌⊎◌, ⊤, Option, None, Some, Result, Ok, Err, codes}
-use Rattle.std.specs.List.{list_all}
+use Rattle.std.proofs.Common.{◌≡◌, inl, inr, ℕ, suc, zero, ◌+◌, ◌<◌, Bool, true, false, not, ◌&&◌, IsErrAnd, IfErr, List, [], ◌∷◌, ◌++◌, get_or, take, refl, ap, subst, sym, arith, ◌∙◌}
+use Rattle.std.specs.Prelude.{◌≢◌, ◌⊎◌, Option, None, Some, Result, Ok, Err, codes}
+use Rattle.std.specs.List.{AllByRecursion, list_all}
 use Rattle.std.specs.Str.{bytes_eq}
 use Rattle.std.proofs.lemmas.Bool.{false≢true}
-use Rattle.std.proofs.lemmas.List.{append_cancel_left, length-take-le, take_all}
+use Rattle.std.proofs.lemmas.List.{append_cancel_left}
 use Rattle.std.proofs.lemmas.Option.{slice_get-get_or}
 use Rattle.std.proofs.lemmas.Slice.Eq.{bytes_eq-Decides}
 use Rattle.hy_schema.specs.declared.refusal.Table.{Table}
@@ -12,7 +12,7 @@ use Rattle.hy_schema.specs.declared.refusal.Table.TheVariants as table
 use Rattle.hy_schema.specs.declared.refusal.Refusal.TheVariants as refusals
 use Rattle.hy_place.specs.declared.directory.FileFault.{FileFault}
 use Rattle.hy_place.specs.declared.directory.FileFault.TheVariants as fault
-use Rattle.hy_place.specs.Directory.{AreFiles, AreFilesBefore, KeepsOtherFiles, file_name, path_of, tables}
+use Rattle.hy_place.specs.Directory.{AreFiles, KeepsOtherFiles, file_name, path_of, tables}
 use Rattle.hy_place.specs.Faults.{IsUnread, IsUnwritten}
 use Rattle.hy_place.specs.Files.{FilesByPath, HasFile, IsMissing, KeepsOthers}
 
@@ -33,27 +33,6 @@ AreFiles-push known directory (first ∷ before) [] table text files here = absu
 AreFiles-push known directory (first ∷ before) (one ∷ texts) table text files here =
     (files.0, AreFiles-push known directory before texts table text files.1 here)
 
--- so many files have so many texts
-pub AreFiles-length : (known : Option FilesByPath) (directory : List ℕ) (before : List Table)
-    (texts : List (List ℕ)) → AreFiles known directory before texts → length texts ≡ length before
-AreFiles-length known directory [] [] files = refl
-AreFiles-length known directory [] (first ∷ texts) files = absurd files
-AreFiles-length known directory (first ∷ before) [] files = absurd files
-AreFiles-length known directory (first ∷ before) (one ∷ texts) files =
-    ap suc (AreFiles-length known directory before texts files.1)
-
-and_parts : (a b : Bool) → a && b ≡ true → (a ≡ true) × (b ≡ true)
-and_parts true true both = (refl, refl)
-and_parts true false both = absurd (false≢true both)
-and_parts false b both = absurd (false≢true both)
-
--- the files before the one at a number have their texts
-pub AreFilesBefore-at : (known : Option FilesByPath) (directory : List ℕ) (texts : List (List ℕ)) (number : ℕ)
-    → number < 9 → AreFiles known directory (take number tables) (take number texts)
-    → AreFilesBefore known directory (get_or tables number table.Warehouse) texts
-AreFilesBefore-at known directory texts number within files =
-    (number, slice_get-get_or tables number table.Warehouse within, files)
-
 -- the fault of the file at a number is one of the files, where those before it were read
 pub IsUnread-at : (known : Option FilesByPath) (directory : List ℕ) (texts : List (List ℕ)) (number : ℕ)
     (why : FileFault) → number < 9 → AreFiles known directory (take number tables) texts
@@ -64,23 +43,20 @@ pub IsUnread-at : (known : Option FilesByPath) (directory : List ℕ) (texts : L
 IsUnread-at known directory texts number why within files (inl memory) =
     subst (IsUnread known directory) (sym memory) refl
 IsUnread-at known directory texts number why within files (inr missing) =
-    let count : length texts ≡ number =
-    AreFiles-length known directory (take number tables) texts files ∙ length-take-le number tables (omega arith) in
-    let first : take number texts ≡ texts = take_all number texts (omega arith) in
     subst (IsUnread known directory) (sym missing.0)
-    (missing.1, texts, AreFilesBefore-at known directory texts number within
-    (subst (AreFiles known directory (take number tables)) (sym first) files))
+    (number, slice_get-get_or tables number table.Warehouse within, missing.1, texts, files)
 
--- and where those before it were written
-pub IsUnwritten-at : (known : Option FilesByPath) (directory : List ℕ) (texts : List (List ℕ)) (number : ℕ)
-    (why : FileFault) → number < 9 → AreFiles known directory (take number tables) (take number texts)
+-- and where those before it were written, and those behind it weren't
+pub IsUnwritten-at : (old new : Option FilesByPath) (directory : List ℕ) (texts : List (List ℕ)) (number : ℕ)
+    (why : FileFault) → number < 9 → AreFiles new directory (take number tables) (take number texts)
+    → KeepsOtherFiles old new directory (take (number + 1) tables)
     → (why ≡ fault.Refused refusals.NoMemory) ⊎ (why ≡ fault.CannotWrite (get_or tables number table.Warehouse))
-    → IsUnwritten known directory texts why
-IsUnwritten-at known directory texts number why within files (inl memory) =
-    subst (IsUnwritten known directory texts) (sym memory) refl
-IsUnwritten-at known directory texts number why within files (inr unwritten) =
-    subst (IsUnwritten known directory texts) (sym unwritten)
-    (AreFilesBefore-at known directory texts number within files)
+    → IsUnwritten old new directory texts why
+IsUnwritten-at old new directory texts number why within files others (inl memory) =
+    subst (IsUnwritten old new directory texts) (sym memory) refl
+IsUnwritten-at old new directory texts number why within files others (inr unwritten) =
+    subst (IsUnwritten old new directory texts) (sym unwritten)
+    (number, slice_get-get_or tables number table.Warehouse within, files, others)
 
 -- files with different names have different paths
 path-differs : (directory : List ℕ) (table other : Table) → not (bytes_eq (file_name other) (file_name table)) ≡ true
@@ -113,6 +89,11 @@ HasFile-kept None (Some new) path other bytes differs keeps here = absurd keeps
 HasFile-kept (Some old) None path other bytes differs keeps here = absurd keeps
 HasFile-kept (Some old) (Some new) path other bytes differs keeps here = keeps other differs ∙ here
 
+and_parts : (a b : Bool) → a && b ≡ true → (a ≡ true) × (b ≡ true)
+and_parts true true both = (refl, refl)
+and_parts true false both = absurd (false≢true both)
+and_parts false b both = absurd (false≢true both)
+
 -- files stay where one with another name is written
 pub AreFiles-kept : (old new : Option FilesByPath) (directory : List ℕ) (table : Table) (before : List Table)
     (texts : List (List ℕ))
@@ -123,27 +104,45 @@ AreFiles-kept old new directory table [] [] differ keeps files = tt
 AreFiles-kept old new directory table [] (first ∷ texts) differ keeps files = absurd files
 AreFiles-kept old new directory table (first ∷ before) [] differ keeps files = absurd files
 AreFiles-kept old new directory table (first ∷ before) (one ∷ texts) differ keeps files =
-    let both = and_parts _ _ differ in
-    (HasFile-kept old new (path_of directory table) (path_of directory first) one
-    (path-differs directory table first both.0) keeps files.0,
-    AreFiles-kept old new directory table before texts both.1 keeps files.1)
+    let both = and_parts _ _ differ in (
+      HasFile-kept old new (path_of directory table) (path_of directory first) one
+          (path-differs directory table first both.0) keeps files.0,
+      AreFiles-kept old new directory table before texts both.1 keeps files.1,
+    )
 
--- the other files stay where one of the directory is written
-pub KeepsOtherFiles-more : (old now new : Option FilesByPath) (directory : List ℕ) (table : Table)
-    → KeepsOtherFiles old now directory → KeepsOthers now new (path_of directory table)
-    → KeepsOtherFiles old new directory
-KeepsOtherFiles-more None None None directory table keeps more = tt
-KeepsOtherFiles-more None None (Some new) directory table keeps more = absurd more
-KeepsOtherFiles-more None (Some now) new directory table keeps more = absurd keeps
-KeepsOtherFiles-more (Some old) None new directory table keeps more = absurd keeps
-KeepsOtherFiles-more (Some old) (Some now) None directory table keeps more = absurd more
-KeepsOtherFiles-more (Some old) (Some now) (Some new) directory table keeps more =
-    λ other differs. more other (differs table) ∙ keeps other differs
+-- what holds of each of a list and one more
+AllByRecursion-front : {X : Type 0} (P : X → Type 0) (front : List X) (last : X)
+    → AllByRecursion P (front ++ last ∷ []) → AllByRecursion P front × P last
+AllByRecursion-front P [] last all = (tt, all.0)
+AllByRecursion-front P (first ∷ front) last all =
+    let later = AllByRecursion-front P front last all.1 in ((all.0, later.0), later.1)
 
-pub KeepsOtherFiles-same : (old new : Option FilesByPath) (directory : List ℕ) → new ≡ old
-    → KeepsOtherFiles old new directory
-KeepsOtherFiles-same old new directory same = subst (λ now. KeepsOtherFiles old now directory) (sym same) (itself old)
-  where
-    itself : (known : Option FilesByPath) → KeepsOtherFiles known known directory
-    itself None = tt
-    itself (Some files) = λ other differs. refl
+AllByRecursion-take : {X : Type 0} (P : X → Type 0) (count : ℕ) (list : List X)
+    → AllByRecursion P list → AllByRecursion P (take count list)
+AllByRecursion-take P zero list all = tt
+AllByRecursion-take P (suc count) [] all = tt
+AllByRecursion-take P (suc count) (first ∷ list) all = (all.0, AllByRecursion-take P count list all.1)
+
+-- the other files stay where one more of the directory is written
+pub KeepsOtherFiles-push : (old now new : Option FilesByPath) (directory : List ℕ) (written : List Table)
+    (table : Table) → KeepsOtherFiles old now directory written → KeepsOthers now new (path_of directory table)
+    → KeepsOtherFiles old new directory (written ++ table ∷ [])
+KeepsOtherFiles-push None None None directory written table keeps more = tt
+KeepsOtherFiles-push None None (Some new) directory written table keeps more = absurd more
+KeepsOtherFiles-push None (Some now) new directory written table keeps more = absurd keeps
+KeepsOtherFiles-push (Some old) None new directory written table keeps more = absurd keeps
+KeepsOtherFiles-push (Some old) (Some now) None directory written table keeps more = absurd more
+KeepsOtherFiles-push (Some old) (Some now) (Some new) directory written table keeps more =
+    λ other differs.
+    let both = AllByRecursion-front (λ one. other ≢ path_of directory one) written table differs in
+    more other both.1 ∙ keeps other both.0
+
+-- files that are none of a directory's are none of its first ones
+pub KeepsOtherFiles-take : (old new : Option FilesByPath) (directory : List ℕ) (count : ℕ) (written : List Table)
+    → KeepsOtherFiles old new directory (take count written) → KeepsOtherFiles old new directory written
+KeepsOtherFiles-take None None directory count written keeps = tt
+KeepsOtherFiles-take None (Some new) directory count written keeps = absurd keeps
+KeepsOtherFiles-take (Some old) None directory count written keeps = absurd keeps
+KeepsOtherFiles-take (Some old) (Some new) directory count written keeps =
+    λ other differs.
+    keeps other (AllByRecursion-take (λ one. other ≢ path_of directory one) count written differs)

@@ -1,1 +1,2 @@
 pub mod DirectoryLaws
+pub mod LoadLaws

@@ -1,5 +1,6 @@
 -- The nine files of a directory: their paths, and what they have.
-use Rattle.std.specs.Prelude.{◌≡◌, ◌≢◌, ◌++◌, ⊤, ℕ, List, [], ◌∷◌, Option, None, Some, codes, slice_get, take}
+use Rattle.std.specs.Prelude.{◌≡◌, ◌≢◌, ◌+◌, ◌++◌, ⊤, ℕ, List, [], ◌∷◌, Option, None, Some, codes, slice_get, take}
+use Rattle.std.specs.List.{AllByRecursion}
 use Rattle.hy_schema.specs.declared.refusal.Table.{Table}
 use Rattle.hy_schema.specs.declared.refusal.Table.TheVariants as table
 use Rattle.hy_place.specs.Files.{FilesByPath, HasFile, IsMissing}
@@ -34,21 +35,23 @@ AreFiles known directory (table ∷ others) (text ∷ texts) =
 AreFiles known directory [] (text ∷ texts) = ⊥
 AreFiles known directory (table ∷ others) [] = ⊥
 
--- the files of the tables before this one have the first of these texts
-abbrev pub AreFilesBefore : Option FilesByPath → List ℕ → Table → List (List ℕ) → Type 0
-AreFilesBefore known directory table texts =
-    (number : ℕ) × (slice_get tables number ≡ Some table)
-    × AreFiles known directory (take number tables) (take number texts)
-
 -- there is no file of this table, and there are those of the tables before it
 abbrev pub IsFirstMissing : Option FilesByPath → List ℕ → Table → Type 0
 IsFirstMissing known directory table =
-    IsMissing known (path_of directory table) × (texts : List (List ℕ)) × AreFilesBefore known directory table texts
+    (number : ℕ) × (slice_get tables number ≡ Some table) × IsMissing known (path_of directory table)
+    × (texts : List (List ℕ)) × AreFiles known directory (take number tables) texts
 
--- known files stay as they were, but for those of a directory's tables; others stay unknown
-abbrev pub KeepsOtherFiles : Option FilesByPath → Option FilesByPath → List ℕ → Type 0
-KeepsOtherFiles None None directory = ⊤
-KeepsOtherFiles None (Some new) directory = ⊥
-KeepsOtherFiles (Some old) None directory = ⊥
-KeepsOtherFiles (Some old) (Some new) directory =
-    (other : List ℕ) → ((table : Table) → other ≢ path_of directory table) → new other ≡ old other
+-- known files stay as they were, but for those of these tables in a directory; others stay unknown
+abbrev pub KeepsOtherFiles : Option FilesByPath → Option FilesByPath → List ℕ → List Table → Type 0
+KeepsOtherFiles None None directory written = ⊤
+KeepsOtherFiles None (Some new) directory written = ⊥
+KeepsOtherFiles (Some old) None directory written = ⊥
+KeepsOtherFiles (Some old) (Some new) directory written =
+    (other : List ℕ) → AllByRecursion (λ table. other ≢ path_of directory table) written → new other ≡ old other
+
+-- the files of the tables before this one have the first of these texts, and those behind it stay as they were
+abbrev pub EndsAt : Option FilesByPath → Option FilesByPath → List ℕ → Table → List (List ℕ) → Type 0
+EndsAt old new directory table texts =
+    (number : ℕ) × (slice_get tables number ≡ Some table)
+    × AreFiles new directory (take number tables) (take number texts)
+    × KeepsOtherFiles old new directory (take (number + 1) tables)

@@ -3,7 +3,7 @@ use Rattle.std.specs.Prelude.{◌≡◌, ℕ, List, Option}
 use Rattle.hy_schema.specs.declared.refusal.Refusal.TheVariants as refusals
 use Rattle.hy_place.specs.declared.directory.FileFault.{FileFault}
 use Rattle.hy_place.specs.declared.directory.FileFault.TheVariants as fault
-use Rattle.hy_place.specs.Directory.{AreFilesBefore, IsFirstMissing}
+use Rattle.hy_place.specs.Directory.{EndsAt, IsFirstMissing}
 use Rattle.hy_place.specs.Files.{FilesByPath}
 
 -- the file of a table is the first that isn't there, or memory was refused
@@ -12,8 +12,9 @@ IsUnread known directory (fault.CannotRead table) = IsFirstMissing known directo
 IsUnread known directory (fault.CannotWrite table) = ⊥
 IsUnread known directory (fault.Refused refusal) = refusal ≡ refusals.NoMemory
 
--- the file of a table wasn't written, and those before it have the first of these texts; or memory was refused
-abbrev pub IsUnwritten : Option FilesByPath → List ℕ → List (List ℕ) → FileFault → Type 0
-IsUnwritten known directory texts (fault.CannotRead table) = ⊥
-IsUnwritten known directory texts (fault.CannotWrite table) = AreFilesBefore known directory table texts
-IsUnwritten known directory texts (fault.Refused refusal) = refusal ≡ refusals.NoMemory
+-- the file of a table wasn't written: those before it have their texts, and those behind it are as they were; or
+-- memory was refused
+abbrev pub IsUnwritten : Option FilesByPath → Option FilesByPath → List ℕ → List (List ℕ) → FileFault → Type 0
+IsUnwritten old new directory texts (fault.CannotRead table) = ⊥
+IsUnwritten old new directory texts (fault.CannotWrite table) = EndsAt old new directory table texts
+IsUnwritten old new directory texts (fault.Refused refusal) = refusal ≡ refusals.NoMemory

@@ -14,7 +14,8 @@ use Rattle.hy_place.specs.Files.{FilesByPath}
 -- texts were read whole, and say this load
 abbrev pub SayLoad : Lists → List (List ℕ) → Type 0
 SayLoad load texts =
-    (load ≡ lists_read (readings_of texts)) × (ends_read (readings_of texts) ≡ all_whole) × IsLoad load
+    (load ≡ lists_read (readings_of texts)) × (ends_read (readings_of texts) ≡ all_whole)
+    × IsLoad (lists_read (readings_of texts))
 
 -- texts are no load, for this reason, or memory was refused
 abbrev pub AreRefused : Refusal → List (List ℕ) → Type 0

@@ -102,7 +102,7 @@ fn read_file<F: Place>(
         (λ bytes. HasFile (F.files place.old) (path_of directory.now table) bytes.items) }
     ensures fault { IfErr result
         (λ why. (why ≡ fault.Refused refusals.NoMemory)
-            ⊎ ((why ≡ fault.CannotRead table) × IsMissing (F.files place.old) (path_of directory.now table))) }
+        ⊎ ((why ≡ fault.CannotRead table) × IsMissing (F.files place.old) (path_of directory.now table))) }
 {
     let path = path_of(alloc, directory, table)?;
     match place.read(alloc, path.as_str()) {
@@ -159,9 +159,9 @@ pub fn write_files<F: Place>(
 ) -> Result<(), FileFault>
     ensures files { OnOk result
         (AreFiles (F.files place.new) directory.now tables (map (λ text. text.items) texts.now)) }
-    ensures others { KeepsOtherFiles (F.files place.old) (F.files place.new) directory.now }
+    ensures others { KeepsOtherFiles (F.files place.old) (F.files place.new) directory.now tables }
     ensures fault { IfErr result
-        (IsUnwritten (F.files place.new) directory.now (map (λ text. text.items) texts.now)) }
+        (IsUnwritten (F.files place.old) (F.files place.new) directory.now (map (λ text. text.items) texts.now)) }
 {
     for (number, table) in TABLES.iter().enumerate() {
         write_file(alloc, place, directory, *table, &texts[number])?;

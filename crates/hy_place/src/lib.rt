@@ -8,3 +8,8 @@ mod place;
 pub use directory::{FileFault, file_name};
 pub use load::{read_load, write_load};
 pub use place::{Files, Place};
+
+#[cfg(test)]
+mod shelf;
+#[cfg(test)]
+mod tests;

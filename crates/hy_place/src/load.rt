@@ -16,11 +16,7 @@ use std::alloc::Global;
 /// The load in the nine files of a directory. All of them are read before it is tested, in the order WAREHOUSE, DISTRICT,
 /// CUSTOMER, ITEM, STOCK, ORDER, NEW-ORDER, ORDER-LINE, HISTORY. `CannotRead` names the first that can't be read; E12
 /// names what is wrong with their texts, and E1 comes where memory is refused.
-pub fn read_load<F: Place>(
-    alloc: Global,
-    place: &mut F,
-    directory: &str,
-) -> Result<Load, FileFault>
+pub fn read_load<F: Place>(alloc: Global, place: &mut F, directory: &str) -> Result<Load, FileFault>
     ensures files { F.files place.new ≡ F.files place.old }
     ensures load { MatchResult result (λ load. HaveTexts (F.files place.old) directory.now (SayLoad load))
         (IsReadFault (F.files place.old) directory.now) }
@@ -47,7 +43,7 @@ fn load_of(alloc: Global, texts: &[Vec<u8>]) -> Result<Load, Refusal>
 
 /// Writes a load into the nine files of a directory, which is made where it isn't there. The texts are all made before
 /// the first file is written, in the order of `read_load`. `CannotWrite` names the first file that can't be written: those
-/// before it have their texts then. E1 where memory is refused.
+/// before it have their texts then, and those behind it are as they were. E1 where memory is refused.
 pub fn write_load<F: Place>(
     alloc: Global,
     place: &mut F,
@@ -55,8 +51,9 @@ pub fn write_load<F: Place>(
     load: &Load,
 ) -> Result<(), FileFault>
     ensures files { OnOk result (AreFiles (F.files place.new) directory.now tables (texts_of load.now)) }
-    ensures others { KeepsOtherFiles (F.files place.old) (F.files place.new) directory.now }
-    ensures fault { IfErr result (IsUnwritten (F.files place.new) directory.now (texts_of load.now)) }
+    ensures others { KeepsOtherFiles (F.files place.old) (F.files place.new) directory.now tables }
+    ensures fault { IfErr result
+        (IsUnwritten (F.files place.old) (F.files place.new) directory.now (texts_of load.now)) }
 {
     let texts = save(alloc, load)?;
     let _made = place.make_folder(directory);

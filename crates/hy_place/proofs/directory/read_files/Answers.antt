@@ -1,9 +1,8 @@
-use Rattle.std.proofs.Common.{◌≡◌, ◌+◌, ◌++◌, ◌∷◌, [], List, ℕ, map, take, get_or, sym, ap, subst, ◌∙◌, arith, rules}
+use Rattle.std.proofs.Common.{take, get_or, ◌∙◌, arith}
 use Rattle.std.proofs.lemmas.List.{map_push, take_more}
 use Rattle.hy_schema.specs.declared.refusal.Table.TheVariants as table
-use Rattle.hy_place.specs.Directory.{AreFiles, path_of, tables}
+use Rattle.hy_place.specs.Directory.{tables}
 use Rattle.hy_place.specs.Faults.{IsUnread}
-use Rattle.hy_place.specs.Files.{HasFile, IsMissing}
 use Rattle.hy_place.proofs.DirectoryLaws.{AreFiles-push, IfErr-this, IsUnread-at}
 use Rattle.hy_place.proofs.directory.read_files.Goals as goal
 
@@ -25,8 +24,8 @@ loop-table-preserved g c =
     let own = get_or tables number table.Warehouse in
     let here = rw c.loop-table.invariant.files at c.in_ok-bytes.ensures.bytes in
     let pushed =
-        AreFiles-push known directory (take number tables) _ own c.in_ok-bytes.bytes.items c.loop-table.invariant.texts
-        here in
+    AreFiles-push known directory (take number tables) _ own c.in_ok-bytes.bytes.items c.loop-table.invariant.texts
+    here in
     record {
       files = c.in_ok-bytes.ensures.files ∙ c.loop-table.invariant.files;
       texts =

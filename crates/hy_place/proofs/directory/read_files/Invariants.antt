@@ -1,4 +1,4 @@
-use Rattle.std.proofs.Common.{◌≡◌, ◌≤◌, length, map, take}
+use Rattle.std.proofs.Common.{◌≡◌, ◌≤◌, map, take}
 use Rattle.std.specs.Prelude.{vec_capacity, vec_len}
 use Rattle.hy_place.specs.Directory.{AreFiles, tables}
 use Rattle.hy_place.proofs.directory.read_files.Given as goal
