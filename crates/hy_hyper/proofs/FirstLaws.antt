@@ -76,3 +76,10 @@ pub err_is : {T E : Type 0} (answer : Result T E) (value : E) → IsErrAnd answe
     → answer ≡ Err value
 err_is (Ok x) value is = absurd (is)
 err_is (Err error) value is = ap Err is
+
+-- of two cases the one that is left
+pub other_case : {One Other : Type 0} → One ⊎ Other → (One → ⊥) → Other
+other_case either not_one = elim either [
+  | inl one ↦ absurd (not_one one)
+  | inr other ↦ other
+]

@@ -1,3 +1,4 @@
+pub mod CheckLaws
 pub mod FirstLaws
 pub mod OpenLaws
 pub mod StoreLaws

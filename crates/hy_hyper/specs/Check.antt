@@ -1,9 +1,8 @@
 -- What `check` does: it tests the load in the files of a folder, and prints what it finds.
-use Rattle.std.specs.Prelude.{ℕ, List, ◌++◌, Option, codes, length}
+use Rattle.std.specs.Prelude.{ℕ, ℤ, List, ◌++◌, Option, codes, length}
 use Rattle.std.specs.List.{flat_map}
 use Rattle.std.specs.Fmt.{decimal, signed_decimal}
 use Rattle.std.specs.Io.KnownBytes.{Appends}
-use Rattle.hy_rows.specs.declared.warehouse.Warehouse.{Warehouse}
 use Rattle.hy_rows.specs.Tables.{Lists, Tables, of_warehouse}
 use Rattle.hy_place.specs.Files.{FilesByPath}
 use Rattle.hy_place.specs.Loads.{HaveTexts, IsReadFault, SayLoad}
@@ -11,16 +10,16 @@ use Rattle.hy_hyper.specs.declared.fault.RunFault.{RunFault}
 use Rattle.hy_hyper.specs.declared.fault.RunFault.TheVariants as fault
 use Rattle.hy_hyper.specs.Faults.{IsOfFiles}
 
--- the line of a warehouse with so many undelivered orders
-abbrev pub warehouse_line : Warehouse → ℕ → List ℕ
-warehouse_line row open_orders =
-    codes "warehouse " ++ decimal row.id ++ codes " ytd " ++ signed_decimal row.ytd
-    ++ codes " open " ++ decimal open_orders ++ codes "\n"
+-- the line of a warehouse with this W_YTD and so many undelivered orders
+abbrev pub warehouse_line : ℕ → ℤ → ℕ → List ℕ
+warehouse_line number ytd undelivered =
+    codes "warehouse " ++ decimal number ++ codes " ytd " ++ signed_decimal ytd
+    ++ codes " open " ++ decimal undelivered ++ codes "\n"
 
 -- a line for each warehouse, and then that the consistency conditions hold
 abbrev pub report : Tables → List ℕ
 report tables =
-    flat_map (λ row. warehouse_line row (length (of_warehouse row.id tables).new_orders)) tables.warehouses
+    flat_map (λ row. warehouse_line row.id row.ytd (length (of_warehouse row.id tables).new_orders)) tables.warehouses
     ++ codes "conditions 1 2 3 4 5 6 7 8 9 10 12 hold\n"
 
 -- the files of the folder are those of a load with these lists

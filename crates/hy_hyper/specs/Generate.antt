@@ -28,12 +28,12 @@ IsGenerated directory size files old new =
     AreFiles files directory tables (generated_texts size) × Appends old new (codes "wrote 9 tables\n")
 
 -- why it isn't done: the size is out of range, memory is refused or a file can't be written, before anything was
--- printed; or the writer failed
-abbrev pub IsGenerateFault : List ℕ → Size → Option FilesByPath → Type 0 → RunFault → Type 0
+-- printed; or the writer failed. The files are those before and those after
+abbrev pub IsGenerateFault : List ℕ → Size → Option FilesByPath × Option FilesByPath → Type 0 → RunFault → Type 0
 IsGenerateFault directory size files unprinted (fault.Writer error) =
-    IsSize size × AreFiles files directory tables (generated_texts size)
+    IsSize size × AreFiles files.1 directory tables (generated_texts size)
 IsGenerateFault directory size files unprinted (fault.Refused refusal) =
     ((refusal ≡ refusals.NoMemory) ⊎ ((refusal ≡ refusals.OutOfRange) × IsFalse (is_size size.warehouses size.customers size.items)))
     × unprinted
 IsGenerateFault directory size files unprinted why =
-    IsOfFiles directory (IsUnwritten files directory (generated_texts size)) why × IsSize size × unprinted
+    IsOfFiles directory (IsUnwritten files.0 files.1 directory (generated_texts size)) why × IsSize size × unprinted

@@ -1,9 +1,9 @@
 -- What a run of the program leaves, by the way in which it ended. Of files and of bytes that were written, a pair has
 -- what was there before, and what is there after it, as far as they are known.
 use Rattle.std.specs.Prelude.{◌≡◌, ◌⊎◌, ⊤, ℕ, List, Option}
-use Rattle.std.specs.declared.io.error.Error.{Error}
+use Rattle.std.specs.declared.io.Error.{Error}
 use Rattle.hy_schema.specs.declared.refusal.Refusal.TheVariants as refusals
-use Rattle.hy_place.specs.Directory.{KeepsOtherFiles}
+use Rattle.hy_place.specs.Directory.{KeepsOtherFiles, tables}
 use Rattle.hy_place.specs.Files.{FilesByPath}
 use Rattle.hy_words.specs.CommandLine.{Says}
 use Rattle.hy_words.specs.declared.words.Line.{Line}
@@ -43,13 +43,13 @@ IsDone (line.Check directory) files bytes = IsChecked directory.now files.0 byte
 abbrev pub IsFaultOf : Line → KnownFiles → Type 0 → RunFault → Type 0
 IsFaultOf (line.First amount) files unprinted why = IsFirstFault amount unprinted why
 IsFaultOf (line.Generate directory warehouses customers items) files unprinted why =
-    IsGenerateFault directory.now (size_of warehouses customers items) files.1 unprinted why
+    IsGenerateFault directory.now (size_of warehouses customers items) files unprinted why
 IsFaultOf (line.Check directory) files unprinted why = IsCheckFault directory.now files.0 unprinted why
 
 -- `gen` alone writes files, those of its folder, where there is a database of its size
 abbrev pub MayWrite : Line → KnownFiles → Type 0
 MayWrite (line.Generate directory warehouses customers items) files =
-    IsSize (size_of warehouses customers items) × KeepsOtherFiles files.0 files.1 directory.now
+    IsSize (size_of warehouses customers items) × KeepsOtherFiles files.0 files.1 directory.now tables
 MayWrite other files = ⊥
 
 -- the files stay as they were, but where the words say a command line that writes some

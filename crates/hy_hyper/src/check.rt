@@ -1,12 +1,12 @@
 //! The command `check`: what is found in the files of a load.
 
-ghost use Rattle.std.specs.Prelude.{◌≡◌, IfErr, IfOk, OnOk, length};
+ghost use Rattle.std.specs.Prelude.{◌≡◌, IfErr, IfOk, OnOk, length, string_bytes};
 ghost use Rattle.hy_rows.specs.Tables.{of_warehouse};
-ghost use Rattle.hy_hyper.specs.Check.{IsCheckFault, IsChecked, report};
+ghost use Rattle.hy_hyper.specs.Check.{IsCheckFault, IsChecked, report, warehouse_line};
 
 use crate::fault::RunFault;
 use hy_place::{Place, read_load};
-use hy_rows::{Lists, NewOrder, Tables, Warehouse};
+use hy_rows::Tables;
 use std::alloc::{AllocError, Global};
 use std::io;
 
@@ -34,11 +34,12 @@ pub fn run_check<'a, F: Place, O: io::Write>(
 
 /// What `check` prints of the rows of a load.
 fn report(alloc: Global, tables: &Tables) -> Result<String, AllocError>
-    ensures { IfOk result (λ text. text ≡ report tables.now) }
+    ensures { IfOk result (λ text. string_bytes text ≡ report tables.now) }
 {
     let mut text = String::new(alloc);
     for warehouse in &tables.warehouses {
-        let line = warehouse_line(alloc, warehouse, open_orders(tables, warehouse.id))?;
+        let undelivered = undelivered_orders(tables, warehouse.id);
+        let line = warehouse_line(alloc, warehouse.id, warehouse.ytd, undelivered)?;
         text.push_str(line.as_str())?;
     }
     text.push_str("conditions 1 2 3 4 5 6 7 8 9 10 12 hold\n")?;
@@ -46,15 +47,20 @@ fn report(alloc: Global, tables: &Tables) -> Result<String, AllocError>
 }
 
 /// The line of a warehouse.
-fn warehouse_line(alloc: Global, warehouse: &Warehouse, open: usize) -> Result<String, AllocError>
-    ensures { IfOk result (λ text. text ≡ warehouse_line warehouse.now open) }
+fn warehouse_line(
+    alloc: Global,
+    number: u8,
+    ytd: i64,
+    undelivered: usize,
+) -> Result<String, AllocError>
+    ensures { IfOk result (λ text. string_bytes text ≡ warehouse_line number ytd undelivered) }
 {
-    let Warehouse { id, ytd, .. } = *warehouse;
-    format!(in alloc; "warehouse {id} ytd {ytd} open {open}\n")
+    let line = format!(in alloc; "warehouse {number} ytd {ytd} open {undelivered}\n")?;
+    Ok(line)
 }
 
 /// How many orders of a warehouse aren't delivered.
-fn open_orders(tables: &Tables, warehouse: u8) -> usize
+fn undelivered_orders(tables: &Tables, warehouse: u8) -> usize
     ensures { result ≡ length (of_warehouse warehouse tables.now).new_orders }
 {
     tables

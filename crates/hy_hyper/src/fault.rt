@@ -1,12 +1,14 @@
 //! Why a command line isn't done.
 
 ghost use Rattle.std.specs.Prelude.{◌≡◌, Some};
+ghost use Rattle.hy_schema.specs.declared.refusal.Refusal.TheVariants as refusals;
 ghost use Rattle.hy_hyper.specs.declared.fault.RunFault.TheVariants as fault;
 ghost use Rattle.hy_hyper.specs.Faults.{IsAboutFiles, fault_text, path_text};
 
 use crate::reason::Reason;
 use hy_place::{FileFault, file_name};
 use hy_schema::{Refusal, Table};
+use std::alloc::AllocError;
 use std::{fmt, io};
 
 /// The path of a table's file in a folder, which is printed as its text.
@@ -59,6 +61,14 @@ impl From<Refusal> for RunFault<'_> {
 
     fn from(refusal: Refusal) -> Self {
         RunFault::Refused(refusal)
+    }
+}
+
+impl From<AllocError> for RunFault<'_> {
+    ghost from_gives = { λ _ made. made ≡ fault.Refused refusals.NoMemory };
+
+    fn from(_refused: AllocError) -> Self {
+        RunFault::Refused(Refusal::NoMemory)
     }
 }
 

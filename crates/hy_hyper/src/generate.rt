@@ -2,7 +2,7 @@
 
 ghost use Rattle.std.specs.Prelude.{◌≡◌, IfErr, IsFalse, OnOk};
 ghost use Rattle.hy_tables.specs.Generated.{is_size};
-ghost use Rattle.hy_place.specs.Directory.{KeepsOtherFiles};
+ghost use Rattle.hy_place.specs.Directory.{KeepsOtherFiles, tables};
 ghost use Rattle.hy_hyper.specs.Generate.{IsGenerateFault, IsGenerated};
 
 use crate::fault::RunFault;
@@ -30,12 +30,13 @@ pub fn run_generate<'a, F: Place, O: io::Write>(
     place: &mut F,
     out: &mut O,
 ) -> Result<(), RunFault<'a>>
-    ensures others { KeepsOtherFiles (F.files place.old) (F.files place.new) directory.entry.now }
+    ensures others { KeepsOtherFiles (F.files place.old) (F.files place.new) directory.entry.now tables }
     ensures unwritten { IsFalse (is_size size.warehouses size.customers size.items) →
         F.files place.new ≡ F.files place.old }
     ensures done { OnOk result
         (IsGenerated directory.entry.now size (F.files place.new) (O.contents out.old) (O.contents out.new)) }
-    ensures fault { IfErr result (IsGenerateFault directory.entry.now size (F.files place.new) (out.new ≡ out.old)) }
+    ensures fault { IfErr result
+        (IsGenerateFault directory.entry.now size (F.files place.old, F.files place.new) (out.new ≡ out.old)) }
 {
     let Size {
         warehouses,

@@ -65,7 +65,7 @@ pub fn run_words<F: Place, O: io::Write, X: io::Write>(
 /// Writes the line that says why a command line isn't done.
 fn explain<X: io::Write>(fault: RunFault<'_>, err: &mut X) -> Ending
     ensures refused { result ≡ Ending.Refused →
-        Explains fault (X.contents err.old) (X.contents err.new) }
+        Explains fault.entry (X.contents err.old) (X.contents err.new) }
     ensures otherwise { (result ≡ Ending.Refused) ⊎ (result ≡ Ending.WriterFailed) }
 {
     let ending = match fault {
@@ -86,11 +86,11 @@ fn run_line<'a, F: Place, O: io::Write>(
     out: &mut O,
 ) -> Result<(), RunFault<'a>>
     ensures files { (F.files place.new ≡ F.files place.old)
-        ⊎ MayWrite line (F.files place.old, F.files place.new) }
+        ⊎ MayWrite line.entry (F.files place.old, F.files place.new) }
     ensures done { OnOk result
-        (IsDone line (F.files place.old, F.files place.new) (O.contents out.old, O.contents out.new)) }
+        (IsDone line.entry (F.files place.old, F.files place.new) (O.contents out.old, O.contents out.new)) }
     ensures fault { IfErr result
-        (IsFaultOf line (F.files place.old, F.files place.new) (out.new ≡ out.old)) }
+        (IsFaultOf line.entry (F.files place.old, F.files place.new) (out.new ≡ out.old)) }
 {
     match line {
         Line::First { amount } => run_first(alloc, amount, out),

@@ -1,10 +1,10 @@
-use Rattle.std.proofs.Common.{rules, ◌≡◌, ℤ, Result, Err, IfErr, inl, inr, sym, subst}
+use Rattle.std.proofs.Common.{rules, ◌≡◌, ℤ, Result, Err, IfErr, inl, inr, sym, subst, false≢true}
 use Rattle.std.proofs.lemmas.Result.{IfErr-weaker, IfOk-weaker}
 use Rattle.hy_schema.specs.declared.refusal.Refusal.{Refusal}
 use Rattle.hy_schema.specs.declared.command.Payment.{Payment}
 use Rattle.hy_rows.specs.Tables.{Lists}
 use Rattle.hy_hyper.specs.First.{IsFirstRefusal, IsPaid, IsPayRefusal}
-use Rattle.hy_hyper.proofs.FirstLaws.{HasBegun, err_is, first_refusal, ytd_after}
+use Rattle.hy_hyper.proofs.FirstLaws.{HasBegun, err_is, first_refusal, other_case, ytd_after}
 use Rattle.hy_hyper.proofs.first.first.Goals as goal
 
 -- what refuses the payment refuses `first`
@@ -14,7 +14,7 @@ returns-in_err-pay-clause-refused c =
     let refusal = c.in_err-pay.field-0.0 in
     let begins =
     subst (λ (load : Lists). HasBegun load.tables partition)
-    c.in_ok-load.ensures c.in_ok-partition.ensures.begins in
+    c.in_ok-load.ensures.load c.in_ok-partition.ensures.begins in
     let why =
     subst (λ (payment : Payment). IsPayRefusal partition payment refusal)
     c.payment.ensures c.in_err-pay.ensures.refused in
@@ -27,7 +27,7 @@ pub returns-in_err-load-clause-refused : goal.returns-in_err-load-clause-refused
 returns-in_err-load-clause-refused c =
     let is : c.from_residual.result ≡ Err c.in_err-load.field-0.0 = search rules in
     subst (λ (r : Result ℤ Refusal). IfErr r (IsFirstRefusal c.args.amount)) (sym is)
-    (inr (inl c.in_err-load.ensures))
+    (inr (inl (other_case c.in_err-load.ensures.refused (λ out. false≢true (sym (c.in_err-load.ensures.out_of_range.0 out))))))
 
 -- what the snapshot shows is W_YTD after the payment
 pub returns-clause-ytd : goal.returns-clause-ytd
@@ -35,7 +35,7 @@ returns-clause-ytd c =
     let partition = c.in_ok-partition.partition in
     let begins =
     subst (λ (load : Lists). HasBegun load.tables partition)
-    c.in_ok-load.ensures c.in_ok-partition.ensures.begins in
+    c.in_ok-load.ensures.load c.in_ok-partition.ensures.begins in
     let paid =
     subst (λ (payment : Payment). IsPaid payment partition c.pay.new.partition)
     c.payment.ensures c.in_ok-pay.ensures.paid in
