@@ -13,9 +13,9 @@ use hy_schema::Refusal;
 use hy_tables::{load, save};
 use std::alloc::Global;
 
-/// The load in the nine files of a directory. All of them are read before it is tested, in the order WAREHOUSE, DISTRICT,
-/// CUSTOMER, ITEM, STOCK, ORDER, NEW-ORDER, ORDER-LINE, HISTORY. `CannotRead` names the first that can't be read; E12
-/// names what is wrong with their texts, and E1 comes where memory is refused.
+/// The load in the nine files of a directory. All of them are read before it is tested, in the order WAREHOUSE,
+/// DISTRICT, CUSTOMER, ITEM, STOCK, ORDER, NEW-ORDER, ORDER-LINE, HISTORY. `CannotRead` names the first that can't be
+/// read; E12 names what is wrong with their texts, and E1 comes where memory is refused.
 pub fn read_load<F: Place>(alloc: Global, place: &mut F, directory: &str) -> Result<Load, FileFault>
     ensures files { F.files place.new ≡ F.files place.old }
     ensures load { MatchResult result (λ load. HaveTexts (F.files place.old) directory.now (SayLoad load))
@@ -42,8 +42,8 @@ fn load_of(alloc: Global, texts: &[Vec<u8>]) -> Result<Load, Refusal>
 }
 
 /// Writes a load into the nine files of a directory, which is made where it isn't there. The texts are all made before
-/// the first file is written, in the order of `read_load`. `CannotWrite` names the first file that can't be written: those
-/// before it have their texts then, and those behind it are as they were. E1 where memory is refused.
+/// the first file is written, in the order of `read_load`. `CannotWrite` names the first file that can't be written:
+/// those before it have their texts then, and those behind it are as they were. E1 where memory is refused.
 pub fn write_load<F: Place>(
     alloc: Global,
     place: &mut F,

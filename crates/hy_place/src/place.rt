@@ -11,8 +11,8 @@ pub trait Place {
     // The files, where they are known.
     ghost files: { Self → Option FilesByPath };
 
-    /// The bytes of a file. An `Err` of the kind `OutOfMemory` for want of memory, and of another kind where it can't be
-    /// read: where the files are known, there is none at the path.
+    /// The bytes of a file. An `Err` of the kind `OutOfMemory` for want of memory, and of another kind where it can't
+    /// be read: where the files are known, there is none at the path.
     fn read(&mut self, alloc: Global, path: &str) -> io::Result<Vec<u8>>
         ensures bytes { IfOk result (λ bytes. HasFile (files self.old) path.now bytes.items) }
         ensures missing { IfErr result (λ error. IsOutOfMemory error ⊎ IsMissing (files self.old) path.now) }

@@ -29,7 +29,8 @@ loop-table-preserved g c =
     record {
       files = c.in_ok-bytes.ensures.files ∙ c.loop-table.invariant.files;
       texts =
-          rw (take_more tables number table.Warehouse c.loop-table-test.true, c.push_reserved.ensures.items, map_push) pushed;
+          rw (take_more tables number table.Warehouse c.loop-table-test.true, c.push_reserved.ensures.items, map_push)
+          pushed;
       room = omega arith;
       len = omega arith;
     }
