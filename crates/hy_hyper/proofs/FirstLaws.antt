@@ -1,5 +1,5 @@
 -- Why the payment of `first` isn't done.
-use Rattle.std.proofs.Common.{◌≡◌, inl, inr, ℕ, ℤ, List, [], ◌∷◌, ◌++◌, length, IsErrAnd, Result, Ok, Err, Option, Some, None, ◌||◌, ◌==◌, cond, is_some, refl, sym, ap, ◌∙◌}
+use Rattle.std.proofs.Common.{◌≡◌, ◌⊎◌, inl, inr, ℕ, ℤ, List, [], ◌∷◌, ◌++◌, length, IsErrAnd, Result, Ok, Err, Option, Some, None, ◌||◌, ◌==◌, cond, is_some, refl, sym, ap, ◌∙◌}
 use Rattle.std.specs.Option.{option_or}
 use Rattle.hy_schema.specs.declared.command.Command.{Command}
 use Rattle.hy_schema.specs.declared.command.Commit.{Commit}

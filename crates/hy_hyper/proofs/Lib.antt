@@ -1,4 +1,6 @@
 pub mod CheckLaws
 pub mod FirstLaws
+pub mod GenerateLaws
 pub mod OpenLaws
+pub mod RunLaws
 pub mod StoreLaws

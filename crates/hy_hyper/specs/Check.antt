@@ -3,6 +3,7 @@ use Rattle.std.specs.Prelude.{ℕ, ℤ, List, ◌++◌, Option, codes, length}
 use Rattle.std.specs.List.{flat_map}
 use Rattle.std.specs.Fmt.{decimal, signed_decimal}
 use Rattle.std.specs.Io.KnownBytes.{Appends}
+use Rattle.hy_rows.specs.declared.warehouse.Warehouse.{Warehouse}
 use Rattle.hy_rows.specs.Tables.{Lists, Tables, of_warehouse}
 use Rattle.hy_place.specs.Files.{FilesByPath}
 use Rattle.hy_place.specs.Loads.{HaveTexts, IsReadFault, SayLoad}
@@ -16,11 +17,14 @@ warehouse_line number ytd undelivered =
     codes "warehouse " ++ decimal number ++ codes " ytd " ++ signed_decimal ytd
     ++ codes " open " ++ decimal undelivered ++ codes "\n"
 
+-- the line of a warehouse of these tables
+abbrev pub line_of : Tables → Warehouse → List ℕ
+line_of tables row = warehouse_line row.id row.ytd (length (of_warehouse row.id tables).new_orders)
+
 -- a line for each warehouse, and then that the consistency conditions hold
 abbrev pub report : Tables → List ℕ
 report tables =
-    flat_map (λ row. warehouse_line row.id row.ytd (length (of_warehouse row.id tables).new_orders)) tables.warehouses
-    ++ codes "conditions 1 2 3 4 5 6 7 8 9 10 12 hold\n"
+    flat_map (line_of tables) tables.warehouses ++ codes "conditions 1 2 3 4 5 6 7 8 9 10 12 hold\n"
 
 -- the files of the folder are those of a load with these lists
 abbrev pub HasLoad : Option FilesByPath → List ℕ → Lists → Type 0

@@ -2,11 +2,11 @@
 
 ghost use Rattle.std.specs.Prelude.{◌≡◌, IfErr, IfOk, OnOk, length, string_bytes};
 ghost use Rattle.hy_rows.specs.Tables.{of_warehouse};
-ghost use Rattle.hy_hyper.specs.Check.{IsCheckFault, IsChecked, report, warehouse_line};
+ghost use Rattle.hy_hyper.specs.Check.{IsCheckFault, IsChecked, line_of, report, warehouse_line};
 
 use crate::fault::RunFault;
 use hy_place::{Place, read_load};
-use hy_rows::Tables;
+use hy_rows::{Tables, Warehouse};
 use std::alloc::{AllocError, Global};
 use std::io;
 
@@ -38,15 +38,22 @@ fn report(alloc: Global, tables: &Tables) -> Result<String, AllocError>
 {
     let mut text = String::new(alloc);
     for warehouse in &tables.warehouses {
-        let undelivered = undelivered_orders(tables, warehouse.id);
-        let line = warehouse_line(alloc, warehouse.id, warehouse.ytd, undelivered)?;
+        let line = line_of(alloc, tables, warehouse)?;
         text.push_str(line.as_str())?;
     }
     text.push_str("conditions 1 2 3 4 5 6 7 8 9 10 12 hold\n")?;
     Ok(text)
 }
 
-/// The line of a warehouse.
+/// The line of a warehouse of these tables.
+fn line_of(alloc: Global, tables: &Tables, warehouse: &Warehouse) -> Result<String, AllocError>
+    ensures { IfOk result (λ text. string_bytes text ≡ line_of tables.now warehouse.now) }
+{
+    let undelivered = undelivered_orders(tables, warehouse.id);
+    warehouse_line(alloc, warehouse.id, warehouse.ytd, undelivered)
+}
+
+/// The line of a warehouse with this W_YTD and so many undelivered orders.
 fn warehouse_line(
     alloc: Global,
     number: u8,

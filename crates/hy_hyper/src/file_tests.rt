@@ -66,7 +66,8 @@ fn says(rt: &impl Abort, alloc: Global, (path, old, new): (&str, &str, &str)) ->
 fn generates_and_checks(rt: HostRuntime) {
     let mut shelf = small(&rt, rt.alloc());
     let found = run(rt.alloc(), &mut shelf, &["check", "db"]);
-    let text = "warehouse 1 ytd 30000 open 0\nwarehouse 2 ytd 30000 open 0\nconditions 1 2 3 4 5 6 7 8 9 10 12 hold\n";
+    let text =
+        "warehouse 1 ytd 30000 open 0\nwarehouse 2 ytd 30000 open 0\nconditions 1 2 3 4 5 6 7 8 9 10 12 hold\n";
     assert!(rt; found.ending == Ending::Done && found.err.is_empty());
     assert!(rt; found.out.as_slice() == text.as_bytes());
 }
@@ -117,8 +118,13 @@ fn names_broken_conditions(rt: HostRuntime) {
     ];
     for (change, number) in cases {
         let alloc = rt.alloc();
-        let text = format!(in alloc; "refused E12 BadLoad condition {number}\n").expect(&rt, "a text");
-        assert!(rt; says(&rt, alloc, change).as_slice() == text.as_bytes(), "not {text}");
+        let text = format!(in alloc; "refused E12 BadLoad condition {number}\n").expect(
+            &rt, "a text",
+        );
+        assert!(rt;
+            says(&rt, alloc, change).as_slice() == text.as_bytes(),
+            "not {text}"
+        );
     }
 }
 
@@ -131,19 +137,46 @@ fn names_broken_rows(rt: HostRuntime) {
             "CUSTOMER row 2",
         ),
         (("db/item.csv", "I_PRICE", "i_price"), "ITEM row 0"),
-        (("db/item.csv", "3,4,ITEM3,211", "3,4,ITEM3,0211"), "ITEM row 3"),
-        (("db/item.csv", "3,4,ITEM3,211", "3,4,ITEM3,+211"), "ITEM row 3"),
-        (("db/warehouse.csv", "W1,500,", "W1,10001,"), "WAREHOUSE row 1"),
-        (("db/district.csv", "10,2,D10,1000,3000,1\n", ""), "DISTRICT row 20"),
-        (("db/history.csv", "3,10,2,10,2,", "3,10,2,10,3,"), "HISTORY row 60"),
-        (("db/neworder.csv", "NO_W_ID\n", "NO_W_ID\n1,1,1\n"), "NEW-ORDER row 1"),
-        (("db/orders.csv", "O_ALL_LOCAL\n", "O_ALL_LOCAL\n1\n"), "ORDER row 1"),
-        (("db/orderline.csv", "OL_AMOUNT\n", "OL_AMOUNT \n"), "ORDER-LINE row 0"),
+        (
+            ("db/item.csv", "3,4,ITEM3,211", "3,4,ITEM3,0211"),
+            "ITEM row 3",
+        ),
+        (
+            ("db/item.csv", "3,4,ITEM3,211", "3,4,ITEM3,+211"),
+            "ITEM row 3",
+        ),
+        (
+            ("db/warehouse.csv", "W1,500,", "W1,10001,"),
+            "WAREHOUSE row 1",
+        ),
+        (
+            ("db/district.csv", "10,2,D10,1000,3000,1\n", ""),
+            "DISTRICT row 20",
+        ),
+        (
+            ("db/history.csv", "3,10,2,10,2,", "3,10,2,10,3,"),
+            "HISTORY row 60",
+        ),
+        (
+            ("db/neworder.csv", "NO_W_ID\n", "NO_W_ID\n1,1,1\n"),
+            "NEW-ORDER row 1",
+        ),
+        (
+            ("db/orders.csv", "O_ALL_LOCAL\n", "O_ALL_LOCAL\n1\n"),
+            "ORDER row 1",
+        ),
+        (
+            ("db/orderline.csv", "OL_AMOUNT\n", "OL_AMOUNT \n"),
+            "ORDER-LINE row 0",
+        ),
     ];
     for (change, row) in cases {
         let alloc = rt.alloc();
         let text = format!(in alloc; "refused E12 BadLoad {row}\n").expect(&rt, "a text");
-        assert!(rt; says(&rt, alloc, change).as_slice() == text.as_bytes(), "not {text}");
+        assert!(rt;
+            says(&rt, alloc, change).as_slice() == text.as_bytes(),
+            "not {text}"
+        );
     }
 }
 
@@ -171,7 +204,9 @@ fn example(rt: &impl Abort, alloc: Global) -> Shelf {
     let mut shelf = Shelf::new(alloc);
     for (name, text) in FILES {
         let path = format!(in alloc; "db/{name}").expect(rt, "a path");
-        shelf.write(path.as_str(), text.as_bytes()).expect(rt, "a file");
+        shelf
+            .write(path.as_str(), text.as_bytes())
+            .expect(rt, "a file");
     }
     shelf
 }
@@ -180,7 +215,8 @@ fn example(rt: &impl Abort, alloc: Global) -> Shelf {
 fn counts_orders_that_are_not_delivered(rt: HostRuntime) {
     let mut shelf = example(&rt, rt.alloc());
     let found = run(rt.alloc(), &mut shelf, &["check", "db"]);
-    let text = "warehouse 1 ytd 10500 open 1\nwarehouse 2 ytd 10000 open 1\nconditions 1 2 3 4 5 6 7 8 9 10 12 hold\n";
+    let text =
+        "warehouse 1 ytd 10500 open 1\nwarehouse 2 ytd 10000 open 1\nconditions 1 2 3 4 5 6 7 8 9 10 12 hold\n";
     assert!(rt; found.ending == Ending::Done && found.err.is_empty());
     assert!(rt; found.out.as_slice() == text.as_bytes());
 }

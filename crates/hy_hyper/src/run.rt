@@ -31,12 +31,12 @@ pub fn run_words<F: Place, O: io::Write, X: io::Write>(
 
     ensures done { result ≡ Ending.Done →
         Completes (texts_of words.entry.now) (F.files place.old, F.files place.new)
-            (O.contents out.old, O.contents out.new) }
+        (O.contents out.old, O.contents out.new) }
     ensures done_without_words { result ≡ Ending.Done → err.new ≡ err.old }
 
     ensures refused { result ≡ Ending.Refused →
         ExplainsRefusal (texts_of words.entry.now) (F.files place.old, F.files place.new)
-            (X.contents err.old, X.contents err.new) }
+        (X.contents err.old, X.contents err.new) }
     ensures refused_unprinted { result ≡ Ending.Refused → out.new ≡ out.old }
 
     // What was refused printed nothing, even where that couldn't be explained.

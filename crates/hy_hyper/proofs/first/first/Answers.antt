@@ -1,4 +1,5 @@
-use Rattle.std.proofs.Common.{rules, ◌≡◌, ℤ, Result, Err, IfErr, inl, inr, sym, subst, false≢true}
+use Rattle.std.proofs.Common.{rules, ◌≡◌, ℤ, Result, Err, IfErr, inl, inr, ap, sym, subst}
+use Rattle.std.proofs.lemmas.Bool.{false≢true}
 use Rattle.std.proofs.lemmas.Result.{IfErr-weaker, IfOk-weaker}
 use Rattle.hy_schema.specs.declared.refusal.Refusal.{Refusal}
 use Rattle.hy_schema.specs.declared.command.Payment.{Payment}
@@ -27,7 +28,7 @@ pub returns-in_err-load-clause-refused : goal.returns-in_err-load-clause-refused
 returns-in_err-load-clause-refused c =
     let is : c.from_residual.result ≡ Err c.in_err-load.field-0.0 = search rules in
     subst (λ (r : Result ℤ Refusal). IfErr r (IsFirstRefusal c.args.amount)) (sym is)
-    (inr (inl (other_case c.in_err-load.ensures.refused (λ out. false≢true (sym (c.in_err-load.ensures.out_of_range.0 out))))))
+    (inr (inl (other_case c.in_err-load.ensures.refused (λ out. false≢true (sym (c.in_err-load.ensures.out_of_range.0 (ap Err out)))))))
 
 -- what the snapshot shows is W_YTD after the payment
 pub returns-clause-ytd : goal.returns-clause-ytd

@@ -1,8 +1,25 @@
 -- Memory that ran out while the words were read is a refusal of any words.
-use Rattle.std.proofs.Common.{refl, inl}
+use Rattle.std.proofs.Common.{◌≡◌, refl, inl, inr}
 use Rattle.hy_schema.specs.declared.refusal.Refusal.TheVariants as refusals
+use Rattle.hy_words.specs.CommandLine.{texts_of}
+use Rattle.hy_hyper.specs.declared.fault.RunFault.TheVariants as fault
+use Rattle.hy_hyper.specs.Runs.{KnownFiles}
+use Rattle.hy_hyper.proofs.RunLaws.{printed_or_not, unprinted_or_done}
 use Rattle.hy_hyper.proofs.run.run_words.Goals as goal
 
 pub returns-clause-refused : goal.returns-clause-refused
 returns-clause-refused g c = λ ended.
-    (refusals.NoMemory, inl refl, c.refuse-in-Err-NoMemory.ensures.refused ended)
+    (fault.Refused refusals.NoMemory, inl refl, c.explain-in-Err-NoMemory.ensures.refused ended)
+
+pub returns-in-Ok-clause-refused : goal.returns-in-Ok-clause-refused
+returns-in-Ok-clause-refused g c = λ ended.
+    let files : KnownFiles = (g.F.Place.files c.args.place.now, g.F.Place.files c.run_line.new.place) in
+    let undone =
+    printed_or_not c.in-Ok.line files (c.run_line.new.out ≡ c.args.out.now) c.in-Err.fault c.in-Err.ensures.fault in
+    (c.in-Err.fault, inr (c.in-Ok.line, c.in-Ok.ensures, undone), c.explain.ensures.refused ended)
+
+pub returns-in-Ok-clause-writer_failed : goal.returns-in-Ok-clause-writer_failed
+returns-in-Ok-clause-writer_failed g c = λ ended.
+    unprinted_or_done (texts_of c.args.words.now) c.in-Ok.line
+    (g.F.Place.files c.args.place.now, g.F.Place.files c.run_line.new.place) (c.run_line.new.out ≡ c.args.out.now)
+    c.in-Err.fault c.in-Ok.ensures c.in-Err.ensures.fault
