@@ -3,7 +3,6 @@ use Rattle.std.proofs.Common.{rules, ◌≡◌, ℕ, List, Option, Bool, true, f
 use Rattle.std.specs.Result.{IsErrOf}
 use Rattle.hy_place.specs.declared.directory.FileFault.{FileFault}
 use Rattle.hy_place.specs.declared.directory.FileFault.TheVariants as files
-use Rattle.hy_schema.specs.declared.refusal.Refusal.{Refusal}
 use Rattle.hy_schema.specs.declared.refusal.Table.{Table}
 use Rattle.hy_place.specs.Faults.{IsUnwritten}
 use Rattle.hy_place.specs.Files.{FilesByPath}

@@ -1,8 +1,6 @@
 -- What `gen` does: it writes the nine files of a generated database.
-use Rattle.std.specs.Prelude.{◌≡◌, ◌⊎◌, ℕ, List, ◌++◌, Option, true, IsFalse, codes}
+use Rattle.std.specs.Prelude.{◌≡◌, ◌⊎◌, ℕ, List, Option, true, IsFalse, codes}
 use Rattle.std.specs.Io.KnownBytes.{Appends}
-use Rattle.hy_rows.specs.Tables.{Lists}
-use Rattle.hy_schema.specs.declared.refusal.Refusal.{Refusal}
 use Rattle.hy_schema.specs.declared.refusal.Refusal.TheVariants as refusals
 use Rattle.hy_tables.specs.Files.{texts_of}
 use Rattle.hy_tables.specs.Generated.{generated_lists, is_size}

@@ -11,18 +11,18 @@ use std::process::Abort;
 
 /// How a run ended, and what it printed.
 #[derive(Drop)]
-struct Run {
+struct Output {
     ending: Ending,
     out: Vec<u8>,
     err: Vec<u8>,
 }
 
 /// Runs the program on words.
-fn run(alloc: Global, shelf: &mut Shelf, words: &[&str]) -> Run {
+fn run(alloc: Global, shelf: &mut Shelf, words: &[&str]) -> Output {
     let mut out = Vec::new(alloc);
     let mut err = Vec::new(alloc);
     let ending = run_words(alloc, words, shelf, &mut out, &mut err);
-    Run { ending, out, err }
+    Output { ending, out, err }
 }
 
 /// A shelf with the generated database of two warehouses, three customers a district and twenty items.

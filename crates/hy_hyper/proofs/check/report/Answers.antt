@@ -1,8 +1,8 @@
-use Rattle.std.proofs.Common.{rules, ◌≡◌, ◌≤◌, ◌∙◌, ◌++◌, List, ap, length, string_bytes, drop, sym, append-nil, codes}
+use Rattle.std.proofs.Common.{rules, ◌≡◌, ◌≤◌, ◌∙◌, ◌++◌, List, ap, length, string_bytes, sym, append-nil, codes}
 use Rattle.std.specs.List.{flat_map}
 use Rattle.std.proofs.lemmas.List.{drop_all}
 use Rattle.hy_rows.specs.declared.warehouse.Warehouse.{Warehouse}
-use Rattle.hy_hyper.specs.Check.{line_of, report}
+use Rattle.hy_hyper.specs.Check.{line_of}
 use Rattle.hy_hyper.proofs.CheckLaws.{line_more}
 use Rattle.hy_hyper.proofs.check.report.Goals as goal
 

@@ -1,4 +1,4 @@
-use Rattle.std.proofs.Common.{rules, ◌≡◌, Result, Err, IfErr, List, ℕ, sym, subst}
+use Rattle.std.proofs.Common.{rules, ◌≡◌, Result, Err, IfErr, sym, subst}
 use Rattle.hy_rows.specs.Tables.{Lists}
 use Rattle.hy_tables.specs.Files.{texts_of}
 use Rattle.hy_place.specs.Directory.{AreFiles, tables}
