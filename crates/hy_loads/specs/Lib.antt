@@ -1,3 +1,4 @@
 pub mod Checks
 pub mod Keys
 pub mod There
+pub mod WorkedRules

@@ -14,6 +14,15 @@ fn text<const WIDTH: usize>(rt: &impl Abort, bytes: &[u8]) -> Text<WIDTH> {
     Text::new(bytes).expect(rt, "the text fits")
 }
 
+fn warehouse(rt: &impl Abort, id: u8, ytd: i64) -> Warehouse {
+    Warehouse {
+        id,
+        name: text(rt, b"W"),
+        tax: 500,
+        ytd,
+    }
+}
+
 fn district(rt: &impl Abort, id: u8) -> District {
     District {
         id,
@@ -145,13 +154,6 @@ impl NineLists {
 
 /// One warehouse, two items, a customer in each district and one undelivered order of five lines.
 fn rows(rt: &impl Abort, alloc: Global) -> Result<NineLists, Fail> {
-    let mut warehouses = Vec::new(alloc);
-    warehouses.push(Warehouse {
-        id: 1,
-        name: text(rt, b"W"),
-        tax: 500,
-        ytd: 10_000,
-    })?;
     let mut districts = Vec::new(alloc);
     let mut customers = Vec::new(alloc);
     let mut history = Vec::new(alloc);
@@ -167,7 +169,7 @@ fn rows(rt: &impl Abort, alloc: Global) -> Result<NineLists, Fail> {
     let mut items = Vec::from_slice(alloc, &[item(rt, 1)])?;
     items.push(item(rt, 2))?;
     Ok(NineLists {
-        warehouses,
+        warehouses: vec![in alloc; warehouse(rt, 1, 10_000)]?,
         districts,
         customers,
         items,
@@ -186,6 +188,10 @@ fn refusal(alloc: Global, rows: NineLists) -> Option<Refusal> {
 
 fn row(table: Table, number: u64) -> Option<Refusal> {
     Some(Refusal::BadLoad(LoadFault::Row(table, number)))
+}
+
+fn condition(number: u8) -> Option<Refusal> {
+    Some(Refusal::BadLoad(LoadFault::Condition(number)))
 }
 
 #[test]
@@ -227,8 +233,13 @@ fn names_rows_that_are_missing(rt: HostRuntime) -> Result<(), Fail> {
 fn names_base_rows_that_are_wrong(rt: HostRuntime) -> Result<(), Fail> {
     let alloc = rt.alloc();
     let mut wrong = rows(&rt, alloc)?;
-    wrong.districts.push(district(&rt, 1))?;
-    assert_eq!(rt; refusal(alloc, wrong), row(Table::District, 11));
+    wrong.warehouses.push(warehouse(&rt, 3, 0))?;
+    assert_eq!(rt; refusal(alloc, wrong), row(Table::Warehouse, 2));
+    let mut unknown = rows(&rt, alloc)?;
+    let mut broken = district(&rt, 1);
+    broken.warehouse = 2;
+    unknown.districts.push(broken)?;
+    assert_eq!(rt; refusal(alloc, unknown), row(Table::District, 11));
     let mut wrong = rows(&rt, alloc)?;
     let mut broken = customer(&rt, 10);
     broken.id = 3;
@@ -254,6 +265,11 @@ fn names_orders_that_are_wrong(rt: HostRuntime) -> Result<(), Fail> {
     wrong.customer = 2;
     unknown.orders.push(wrong)?;
     assert_eq!(rt; refusal(alloc, unknown), row(Table::Order, 2));
+    let mut unknown = rows(&rt, alloc)?;
+    let mut wrong = order(2);
+    wrong.warehouse = 2;
+    unknown.orders.push(wrong)?;
+    assert_eq!(rt; refusal(alloc, unknown), row(Table::Order, 2));
     let mut twice = rows(&rt, alloc)?;
     twice.new_orders.push(new_order(1))?;
     assert_eq!(rt; refusal(alloc, twice), row(Table::NewOrder, 2));
@@ -271,6 +287,11 @@ fn names_lines_and_payments_that_are_wrong(rt: HostRuntime) -> Result<(), Fail> 
     assert_eq!(rt; refusal(alloc, twice), row(Table::OrderLine, 6));
     let mut unknown = rows(&rt, alloc)?;
     let mut wrong = line(6);
+    wrong.order = 2;
+    unknown.order_lines.push(wrong)?;
+    assert_eq!(rt; refusal(alloc, unknown), row(Table::OrderLine, 6));
+    let mut unknown = rows(&rt, alloc)?;
+    let mut wrong = line(6);
     wrong.item = 3;
     unknown.order_lines.push(wrong)?;
     assert_eq!(rt; refusal(alloc, unknown), row(Table::OrderLine, 6));
@@ -284,20 +305,115 @@ fn names_lines_and_payments_that_are_wrong(rt: HostRuntime) -> Result<(), Fail> 
     wrong.customer = 2;
     unknown.history.push(wrong)?;
     assert_eq!(rt; refusal(alloc, unknown), row(Table::History, 11));
+    let mut unknown = rows(&rt, alloc)?;
+    let mut wrong = payment(&rt, 1);
+    wrong.warehouse = 2;
+    unknown.history.push(wrong)?;
+    assert_eq!(rt; refusal(alloc, unknown), row(Table::History, 11));
     Ok(())
+}
+
+/// The rows of the load, changed so that they break one condition of amounts.
+fn with_other_amounts(rt: &impl Abort, alloc: Global, number: u8) -> Result<NineLists, Fail> {
+    let mut rows = rows(rt, alloc)?;
+    match number {
+        1 => rows.warehouses = vec![in alloc; warehouse(rt, 1, 10_001)]?,
+        8 => rows.history.push(payment(rt, 1))?,
+        9 => {
+            let (mut first, mut second) = (district(rt, 1), district(rt, 2));
+            first.ytd = 1_001;
+            second.ytd = 999;
+            rows.districts = vec![in alloc; first, second]?;
+            for number in 3..=10 {
+                rows.districts.push(district(rt, number))?;
+            }
+        }
+        10 => rows.customers = with_last_customer(rt, alloc, -1_001, 1_001)?,
+        _ => rows.customers = with_last_customer(rt, alloc, -1_000, 1_001)?,
+    }
+    Ok(rows)
+}
+
+/// The customers of the load, with another balance and other payments of the last one.
+fn with_last_customer(
+    rt: &impl Abort,
+    alloc: Global,
+    balance: i64,
+    ytd_payment: i64,
+) -> Result<Vec<Customer>, Fail> {
+    let mut customers = Vec::new(alloc);
+    for number in 1..10 {
+        customers.push(customer(rt, number))?;
+    }
+    let mut last = customer(rt, 10);
+    last.balance = balance;
+    last.ytd_payment = ytd_payment;
+    customers.push(last)?;
+    Ok(customers)
+}
+
+/// The rows of the load, changed so that they break one condition of orders.
+fn with_other_orders(rt: &impl Abort, alloc: Global, number: u8) -> Result<NineLists, Fail> {
+    let mut rows = rows(rt, alloc)?;
+    match number {
+        2 => rows.districts = with_next_order(rt, alloc, 3)?,
+        3 => {
+            rows.districts = with_next_order(rt, alloc, 4)?;
+            rows.orders.push(order(3))?;
+            rows.new_orders.push(new_order(3))?;
+            for number in 1..=5 {
+                let mut more = line(number);
+                more.order = 3;
+                rows.order_lines.push(more)?;
+            }
+        }
+        4 => rows.order_lines.truncate(4),
+        5 => rows.new_orders.clear(),
+        6 => {
+            rows.districts = with_next_order(rt, alloc, 3)?;
+            let mut first = order(1);
+            first.line_count = 6;
+            rows.orders = vec![in alloc; first, order(2)]?;
+            rows.new_orders.push(new_order(2))?;
+            for number in 1..=6 {
+                let mut more = line(number);
+                more.order = 2;
+                rows.order_lines.push(more)?;
+            }
+        }
+        _ => {
+            rows.order_lines.truncate(4);
+            let mut delivered = line(5);
+            delivered.delivery_date = 1;
+            delivered.amount = 0;
+            rows.order_lines.push(delivered)?;
+        }
+    }
+    Ok(rows)
+}
+
+/// The districts of the load, with another next order of the first one.
+fn with_next_order(rt: &impl Abort, alloc: Global, next_order: u32) -> Result<Vec<District>, Fail> {
+    let mut first = district(rt, 1);
+    first.next_order = next_order;
+    let mut districts = vec![in alloc; first]?;
+    for number in 2..=10 {
+        districts.push(district(rt, number))?;
+    }
+    Ok(districts)
 }
 
 #[test]
 fn names_conditions_that_are_broken(rt: HostRuntime) -> Result<(), Fail> {
     let alloc = rt.alloc();
-    let mut paid_twice = rows(&rt, alloc)?;
-    paid_twice.history.push(payment(&rt, 1))?;
-    let broken = Some(Refusal::BadLoad(LoadFault::Condition(8)));
-    assert_eq!(rt; refusal(alloc, paid_twice), broken);
-    let mut short = rows(&rt, alloc)?;
-    short.order_lines.truncate(4);
-    let broken = Some(Refusal::BadLoad(LoadFault::Condition(4)));
-    assert_eq!(rt; refusal(alloc, short), broken);
+    for number in [1, 8, 9, 10, 12] {
+        let broken = with_other_amounts(&rt, alloc, number)?;
+        assert_eq!(rt; refusal(alloc, broken), condition(number), "at {number}");
+    }
+    for number in 2..=7 {
+        let broken = with_other_orders(&rt, alloc, number)?;
+        assert_eq!(rt; refusal(alloc, broken), condition(number), "at {number}");
+    }
     Ok(())
 }
 

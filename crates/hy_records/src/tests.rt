@@ -210,6 +210,23 @@ fn reads_other_forms_of_a_text(rt: HostRuntime) -> Result<(), Fail> {
 }
 
 #[test]
+fn reads_many_rows(rt: HostRuntime) -> Result<(), Fail> {
+    let mut rows = Vec::new(rt.alloc());
+    for order in 1..=2_000 {
+        rows.push(NewOrder {
+            order,
+            district: 1,
+            warehouse: 1,
+        })?;
+    }
+    let text = write(rt.alloc(), rows.as_slice())?;
+    let found: Reading<NewOrder> = read(rt.alloc(), text.as_slice())?;
+    assert!(rt; found.rows.as_slice() == rows.as_slice());
+    assert!(rt; found.unread == None);
+    Ok(())
+}
+
+#[test]
 fn refuses_other_headers(rt: HostRuntime) -> Result<(), Fail> {
     let cases: [&[u8]; 7] = [
         b"",
