@@ -23,7 +23,7 @@ not-none : {w : ℕ} → None ≡ Some w → ⊥
 not-none e = cc
 
 module _ {C : Type 0} (warehouses : C → List ℕ) where
-  abbrev Kept : State (Entry C) (View C) → Type 0
+  abbrev pub Kept : State (Entry C) (View C) → Type 0
   Kept s = IsKept warehouses s.words s.views
 
   -- who knows nothing fits
@@ -312,3 +312,27 @@ module _ {C : Type 0} (warehouses : C → List ℕ) where
               fits-nothing now seat_of' next,
             )
         }
+
+  -- the same at a seat that is the journal's
+  pub meets_at : (slots id : ℕ) (me : Me (Entry C) (View C)) → id ≡ 0
+      → Allows Kept slots id me 0 (λ n. n) (λ _. Meets warehouses me)
+  meets_at slots id me is = subst (λ i. Allows Kept slots i me 0 (λ n. n) (λ _. Meets warehouses me)) (sym is) (meets slots me)
+
+  pub appends_at : (slots id : ℕ) (me : Me (Entry C) (View C)) (entry : Entry C) (old new : ℕ) → id ≡ 0
+      → old ≡ length me.0.mine.seen → new ≡ old + 1
+      → Allows Kept slots id me 0 (λ n. either (n == old) new n) (λ _. Appends warehouses (some entry) me)
+  appends_at slots id me entry old new is length_is next =
+      subst (λ i. Allows Kept slots i me 0 (λ n. either (n == old) new n) (λ _. Appends warehouses (some entry) me)) (sym is)
+          (appends slots me entry old new length_is next)
+
+  pub deals_at : (id : ℕ) (v : View C) → id ≡ 0 → Splits Kept id v (after_dealing v) (new_seat v)
+  deals_at id v is = subst (λ i. Splits Kept i v (after_dealing v) (new_seat v)) (sym is) (deals v)
+
+  pub admits_at : (id : ℕ) (v : View C) → id ≡ 0 → Splits Kept id v v (new_pass v)
+  admits_at id v is = subst (λ i. Splits Kept i v v (new_pass v)) (sym is) (admits v)
+
+  pub boards_at : (id : ℕ) (v : View C) (other : ℕ) (w : View C) → id ≡ 0 → Joins Kept id v other w (boarded v w) beginner
+  boards_at id v other w is = subst (λ i. Joins Kept i v other w (boarded v w) beginner) (sym is) (boards v other w)
+
+  pub leaves_at : (id : ℕ) (v : View C) → id ≡ 0 → Splits Kept id v (after_leaving v) (leaving v)
+  leaves_at id v is = subst (λ i. Splits Kept i v (after_leaving v) (leaving v)) (sym is) (leaves v)

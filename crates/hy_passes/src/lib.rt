@@ -3,6 +3,12 @@
 
 mod entry;
 mod law;
+mod pass;
+mod passes;
 mod view;
+mod world;
 
 pub use entry::{Commits, Entry};
+pub use pass::Pass;
+pub use passes::Passes;
+pub use world::World;
