@@ -1,3 +1,5 @@
 mod Beginnings
 mod Lists
 mod Steps
+mod Totals
+mod SerialLaws

@@ -44,14 +44,15 @@ pub told-more : (behind more : List ℕ) (w : ℕ) → is_told (behind ++ more) 
 told-more behind more w e =
     or_false (list_any (λ named. named == w) behind) (list_any (λ named. named == w) more) (ap not (sym (list_any-append (λ named. named == w) behind more)) ∙ e)
 
+-- a guest that serves no warehouse takes none away
+pub without-none : (behind : List ℕ) → filter (λ x. not (is_served None x)) behind ≡ behind
+without-none [] = refl
+without-none (x ∷ xs) = ap (λ l. x ∷ l) (without-none xs)
+
 -- who has been told of all once a guest was, is the one that the guest serves, or had been told
 pub told-left : (serves : Option ℕ) (behind : List ℕ) (w : ℕ)
     → is_told (filter (λ x. not (is_served serves x)) behind) w ≡ true → (serves ≡ Some w) ⊎ (is_told behind w ≡ true)
-told-left None behind w e = inr (ap (λ l. is_told l w) (sym (all behind)) ∙ e)
-  where
-    all : (xs : List ℕ) → filter (λ x. not (is_served None x)) xs ≡ xs
-    all [] = refl
-    all (x ∷ xs) = ap (λ l. x ∷ l) (all xs)
+told-left None behind w e = inr (ap (λ l. is_told l w) (sym (without-none behind)) ∙ e)
 told-left (Some v) [] w e = inr refl
 told-left (Some v) (x ∷ behind) w e = first (x == v) refl (x == w) refl (told-left (Some v) behind w)
   where

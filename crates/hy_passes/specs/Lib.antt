@@ -1,3 +1,4 @@
 pub mod History
+pub mod Inside
 pub mod Law
 pub mod Worlds

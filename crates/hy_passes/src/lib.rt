@@ -2,13 +2,17 @@
 #![tactic(auto)]
 
 mod entry;
+mod journal;
 mod law;
 mod pass;
 mod passes;
+mod seat;
 mod view;
 mod world;
 
 pub use entry::{Commits, Entry};
+pub use journal::History;
 pub use pass::Pass;
 pub use passes::Passes;
+pub use seat::PartitionSeat;
 pub use world::World;

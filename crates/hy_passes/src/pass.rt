@@ -12,10 +12,10 @@ use std::marker::{Model, PhantomData};
 
 /// A client's pass: a beginning of the serial list that the client has seen.
 pub struct Pass<C, K: World> {
-    seat: Seat<Entry<C>, View<C>>,
-    client: u32,
-    known: u64,
-    of: PhantomData<K>,
+    pub(crate) seat: Seat<Entry<C>, View<C>>,
+    pub(crate) client: u32,
+    pub(crate) known: u64,
+    pub(crate) of: PhantomData<K>,
 }
 
 impl<C, K: World> Model for Pass<C, K> {
