@@ -1,5 +1,6 @@
 -- A serial list is one still with one more commit, and the journal counts it.
 use Rattle.std.proofs.Common.{◌≡◌, ℕ, zero, suc, ◌+◌, ◌<◌, ◌≤◌, Bool, true, false, cond, List, [], ◌∷◌, ◌++◌, map, length, Option, Some, None, refl, ap, sym, subst, ◌∙◌, arith, append-nil, length-append}
+use Rattle.std.proofs.lemmas.List.{map-append}
 use Rattle.std.specs.Prelude.{All, nat_le, nat_lt, ◌&&◌, slice_index}
 use Rattle.std.specs.List.{filter_map, range_with_len, cons_option}
 use Rattle.std.proofs.lemmas.Bool.{le-leb}
@@ -12,7 +13,7 @@ use Rattle.hy_passes.specs.Worlds.{Origin}
 use Rattle.hy_passes.proofs.Lists.{kept-adds, kept-skips}
 use Rattle.hy_passes.proofs.Totals.{log-room, numbers-within}
 
-plus-one : (n : ℕ) → n + 1 ≡ suc n
+pub plus-one : (n : ℕ) → n + 1 ≡ suc n
 plus-one n = omega arith
 
 All-one : {X : Type 0} (P : X → Type 0) (xs : List X) (x : X) → All P xs → P x → All P (xs ++ x ∷ [])
@@ -142,3 +143,17 @@ module _ {C : Type 0} (warehouses : C → List ℕ) (number : C → Option ℕ) 
             let c : slice_index counts' k ≡ slice_index counts k = counted k h ∙ ap (λ b. cond b (suc (slice_index counts k)) (slice_index counts k)) is in
             let l = kept-skips warehouses (k + 1) log entry is in
             (c ∙ i.counted k h ∙ ap length (sym l), omega (arith, c, i.room k h))
+
+-- one warehouse of the kit
+pub named-alone : (partitions w : ℕ) → 1 ≤ w → w ≤ partitions → are_warehouses partitions (w ∷ []) ≡ true
+named-alone partitions w low high =
+    ap (λ b. (b && nat_le w partitions) && true) (le-leb 1 w low) ∙ ap (λ b. b && true) (le-leb w partitions high)
+
+-- a list by numbers, with the next number behind
+pub numbered-behind : {X : Type 0} (f : ℕ → X) (first n : ℕ) (x : X) → x ≡ f (first + n)
+    → map f (range_with_len first n) ++ x ∷ [] ≡ map f (range_with_len first (n + 1))
+numbered-behind f first n x is =
+    ap (λ y. map f (range_with_len first n) ++ y ∷ []) is
+    ∙ sym (map-append f (range_with_len first n) ((first + n) ∷ []))
+    ∙ ap (λ l. map f l) (sym (range-more first n))
+    ∙ ap (λ k. map f (range_with_len first k)) (sym (plus-one n))

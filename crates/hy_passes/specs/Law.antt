@@ -27,6 +27,10 @@ module _ {C : Type 0} where
   abbrev pub beginner : View C
   beginner = record { mine = nothing; guest = nothing; behind = []; dealt = 0 }
 
+  -- the journal before the first commit, when so many partitions have a seat
+  abbrev pub dealer : ℕ → View C
+  dealer dealt = record { mine = nothing; guest = nothing; behind = []; dealt = dealt }
+
   abbrev pub holder : Knowledge C → View C
   holder k = record { mine = k; guest = nothing; behind = []; dealt = 0 }
 

@@ -34,3 +34,10 @@ pub record SeatState (C : Type 0) : Type 0 where
 pub record HistoryState (C : Type 0) : Type 0 where
   pub log : List (Entry C)
   pub behind : List ℕ
+
+-- the seat of a warehouse's partition, and the pass of a client, before the first commit
+abbrev pub new_partition : {C : Type 0} → ℕ → SeatState C
+new_partition warehouse = record { warehouse = warehouse; seen = [] }
+
+abbrev pub new_client : {C : Type 0} → ℕ → PassState C
+new_client client = record { client = client; seen = []; looks = 0 }

@@ -4,7 +4,7 @@ ghost use Rattle.std.specs.Prelude.{◌≡◌, ℕ, List, Option};
 ghost use Rattle.hy_passes.specs.History.{names};
 
 /// What a commit says of itself.
-pub trait Commits {
+pub trait Commits: Drop {
     // The warehouses that it names, each once, its home first.
     ghost warehouses: { Self → List ℕ };
     // Its number among the commits that name several warehouses.

@@ -1,6 +1,6 @@
 //! The journal: the one serial list of commits.
 
-ghost use Rattle.std.specs.Prelude.{◌≡◌, ℕ, suc, ◌+◌, ◌≤◌, ◌<◌, [], ◌∷◌, ◌++◌, length, not, true, cond, slice_index, ◌==◌, filter, ◌^◌};
+ghost use Rattle.std.specs.Prelude.{None, ◌≡◌, ℕ, suc, ◌+◌, ◌≤◌, ◌<◌, [], ◌∷◌, ◌++◌, length, not, true, cond, slice_index, ◌==◌, filter, ◌^◌};
 ghost use mathlib.Core.List.{IsPrefix};
 ghost use Rattle.hy_passes.specs.History.{are_warehouses, is_number, kept_of, max_commits, names, number_after, numbers_of, IsSerial};
 ghost use Rattle.hy_passes.specs.Law.{is_told};
@@ -18,6 +18,7 @@ use std::sync::Arc;
 
 /// All of the serial list, and which warehouses have still to be told of a commit. The commits themselves lie in the
 /// partitions; here they are counted.
+#[derive(Drop)]
 pub struct History<C: Commits, K: World> {
     pub(crate) passes: Arc<Passes<C, K>, Global>,
     pub(crate) seat: Seat<Entry<C>, View<C>>,
@@ -115,6 +116,7 @@ impl<C: Commits, K: World> History<C, K> {
         ensures log { self.new.log ≡ self.old.log }
         ensures behind { self.new.behind ≡ filter (λ w. not (w == seat.old.warehouse)) self.old.behind }
         ensures warehouse { seat.new.warehouse ≡ seat.old.warehouse }
+        ensures range { (1 ≤ seat.old.warehouse) × (seat.old.warehouse ≤ K.passes.partitions) }
         ensures seen { seat.new.seen ≡ self.old.log }
         ensures begins { IsPrefix seat.old.seen self.old.log }
         ensures kept { is_told self.old.behind seat.old.warehouse ≡ true → kept_of C.warehouses seat.old.warehouse seat.old.seen ≡ kept_of C.warehouses seat.old.warehouse self.old.log }
@@ -134,5 +136,64 @@ impl<C: Commits, K: World> History<C, K> {
     {
         self.passes.meet(&mut self.seat, &mut pass.seat);
         pass.known = self.size;
+    }
+}
+
+/// The value of the journal's lock: nobody has still to be told.
+#[derive(Drop)]
+pub struct Journal<C: Commits, K: World> {
+    /// The list. A function that lets a commit of several warehouses enter tells each of them before it returns.
+    pub history: History<C, K>,
+    pub ghost told: { history.behind ≡ [] },
+}
+
+impl<C: Commits, K: World> Journal<C, K> {
+    /// A commit of one warehouse enters the end of the list, and its partition and its client are told. It takes no
+    /// memory. The stamp is how many commits the client knew at some time.
+    pub fn commit(
+        &mut self,
+        seat: &mut PartitionSeat<C, K>,
+        pass: &mut Pass<C, K>,
+        entry: &Entry<C>,
+    )
+        requires alone { C.warehouses entry.now.commit ≡ seat.old.warehouse ∷ [] }
+        requires unnumbered { C.number entry.now.commit ≡ None }
+        requires stamped { entry.now.stamp ≤ length pass.old.seen }
+        requires room { length (kept_of C.warehouses seat.old.warehouse seat.old.seen) < max_commits }
+        ensures log { self.new.history.log ≡ self.old.history.log ++ entry.now ∷ [] }
+        ensures warehouse { seat.new.warehouse ≡ seat.old.warehouse }
+        ensures seat { (seat.new.seen ≡ self.new.history.log) × IsPrefix seat.old.seen self.old.history.log }
+        ensures kept { kept_of C.warehouses seat.old.warehouse seat.new.seen ≡ kept_of C.warehouses seat.old.warehouse seat.old.seen ++ entry.now.commit ∷ [] }
+        ensures client { (pass.new.client ≡ pass.old.client) × (pass.new.looks ≡ pass.old.looks) }
+        ensures pass { (pass.new.seen ≡ self.new.history.log) × IsPrefix pass.old.seen self.old.history.log }
+    {
+        self.tell(seat);
+        self.tell_client(pass);
+        self.history.append(entry);
+        self.history.tell(seat);
+        self.tell_client(pass);
+    }
+
+    /// Tells a partition of all commits. It lacked none of its warehouse.
+    pub fn tell(&mut self, seat: &mut PartitionSeat<C, K>)
+        ensures log { self.new.history.log ≡ self.old.history.log }
+        ensures warehouse { seat.new.warehouse ≡ seat.old.warehouse }
+        ensures range { (1 ≤ seat.old.warehouse) × (seat.old.warehouse ≤ K.passes.partitions) }
+        ensures seen { seat.new.seen ≡ self.old.history.log }
+        ensures begins { IsPrefix seat.old.seen self.old.history.log }
+        ensures kept { kept_of C.warehouses seat.old.warehouse seat.old.seen ≡ kept_of C.warehouses seat.old.warehouse self.old.history.log }
+    {
+        self.history.tell(seat);
+    }
+
+    /// Tells a client of all commits, with no look. What the client had seen begins the list.
+    pub fn tell_client(&mut self, pass: &mut Pass<C, K>)
+        ensures log { self.new.history.log ≡ self.old.history.log }
+        ensures client { pass.new.client ≡ pass.old.client }
+        ensures looks { pass.new.looks ≡ pass.old.looks }
+        ensures seen { pass.new.seen ≡ self.old.history.log }
+        ensures begins { IsPrefix pass.old.seen self.old.history.log }
+    {
+        self.history.tell_client(pass);
     }
 }

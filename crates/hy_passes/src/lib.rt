@@ -3,6 +3,7 @@
 
 mod entry;
 mod journal;
+mod kit;
 mod law;
 mod pass;
 mod passes;
@@ -11,7 +12,8 @@ mod view;
 mod world;
 
 pub use entry::{Commits, Entry};
-pub use journal::History;
+pub use journal::{History, Journal};
+pub use kit::{Kit, make};
 pub use pass::Pass;
 pub use passes::Passes;
 pub use seat::PartitionSeat;

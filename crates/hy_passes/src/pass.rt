@@ -11,6 +11,7 @@ use atomic_table::Seat;
 use std::marker::{Model, PhantomData};
 
 /// A client's pass: a beginning of the serial list that the client has seen.
+#[derive(Drop)]
 pub struct Pass<C, K: World> {
     pub(crate) seat: Seat<Entry<C>, View<C>>,
     pub(crate) client: u32,

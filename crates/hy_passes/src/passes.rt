@@ -1,13 +1,15 @@
 //! The shared word: how many commits the serial list has.
 
-ghost use Rattle.std.specs.Prelude.{◌≡◌, ℕ, ◌+◌, ◌≤◌, ◌<◌, ◌^◌, [], ◌∷◌, length, true, Some};
+ghost use Rattle.std.specs.Prelude.{suc, ◌≡◌, ℕ, ◌+◌, ◌≤◌, ◌<◌, ◌^◌, [], ◌∷◌, length, true, Some};
 ghost use mathlib.Core.List.{IsPrefix};
 ghost use Rattle.hy_passes.specs.History.{kept_of};
-ghost use Rattle.hy_passes.specs.Law.{after_leaving, appended, boarded, is_told, leaving, Looks};
+ghost use Rattle.hy_passes.specs.Law.{after_dealing, after_leaving, appended, boarded, is_told, leaving, Looks};
+ghost use Rattle.hy_passes.specs.Worlds.{new_client, new_partition};
 
 use crate::entry::{Commits, Entry};
-use crate::law::{Admit, Append, Board, Leave, Look, Meet, Word};
+use crate::law::{Admit, Append, Board, Deal, Leave, Look, Meet, Word};
 use crate::pass::Pass;
+use crate::seat::PartitionSeat;
 use crate::view::View;
 use crate::world::World;
 use atomic_table::Seat;
@@ -15,10 +17,11 @@ use std::marker::PhantomData;
 use std::mem;
 
 /// The number of commits in the journal, as one word that all threads share.
+#[derive(Drop)]
 pub struct Passes<C: Commits, K: World> {
-    table: Word<C>,
-    name: u64,
-    of: PhantomData<K>,
+    pub(crate) table: Word<C>,
+    pub(crate) name: u64,
+    pub(crate) of: PhantomData<K>,
     ghost word_is: { table.shared.table_id ≡ K.passes.word },
     ghost one_word: { table.shared.table_id.words ≡ 1 },
     ghost named: { name ≡ K.passes.name },
@@ -64,6 +67,43 @@ impl<C: Commits, K: World> Passes<C, K> {
         self.table
             .shared
             .compare_exchange_with::<Append>(journal, 0, length, length + 1, entry);
+    }
+
+    // The seat of the next partition.
+    pub(crate) fn deal(&self, journal: &mut Seat<Entry<C>, View<C>>, warehouse: u8) -> PartitionSeat<C, K>
+        requires journal { (journal.old.table_id ≡ K.passes.word) × (journal.old.id ≡ 0) }
+        requires next { warehouse ≡ suc journal.old.me.0.dealt }
+        requires range { warehouse ≤ K.passes.partitions }
+        requires empty { journal.old.me.0.mine.seen ≡ [] }
+        ensures place { (journal.new.table_id ≡ journal.old.table_id) × (journal.new.id ≡ journal.old.id) }
+        ensures journal { journal.new.me.0 ≡ after_dealing journal.old.me.0 }
+        ensures seat { result ≡ new_partition warehouse }
+    {
+        let seat = self.table.shared.split_seat::<Deal>(journal);
+        PartitionSeat {
+            seat,
+            warehouse,
+            commits: 0,
+            name: self.name,
+            of: PhantomData,
+        }
+    }
+
+    // The pass of a client.
+    pub(crate) fn admit(&self, journal: &mut Seat<Entry<C>, View<C>>, client: u32) -> Pass<C, K>
+        requires journal { (journal.old.table_id ≡ K.passes.word) × (journal.old.id ≡ 0) }
+        requires empty { journal.old.me.0.mine.seen ≡ [] }
+        ensures place { (journal.new.table_id ≡ journal.old.table_id) × (journal.new.id ≡ journal.old.id) }
+        ensures journal { journal.new.me.0 ≡ journal.old.me.0 }
+        ensures pass { result ≡ new_client client }
+    {
+        let seat = self.table.shared.split_seat::<Admit>(journal);
+        Pass {
+            seat,
+            client,
+            known: 0,
+            of: PhantomData,
+        }
     }
 
     // The journal's seat and another meet: the other is then told all of the list.

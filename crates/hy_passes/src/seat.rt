@@ -1,6 +1,6 @@
 //! What a partition has been told.
 
-ghost use Rattle.std.specs.Prelude.{◌≡◌, ℕ, length};
+ghost use Rattle.std.specs.Prelude.{◌≡◌, ℕ, ◌≤◌, length};
 ghost use Rattle.hy_passes.specs.History.{kept_of};
 
 use crate::entry::{Commits, Entry};
@@ -10,6 +10,7 @@ use atomic_table::Seat;
 use std::marker::{Model, PhantomData};
 
 /// A partition's seat: a beginning of the serial list that the partition has been told of.
+#[derive(Drop)]
 pub struct PartitionSeat<C: Commits, K: World> {
     pub(crate) seat: Seat<Entry<C>, View<C>>,
     pub(crate) warehouse: u8,
@@ -33,7 +34,8 @@ impl<C: Commits, K: World> Model for PartitionSeat<C, K> {
 impl<C: Commits, K: World> PartitionSeat<C, K> {
     /// The partition's warehouse.
     pub fn warehouse(&self) -> u8
-        ensures { result ≡ self.now.warehouse }
+        ensures warehouse { result ≡ self.now.warehouse }
+        ensures range { (1 ≤ result) × (result ≤ K.passes.partitions) }
     {
         self.warehouse
     }
