@@ -41,3 +41,9 @@ new_partition warehouse = record { warehouse = warehouse; seen = [] }
 
 abbrev pub new_client : {C : Type 0} → ℕ → PassState C
 new_client client = record { client = client; seen = []; looks = 0 }
+
+-- a partition's kept list: what its seat has been told, and for how many more commits there is room without memory
+pub record KeptState (C : Type 0) : Type 0 where
+  pub warehouse : ℕ
+  pub seen : List (Entry C)
+  pub room : ℕ

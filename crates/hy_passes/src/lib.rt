@@ -3,6 +3,7 @@
 
 mod entry;
 mod journal;
+mod kept;
 mod kit;
 mod law;
 mod pass;
@@ -13,6 +14,7 @@ mod world;
 
 pub use entry::{Commits, Entry};
 pub use journal::{History, Journal};
+pub use kept::KeptList;
 pub use kit::{Kit, make};
 pub use pass::Pass;
 pub use passes::Passes;
