@@ -20,3 +20,6 @@ pub use pass::Pass;
 pub use passes::Passes;
 pub use seat::PartitionSeat;
 pub use world::World;
+
+#[cfg(test)]
+mod tests;
