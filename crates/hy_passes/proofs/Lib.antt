@@ -3,3 +3,4 @@ mod Lists
 mod Steps
 mod Totals
 mod SerialLaws
+mod AgreementLaws

@@ -1,13 +1,13 @@
 -- A serial list is one still with one more commit, and the journal counts it.
-use Rattle.std.proofs.Common.{◌≡◌, ℕ, zero, suc, ◌+◌, ◌<◌, ◌≤◌, Bool, true, false, cond, List, [], ◌∷◌, ◌++◌, map, length, Option, Some, None, refl, ap, sym, subst, ◌∙◌, arith, append-nil, length-append}
+use Rattle.std.proofs.Common.{◌≡◌, ℕ, zero, suc, ◌+◌, ◌<◌, ◌≤◌, Bool, true, false, cond, List, [], ◌∷◌, ◌++◌, map, length, Option, Some, None, refl, ap, sym, ◌∙◌, arith, append-nil, length-append}
 use Rattle.std.proofs.lemmas.List.{map-append}
-use Rattle.std.specs.Prelude.{All, nat_le, nat_lt, ◌&&◌, slice_index}
-use Rattle.std.specs.List.{filter_map, range_with_len, cons_option}
+use Rattle.std.specs.Prelude.{All, nat_le, ◌&&◌, slice_index}
+use Rattle.std.specs.List.{range_with_len, cons_option}
 use Rattle.std.proofs.lemmas.Bool.{le-leb}
 use Rattle.std.proofs.lemmas.List.Elements.{All-nil, All-cons, All-append, filter_map-append}
 use Rattle.atomic_table.specs.Seated.{TableId}
 use Rattle.hy_passes.specs.declared.entry.Entry.{Entry}
-use Rattle.hy_passes.specs.History.{are_warehouses, is_crossing, is_number, kept_of, max_commits, names, number_after, numbers_of, respects_after, respects_stamps, IsSerial}
+use Rattle.hy_passes.specs.History.{are_warehouses, is_crossing, is_number, kept_of, max_commits, names, number_after, numbers_of, respects_after, IsSerial}
 use Rattle.hy_passes.specs.Inside.{IsHistory}
 use Rattle.hy_passes.specs.Worlds.{Origin}
 use Rattle.hy_passes.proofs.Lists.{kept-adds, kept-skips}
@@ -51,7 +51,7 @@ module _ {C : Type 0} (warehouses : C → List ℕ) (number : C → Option ℕ) 
   numbered-more : (log : List (Entry C)) (b : Bool)
       → numbers_of warehouses number log ≡ range_with_len 1 (length (numbers_of warehouses number log))
       → numbers_of warehouses number log ++ cons_option (cond b (Some (suc (length (numbers_of warehouses number log)))) None) []
-          ≡ range_with_len 1 (length (numbers_of warehouses number log ++ cons_option (cond b (Some (suc (length (numbers_of warehouses number log)))) None) []))
+      ≡ range_with_len 1 (length (numbers_of warehouses number log ++ cons_option (cond b (Some (suc (length (numbers_of warehouses number log)))) None) []))
   numbered-more log false so =
       append-nil (numbers_of warehouses number log) ∙ so
       ∙ ap (λ l. range_with_len 1 (length l)) (sym (append-nil (numbers_of warehouses number log)))
@@ -74,24 +74,24 @@ module _ {C : Type 0} (warehouses : C → List ℕ) (number : C → Option ℕ) 
     serial-more log entry serial named numbered stamped =
         let b = is_crossing warehouses entry.commit in
         let o : Option ℕ = cond b (Some (suc (length (numbers_of warehouses number log)))) None in
-        record
-          { named = All-one (λ (e : Entry C). are_warehouses partitions (warehouses e.commit) ≡ true) log entry serial.named named
-          ; marked = All-one (λ (e : Entry C). is_number (number e.commit) ≡ is_crossing warehouses e.commit) log entry serial.marked
-              (ap is_number numbered ∙ marked-if b (suc (length (numbers_of warehouses number log))))
-          ; numbered = numbers-more log entry o numbered ∙ numbered-more log b serial.numbered
-              ∙ ap (λ l. range_with_len 1 (length l)) (sym (numbers-more log entry o numbered))
-          ; stamped = respects-more 0 log entry serial.stamped (omega (arith, stamped))
-          }
+        record {
+          named = All-one (λ (e : Entry C). are_warehouses partitions (warehouses e.commit) ≡ true) log entry serial.named named;
+          marked = All-one (λ (e : Entry C). is_number (number e.commit) ≡ is_crossing warehouses e.commit) log entry serial.marked
+              (ap is_number numbered ∙ marked-if b (suc (length (numbers_of warehouses number log))));
+          numbered = numbers-more log entry o numbered ∙ numbered-more log b serial.numbered
+              ∙ ap (λ l. range_with_len 1 (length l)) (sym (numbers-more log entry o numbered));
+          stamped = respects-more 0 log entry serial.stamped (omega (arith, stamped));
+        }
 
   module _ {origin : Origin} {word : TableId} {seat size crossings : ℕ} {counts : List ℕ} {log : List (Entry C)} (i : IsHistory warehouses number origin word seat log size crossings counts) where
     few-commits : length log ≤ 68719476736
     few-commits =
         log-room warehouses origin.partitions log i.few i.serial.named
-            (λ w h.
-                let h' : w < length counts = omega (arith, i.places, h) in
-                let k = i.counted w h' in
-                let m = i.room w h' in
-                omega (arith, k, m, ap (λ v. length (kept_of warehouses v log)) (plus-one w)))
+        (λ w h.
+        let h' : w < length counts = omega (arith, i.places, h) in
+        let k = i.counted w h' in
+        let m = i.room w h' in
+        omega (arith, k, m, ap (λ v. length (kept_of warehouses v log)) (plus-one w)))
 
     -- the counts have room for more
     pub size-room : size ≤ 68719476736
@@ -111,17 +111,17 @@ module _ {C : Type 0} (warehouses : C → List ℕ) (number : C → Option ℕ) 
         → length counts' ≡ length counts
         → ((k : ℕ) → k < length counts → slice_index counts' k ≡ cond (names warehouses (k + 1) entry.commit) (suc (slice_index counts k)) (slice_index counts k))
         → IsHistory warehouses number origin word seat (log ++ entry ∷ []) (size + 1) crossings' counts'
-    history-more entry crossings' counts' named numbered stamped room crossed same counted = record
-      { word_is = i.word_is
-      ; first = i.first
-      ; size_is = omega (arith, i.size_is, length-append log (entry ∷ []))
-      ; crossings_are = crossed ∙ more (number entry.commit) refl
-      ; places = same ∙ i.places
-      ; few = i.few
-      ; counted = λ k h. (at k (omega (arith, same, h)) (names warehouses (k + 1) entry.commit) refl).0
-      ; room = λ k h. (at k (omega (arith, same, h)) (names warehouses (k + 1) entry.commit) refl).1
-      ; serial = serial-more origin.partitions log entry i.serial named numbered stamped
-      }
+    history-more entry crossings' counts' named numbered stamped room crossed same counted = record {
+      word_is = i.word_is;
+      first = i.first;
+      size_is = omega (arith, i.size_is, length-append log (entry ∷ []));
+      crossings_are = crossed ∙ more (number entry.commit) refl;
+      places = same ∙ i.places;
+      few = i.few;
+      counted = λ k h. (at k (omega (arith, same, h)) (names warehouses (k + 1) entry.commit) refl).0;
+      room = λ k h. (at k (omega (arith, same, h)) (names warehouses (k + 1) entry.commit) refl).1;
+      serial = serial-more origin.partitions log entry i.serial named numbered stamped;
+    }
       where
         more : (o : Option ℕ) → number entry.commit ≡ o
             → cond (is_number o) (suc crossings) crossings ≡ length (numbers_of warehouses number (log ++ entry ∷ []))

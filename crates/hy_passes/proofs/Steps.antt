@@ -1,22 +1,19 @@
 -- Each step keeps the rule, and tells what it says.
-use Rattle.std.proofs.Common.{◌≡◌, ◌≢◌, ◌⊎◌, ℕ, zero, suc, ◌+◌, ◌==◌, ◌<◌, ◌≤◌, Bool, true, false, not, cond, List, [], ◌∷◌, ◌++◌, map, filter, length, set, Option, Some, None, inl, inr, ⊎_elim, refl, ap, sym, subst, ◌∙◌, arith, true≢false}
+use Rattle.std.proofs.Common.{◌≡◌, ◌≢◌, ℕ, zero, suc, ◌+◌, ◌==◌, ◌<◌, true, cond, List, [], ◌∷◌, length, set, Some, None, ⊎_elim, refl, ap, sym, subst, ◌∙◌, arith}
 use Rattle.std.specs.Prelude.{slice_index, slice_set}
-use mathlib.Core.Option.{some, none, some-injective, some-ne-none}
-use mathlib.Core.Logic.{dite}
-use mathlib.Core.List.{IsPrefix}
+use mathlib.Core.Option.{some, some-injective, some-ne-none}
 use native.Mathlib.Decide.{ℕ_discrete}
 use lib.ListN.{get_elem?}
 use Rattle.std.proofs.Common.{length-append, eq-eqb, ne_eqb}
 use Rattle.std.proofs.lemmas.Bool.{false_from_ne_true}
 use prog.Atomic.{either}
-use Rattle.atomic_table.specs.Table.{State, Me, Act, keeps, Allows, Splits, Joins, stepped}
-use Rattle.atomic_table.proofs.Lists.{at_set, set_here, set_else, at_longer, exchanged}
+use Rattle.atomic_table.specs.Table.{State, Me, keeps, Allows, Splits, Joins}
+use Rattle.atomic_table.proofs.Lists.{set_here, set_else, at_longer, exchanged}
 use Rattle.hy_passes.specs.declared.entry.Entry.{Entry}
 use Rattle.hy_passes.specs.declared.view.Knowledge.{Knowledge}
 use Rattle.hy_passes.specs.declared.view.View.{View}
-use Rattle.hy_passes.specs.History.{names, projection, kept_of}
-use Rattle.hy_passes.specs.Law.{nothing, beginner, holder, after_dealing, new_seat, new_pass, boarded, is_served, after_leaving, leaving, is_told, appended, Fits, IsKept, Looks, Meets, with_said, Appends}
-use Rattle.hy_passes.proofs.Beginnings.{begins_itself, begins_longer, begins_through}
+use Rattle.hy_passes.specs.Law.{nothing, beginner, after_dealing, new_seat, new_pass, boarded, is_served, after_leaving, leaving, appended, Fits, IsKept, Looks, Meets, Appends}
+use Rattle.hy_passes.proofs.Beginnings.{begins_itself, begins_longer}
 use Rattle.hy_passes.proofs.Lists.{each_set, each_more, told-more, told-left, kept-skips, served-here, serves-here}
 
 not-none : {w : ℕ} → None ≡ Some w → ⊥
@@ -36,17 +33,17 @@ module _ {C : Type 0} (warehouses : C → List ℕ) where
 
   -- the rule at the start
   pub begins : IsKept warehouses (0 ∷ []) (beginner ∷ [])
-  begins = record
-    { journal = beginner
-    ; seat_of = λ w. 0
-    ; first = refl
-    ; word = refl
-    ; apart = refl
-    ; each = λ seat v at.
+  begins = record {
+    journal = beginner;
+    seat_of = λ w. 0;
+    first = refl;
+    word = refl;
+    apart = refl;
+    each = λ seat v at.
         subst (λ (u : View C). Fits warehouses beginner (λ w. 0) seat u.mine × Fits warehouses beginner (λ w. 0) seat u.guest)
-            (one-seat beginner [] seat v at).1
-            (fits-nothing beginner (λ w. 0) seat, fits-nothing beginner (λ w. 0) seat)
-    }
+        (one-seat beginner [] seat v at).1
+        (fits-nothing beginner (λ w. 0) seat, fits-nothing beginner (λ w. 0) seat);
+  }
 
   -- what the rule says of a seat
   abbrev Known : View C → (ℕ → ℕ) → ℕ → View C → Type 0
@@ -73,15 +70,15 @@ module _ {C : Type 0} (warehouses : C → List ℕ) where
       → IsKeptBy v words views
   by words views v kept at =
       subst (λ j. IsKeptBy j words views) (is-journal kept v at)
-          record { seat_of = kept.seat_of; first = kept.first; word = kept.word; apart = kept.apart; each = kept.each }
+      record { seat_of = kept.seat_of; first = kept.first; word = kept.word; apart = kept.apart; each = kept.each }
 
   abbrev looked : View C → View C → View C
-  looked journal v = record
-    { mine = record { seen = journal.mine.seen; looks = v.mine.looks + 1; serves = v.mine.serves }
-    ; guest = v.guest
-    ; behind = v.behind
-    ; dealt = v.dealt
-    }
+  looked journal v = record {
+    mine = record { seen = journal.mine.seen; looks = v.mine.looks + 1; serves = v.mine.serves };
+    guest = v.guest;
+    behind = v.behind;
+    dealt = v.dealt;
+  }
 
   same-word : (words : List ℕ) (n : ℕ) → words ≡ n ∷ [] → slice_set words 0 (slice_index words 0) ≡ n ∷ []
   same-word words n is = ap (λ (ws : List ℕ). slice_set ws 0 (slice_index ws 0)) is
@@ -100,23 +97,23 @@ module _ {C : Type 0} (warehouses : C → List ℕ) where
       let k = by words views v kept at' in
       let j = is-journal kept v at' in
       subst (λ i. IsKept warehouses (slice_set words 0 (slice_index words 0)) (set views i (looked kept.journal v))) (sym is)
-        (subst (λ u. IsKept warehouses (slice_set words 0 (slice_index words 0)) (set views 0 (looked u v))) (sym j)
-          record
-            { journal = looked v v
-            ; seat_of = k.seat_of
-            ; first = set_here views 0 (looked v v) (some-views views v at')
-            ; word = same-word words (length v.mine.seen) k.word
-            ; apart = k.apart
-            ; each = each_set (Known v k.seat_of) views 0 (looked v v) (λ j u _ e. k.each j u e) (looked-fits v k.seat_of 0 v (k.each 0 v at'))
-            })
-  looks-kept words views kept id v at (no isnt) = record
-    { journal = kept.journal
-    ; seat_of = kept.seat_of
-    ; first = set_else views id 0 (looked kept.journal v) (λ e. isnt (sym e)) ∙ kept.first
-    ; word = same-word words (length kept.journal.mine.seen) kept.word
-    ; apart = kept.apart
-    ; each = each_set (Known kept.journal kept.seat_of) views id (looked kept.journal v) (λ j u _ e. kept.each j u e) (looked-fits kept.journal kept.seat_of id v (kept.each id v at))
-    }
+      (subst (λ u. IsKept warehouses (slice_set words 0 (slice_index words 0)) (set views 0 (looked u v))) (sym j)
+      record {
+        journal = looked v v;
+        seat_of = k.seat_of;
+        first = set_here views 0 (looked v v) (some-views views v at');
+        word = same-word words (length v.mine.seen) k.word;
+        apart = k.apart;
+        each = each_set (Known v k.seat_of) views 0 (looked v v) (λ j u _ e. k.each j u e) (looked-fits v k.seat_of 0 v (k.each 0 v at'));
+      })
+  looks-kept words views kept id v at (no isnt) = record {
+    journal = kept.journal;
+    seat_of = kept.seat_of;
+    first = set_else views id 0 (looked kept.journal v) (λ e. isnt (sym e)) ∙ kept.first;
+    word = same-word words (length kept.journal.mine.seen) kept.word;
+    apart = kept.apart;
+    each = each_set (Known kept.journal kept.seat_of) views id (looked kept.journal v) (λ j u _ e. kept.each j u e) (looked-fits kept.journal kept.seat_of id v (kept.each id v at));
+  }
 
   pub looks : (slots id : ℕ) (me : Me (Entry C) (View C)) → Allows Kept slots id me 0 (λ n. n) (Looks me)
   looks slots id me s kept count at below =
@@ -135,14 +132,14 @@ module _ {C : Type 0} (warehouses : C → List ℕ) where
         me.0,
         keeps,
         tt,
-        record
-          { journal = me.0
-          ; seat_of = k.seat_of
-          ; first = set_here s.views 0 me.0 (some-views s.views me.0 at)
-          ; word = same-word s.words (length me.0.mine.seen) k.word
-          ; apart = k.apart
-          ; each = each_set (Known me.0 k.seat_of) s.views 0 me.0 (λ j u _ e. k.each j u e) (k.each 0 me.0 at)
-          },
+        record {
+          journal = me.0;
+          seat_of = k.seat_of;
+          first = set_here s.views 0 me.0 (some-views s.views me.0 at);
+          word = same-word s.words (length me.0.mine.seen) k.word;
+          apart = k.apart;
+          each = each_set (Known me.0 k.seat_of) s.views 0 me.0 (λ j u _ e. k.each j u e) (k.each 0 me.0 at);
+        },
         (refl, guest.0, λ w e told. (guest.1 w e).2 told),
       )
 
@@ -170,22 +167,22 @@ module _ {C : Type 0} (warehouses : C → List ℕ) where
       let found : slice_index s.words 0 ≡ old = ap (λ (ws : List ℕ). slice_index ws 0) k.word ∙ sym is in
       let n : ℕ = slice_index s.words 0 in
       let grown : either (n == old) new n ≡ length w.mine.seen =
-          exchanged n old new (λ m. m ≡ length w.mine.seen)
-              (λ _. omega (arith, length-append me.0.mine.seen (entry ∷ [])))
-              (λ apart. absurd (apart found)) in (
+      exchanged n old new (λ m. m ≡ length w.mine.seen)
+      (λ _. omega (arith, length-append me.0.mine.seen (entry ∷ [])))
+      (λ apart. absurd (apart found)) in (
         w,
         keeps,
         tt,
-        record
-          { journal = w
-          ; seat_of = k.seat_of
-          ; first = set_here s.views 0 w (some-views s.views me.0 at)
-          ; word = ap (λ (ws : List ℕ). slice_set ws 0 (either (n == old) new n)) k.word ∙ ap (λ m. m ∷ []) grown
-          ; apart = k.apart
-          ; each = each_set (Known w k.seat_of) s.views 0 w
+        record {
+          journal = w;
+          seat_of = k.seat_of;
+          first = set_here s.views 0 w (some-views s.views me.0 at);
+          word = ap (λ (ws : List ℕ). slice_set ws 0 (either (n == old) new n)) k.word ∙ ap (λ m. m ∷ []) grown;
+          apart = k.apart;
+          each = each_set (Known w k.seat_of) s.views 0 w
               (λ j u _ e. let f = k.each j u e in (appended-fits me.0 k.seat_of j u.mine entry f.0, appended-fits me.0 k.seat_of j u.guest entry f.1))
-              ((begins_itself w.mine.seen, λ v e. absurd (not-none (sym k.apart ∙ e))), appended-fits me.0 k.seat_of 0 me.0.guest entry (k.each 0 me.0 at).1)
-          },
+              ((begins_itself w.mine.seen, λ v e. absurd (not-none (sym k.apart ∙ e))), appended-fits me.0 k.seat_of 0 me.0.guest entry (k.each 0 me.0 at).1);
+        },
         refl,
       )
 
@@ -197,44 +194,46 @@ module _ {C : Type 0} (warehouses : C → List ℕ) where
       let next = length (set s.views 0 left) in
       let seat_of' : ℕ → ℕ = λ w. cond (w == suc v.dealt) next (k.seat_of w) in
       let stays : (seat : ℕ) (u : Knowledge C) → Fits warehouses v k.seat_of seat u → Fits warehouses left seat_of' seat u =
-          λ seat u fits. (
-            fits.0,
-            λ w e.
-                let f = fits.1 w e in
-                (ap (λ b. cond b next (k.seat_of w)) (ne_eqb w (suc v.dealt) (λ same. omega arith)) ∙ f.0, omega arith, f.2),
-          ) in
-      record
-        { journal = left
-        ; seat_of = seat_of'
-        ; first = at_longer (set s.views 0 left) (new_seat v ∷ []) 0 left (set_here s.views 0 left (some-views s.views v at))
-        ; word = k.word
-        ; apart = k.apart
-        ; each = each_more (Known left seat_of') (set s.views 0 left) (new_seat v)
+      λ seat u fits. (
+        fits.0,
+        λ w e.
+            let f = fits.1 w e in
+            (ap (λ b. cond b next (k.seat_of w)) (ne_eqb w (suc v.dealt) (λ same. omega arith)) ∙ f.0, omega arith, f.2),
+      ) in
+      record {
+        journal = left;
+        seat_of = seat_of';
+        first = at_longer (set s.views 0 left) (new_seat v ∷ []) 0 left (set_here s.views 0 left (some-views s.views v at));
+        word = k.word;
+        apart = k.apart;
+        each = each_more (Known left seat_of') (set s.views 0 left) (new_seat v)
             (each_set (Known left seat_of') s.views 0 left
-                (λ j u _ e. let f = k.each j u e in (stays j u.mine f.0, stays j u.guest f.1))
-                (let f = k.each 0 v at in (stays 0 v.mine f.0, stays 0 v.guest f.1)))
-            (
-              (begins_itself v.mine.seen, λ w e.
-                  let is : suc v.dealt ≡ w = cc (e) in
-                  (ap (λ b. cond b next (k.seat_of w)) (eq-eqb w (suc v.dealt) (sym is)), omega (arith, is), λ told. refl)),
+            (λ j u _ e. let f = k.each j u e in (stays j u.mine f.0, stays j u.guest f.1))
+            (let f = k.each 0 v at in (stays 0 v.mine f.0, stays 0 v.guest f.1))) (
+              (
+                begins_itself v.mine.seen,
+                λ w e.
+                    let is : suc v.dealt ≡ w = cc (e) in
+                    (ap (λ b. cond b next (k.seat_of w)) (eq-eqb w (suc v.dealt) (sym is)), omega (arith, is), λ told. refl),
+              ),
               fits-nothing left seat_of' next,
-            )
-        }
+            );
+      }
 
   -- a pass for a client
   pub admits : (v : View C) → Splits Kept 0 v v (new_pass v)
   admits v s kept at =
       let k = by s.words s.views v kept at in
-      record
-        { journal = v
-        ; seat_of = k.seat_of
-        ; first = at_longer (set s.views 0 v) (new_pass v ∷ []) 0 v (set_here s.views 0 v (some-views s.views v at))
-        ; word = k.word
-        ; apart = k.apart
-        ; each = each_more (Known v k.seat_of) (set s.views 0 v) (new_pass v)
+      record {
+        journal = v;
+        seat_of = k.seat_of;
+        first = at_longer (set s.views 0 v) (new_pass v ∷ []) 0 v (set_here s.views 0 v (some-views s.views v at));
+        word = k.word;
+        apart = k.apart;
+        each = each_more (Known v k.seat_of) (set s.views 0 v) (new_pass v)
             (each_set (Known v k.seat_of) s.views 0 v (λ j u _ e. k.each j u e) (k.each 0 v at))
-            ((begins_itself v.mine.seen, λ w e. absurd (not-none e)), fits-nothing v k.seat_of (length (set s.views 0 v)))
-        }
+            ((begins_itself v.mine.seen, λ w e. absurd (not-none e)), fits-nothing v k.seat_of (length (set s.views 0 v)));
+      }
 
   -- a guest comes to the journal
   pub boards : (v : View C) (other : ℕ) (w : View C) → Joins Kept 0 v other w (boarded v w) beginner
@@ -245,36 +244,38 @@ module _ {C : Type 0} (warehouses : C → List ℕ) where
       let theirs = (k.each other guest at_other).0 in
       let seat_of' : ℕ → ℕ = λ w. cond (is_served guest.mine.serves w) 0 (k.seat_of w) in
       let stays : (seat : ℕ) (u : Knowledge C) → seat ≢ other → Fits warehouses v k.seat_of seat u → Fits warehouses now seat_of' seat u =
-          λ seat u elsewhere fits. (
-            fits.0,
-            λ w e.
-                let f = fits.1 w e in
-                (
-                  ap (λ b. cond b 0 (k.seat_of w))
-                      (false_from_ne_true (is_served guest.mine.serves w) (λ t. elsewhere (sym f.0 ∙ (theirs.1 w (served-here guest.mine.serves w t)).0)))
+      λ seat u elsewhere fits. (
+        fits.0,
+        λ w e.
+            let f = fits.1 w e in (
+              ap (λ b. cond b 0 (k.seat_of w))
+                  (false_from_ne_true (is_served guest.mine.serves w) (λ t. elsewhere (sym f.0 ∙ (theirs.1 w (served-here guest.mine.serves w t)).0)))
                   ∙ f.0,
-                  f.1,
-                  f.2,
-                ),
-          ) in
-      record
-        { journal = now
-        ; seat_of = seat_of'
-        ; first = set_else (set s.views 0 now) other 0 beginner (λ e. apart (sym e)) ∙ set_here s.views 0 now (some-views s.views v at)
-        ; word = k.word
-        ; apart = k.apart
-        ; each = each_set (Known now seat_of') (set s.views 0 now) other beginner
+              f.1,
+              f.2,
+            ),
+      ) in
+      record {
+        journal = now;
+        seat_of = seat_of';
+        first = set_else (set s.views 0 now) other 0 beginner (λ e. apart (sym e)) ∙ set_here s.views 0 now (some-views s.views v at);
+        word = k.word;
+        apart = k.apart;
+        each = each_set (Known now seat_of') (set s.views 0 now) other beginner
             (λ j u elsewhere e.
-                each_set (λ i x. i ≢ other → Known now seat_of' i x) s.views 0 now
-                    (λ i x _ e' apart'. let f = k.each i x e' in (stays i x.mine apart' f.0, stays i x.guest apart' f.1))
-                    (λ apart'. (
-                      stays 0 v.mine apart' (k.each 0 v at).0,
-                      (theirs.0, λ w e'. let f = theirs.1 w e' in
-                          (ap (λ b. cond b 0 (k.seat_of w)) (serves-here guest.mine.serves w e'), f.1, f.2)),
-                    ))
-                    j u e elsewhere)
-            (fits-nothing now seat_of' other, fits-nothing now seat_of' other)
-        }
+            each_set (λ i x. i ≢ other → Known now seat_of' i x) s.views 0 now
+            (λ i x _ e' apart'. let f = k.each i x e' in (stays i x.mine apart' f.0, stays i x.guest apart' f.1))
+            (λ apart'. (
+              stays 0 v.mine apart' (k.each 0 v at).0,
+              (
+                theirs.0,
+                λ w e'. let f = theirs.1 w e' in
+                    (ap (λ b. cond b 0 (k.seat_of w)) (serves-here guest.mine.serves w e'), f.1, f.2),
+              ),
+            ))
+            j u e elsewhere)
+            (fits-nothing now seat_of' other, fits-nothing now seat_of' other);
+      }
 
   -- the guest leaves, and has been told
   pub leaves : (v : View C) → Splits Kept 0 v (after_leaving v) (leaving v)
@@ -285,33 +286,34 @@ module _ {C : Type 0} (warehouses : C → List ℕ) where
       let theirs = (k.each 0 v at).1 in
       let seat_of' : ℕ → ℕ = λ w. cond (is_served v.guest.serves w) next (k.seat_of w) in
       let stays : (seat : ℕ) (u : Knowledge C) → seat ≢ 0 → Fits warehouses v k.seat_of seat u → Fits warehouses now seat_of' seat u =
-          λ seat u elsewhere fits. (
-            fits.0,
-            λ w e.
-                let f = fits.1 w e in
-                let isnt : is_served v.guest.serves w ≡ true → ⊥ = λ t. elsewhere (sym f.0 ∙ (theirs.1 w (served-here v.guest.serves w t)).0) in
-                (
-                  ap (λ b. cond b next (k.seat_of w)) (false_from_ne_true (is_served v.guest.serves w) isnt) ∙ f.0,
-                  f.1,
-                  λ told. ⊎_elim (λ same. absurd (isnt (serves-here v.guest.serves w same))) (λ before. f.2 before) (told-left v.guest.serves v.behind w told),
-                ),
-          ) in
-      record
-        { journal = now
-        ; seat_of = seat_of'
-        ; first = at_longer (set s.views 0 now) (leaving v ∷ []) 0 now (set_here s.views 0 now (some-views s.views v at))
-        ; word = k.word
-        ; apart = k.apart
-        ; each = each_more (Known now seat_of') (set s.views 0 now) (leaving v)
+      λ seat u elsewhere fits. (
+        fits.0,
+        λ w e.
+            let f = fits.1 w e in
+            let isnt : is_served v.guest.serves w ≡ true → ⊥ = λ t. elsewhere (sym f.0 ∙ (theirs.1 w (served-here v.guest.serves w t)).0) in (
+              ap (λ b. cond b next (k.seat_of w)) (false_from_ne_true (is_served v.guest.serves w) isnt) ∙ f.0,
+              f.1,
+              λ told. ⊎_elim (λ same. absurd (isnt (serves-here v.guest.serves w same))) (λ before. f.2 before) (told-left v.guest.serves v.behind w told),
+            ),
+      ) in
+      record {
+        journal = now;
+        seat_of = seat_of';
+        first = at_longer (set s.views 0 now) (leaving v ∷ []) 0 now (set_here s.views 0 now (some-views s.views v at));
+        word = k.word;
+        apart = k.apart;
+        each = each_more (Known now seat_of') (set s.views 0 now) (leaving v)
             (each_set (Known now seat_of') s.views 0 now
-                (λ j u elsewhere e. let f = k.each j u e in (stays j u.mine elsewhere f.0, stays j u.guest elsewhere f.1))
-                ((begins_itself v.mine.seen, λ w e. absurd (not-none (sym k.apart ∙ e))), fits-nothing now seat_of' 0))
-            (
-              (begins_itself v.mine.seen, λ w e. let f = theirs.1 w e in
-                  (ap (λ b. cond b next (k.seat_of w)) (serves-here v.guest.serves w e), f.1, λ told. refl)),
+            (λ j u elsewhere e. let f = k.each j u e in (stays j u.mine elsewhere f.0, stays j u.guest elsewhere f.1))
+            ((begins_itself v.mine.seen, λ w e. absurd (not-none (sym k.apart ∙ e))), fits-nothing now seat_of' 0)) (
+              (
+                begins_itself v.mine.seen,
+                λ w e. let f = theirs.1 w e in
+                    (ap (λ b. cond b next (k.seat_of w)) (serves-here v.guest.serves w e), f.1, λ told. refl),
+              ),
               fits-nothing now seat_of' next,
-            )
-        }
+            );
+      }
 
   -- the same at a seat that is the journal's
   pub meets_at : (slots id : ℕ) (me : Me (Entry C) (View C)) → id ≡ 0
@@ -323,7 +325,7 @@ module _ {C : Type 0} (warehouses : C → List ℕ) where
       → Allows Kept slots id me 0 (λ n. either (n == old) new n) (λ _. Appends warehouses (some entry) me)
   appends_at slots id me entry old new is length_is next =
       subst (λ i. Allows Kept slots i me 0 (λ n. either (n == old) new n) (λ _. Appends warehouses (some entry) me)) (sym is)
-          (appends slots me entry old new length_is next)
+      (appends slots me entry old new length_is next)
 
   pub deals_at : (id : ℕ) (v : View C) → id ≡ 0 → Splits Kept id v (after_dealing v) (new_seat v)
   deals_at id v is = subst (λ i. Splits Kept i v (after_dealing v) (new_seat v)) (sym is) (deals v)

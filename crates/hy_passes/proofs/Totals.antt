@@ -1,14 +1,14 @@
 -- A serial list has no more commits than its warehouses keep in all.
-use Rattle.std.proofs.Common.{◌≡◌, ℕ, zero, suc, ◌+◌, ◌*◌, ◌<◌, ◌≤◌, Bool, true, false, cond, List, [], ◌∷◌, ◌++◌, map, filter, length, Option, Some, None, refl, ap, sym, subst, ◌∙◌, arith, true≢false}
+use Rattle.std.proofs.Common.{◌≡◌, ℕ, zero, suc, ◌+◌, ◌*◌, ◌<◌, ◌≤◌, Bool, true, false, cond, List, [], ◌∷◌, length, Option, Some, None, refl, ap, sym, subst, ◌∙◌, arith, true≢false}
 use Rattle.std.specs.Prelude.{All, nat_le, nat_lt, ◌&&◌, ◌==◌, ◌||◌}
-use Rattle.std.specs.List.{filter_map, list_all, list_any, cons_option}
+use Rattle.std.specs.List.{list_all, list_any, cons_option}
 use Rattle.std.proofs.lemmas.Bool.{leb-true}
 use Rattle.std.proofs.Common.{eq-eqb}
 use Rattle.std.proofs.Math.Nat.{mul-suc}
 use native.Mathlib.Decide.{ℕ_discrete}
 use Rattle.std.proofs.lemmas.List.Elements.{All-head, All-tail}
 use Rattle.hy_passes.specs.declared.entry.Entry.{Entry}
-use Rattle.hy_passes.specs.History.{are_warehouses, kept_of, max_commits, max_partitions, names, numbers_of, IsSerial}
+use Rattle.hy_passes.specs.History.{are_warehouses, kept_of, max_commits, max_partitions, names, numbers_of}
 
 and-both : (a b : Bool) → (a && b) ≡ true → (a ≡ true) × (b ≡ true)
 and-both true b is = (refl, is)
@@ -87,7 +87,7 @@ module _ {C : Type 0} (warehouses : C → List ℕ) where
       let here = some-named partitions (warehouses entry.commit) (All-head (λ (e : Entry C). are_warehouses partitions (warehouses e.commit) ≡ true) entry log named) in
       let later = log-within partitions log (All-tail (λ (e : Entry C). are_warehouses partitions (warehouses e.commit) ≡ true) entry log named) in
       let grown = sum_up-grows partitions (λ w. length (kept_of warehouses w log)) (λ w. length (kept_of warehouses w (entry ∷ log))) here.0 here.1
-          (kept-named (suc here.0) entry log here.2) (λ w h. kept-longer (suc w) entry log) in
+      (kept-named (suc here.0) entry log here.2) (λ w h. kept-longer (suc w) entry log) in
       omega arith
 
   -- where no warehouse keeps more than the most, the list has room for more

@@ -1,5 +1,5 @@
 -- What always holds inside the journal.
-use Rattle.std.specs.Prelude.{◌≡◌, ℕ, ◌+◌, ◌*◌, ◌<◌, ◌≤◌, List, length, slice_index, Option}
+use Rattle.std.specs.Prelude.{◌≡◌, ℕ, ◌+◌, ◌<◌, ◌≤◌, List, length, slice_index, Option}
 use Rattle.atomic_table.specs.Seated.{TableId}
 use Rattle.hy_passes.specs.declared.entry.Entry.{Entry}
 use Rattle.hy_passes.specs.History.{kept_of, max_commits, max_partitions, numbers_of, IsSerial}

@@ -1,5 +1,5 @@
 -- What the seats know, and the rule that ties it to the word.
-use Rattle.std.specs.Prelude.{ℕ, zero, suc, ◌+◌, ◌==◌, ◌≤◌, ◌≡◌, Bool, true, false, not, List, [], ◌∷◌, ◌++◌, map, filter, length, Option, Some, None}
+use Rattle.std.specs.Prelude.{ℕ, suc, ◌+◌, ◌==◌, ◌≤◌, ◌≡◌, Bool, true, false, not, List, [], ◌∷◌, ◌++◌, filter, length, Option, Some, None}
 use Rattle.std.specs.List.{list_any}
 use mathlib.Core.List.{IsPrefix}
 use mathlib.Core.Option.{some, none}
@@ -8,7 +8,7 @@ use Rattle.atomic_table.specs.Table.{Me}
 use Rattle.hy_passes.specs.declared.entry.Entry.{Entry}
 use Rattle.hy_passes.specs.declared.view.Knowledge.{Knowledge}
 use Rattle.hy_passes.specs.declared.view.View.{View}
-use Rattle.hy_passes.specs.History.{names, kept_of}
+use Rattle.hy_passes.specs.History.{kept_of}
 
 -- whether the warehouse that a guest serves is this one
 abbrev pub is_served : Option ℕ → ℕ → Bool
@@ -67,12 +67,12 @@ module _ {C : Type 0} where
   module _ (warehouses : C → List ℕ) where
     -- the journal after a commit
     abbrev pub appended : Entry C → View C → View C
-    appended entry v = record
-      { mine = record { seen = v.mine.seen ++ entry ∷ []; looks = v.mine.looks; serves = v.mine.serves }
-      ; guest = v.guest
-      ; behind = v.behind ++ warehouses entry.commit
-      ; dealt = v.dealt
-      }
+    appended entry v = record {
+      mine = record { seen = v.mine.seen ++ entry ∷ []; looks = v.mine.looks; serves = v.mine.serves };
+      guest = v.guest;
+      behind = v.behind ++ warehouses entry.commit;
+      dealt = v.dealt;
+    }
 
     -- what the holder of a seat knows: a beginning of the list. Who serves a warehouse has its only seat, and knows all
     -- its commits, unless it has still to be told
@@ -80,8 +80,8 @@ module _ {C : Type 0} where
     Fits journal seat_of seat k =
         IsPrefix k.seen journal.mine.seen
         × ((w : ℕ) → k.serves ≡ Some w
-            → (seat_of w ≡ seat) × (w ≤ journal.dealt)
-            × (is_told journal.behind w ≡ true → kept_of warehouses w k.seen ≡ kept_of warehouses w journal.mine.seen))
+        → (seat_of w ≡ seat) × (w ≤ journal.dealt)
+        × (is_told journal.behind w ≡ true → kept_of warehouses w k.seen ≡ kept_of warehouses w journal.mine.seen))
 
     -- the rule: the first seat is the journal's, which knows the whole list, and the word is the list's length
     pub record IsKept (words : List ℕ) (views : List (View C)) : Type 0 where
@@ -103,7 +103,7 @@ module _ {C : Type 0} where
       Meets before after =
           (after ≡ before) × IsPrefix before.0.guest.seen before.0.mine.seen
           × ((w : ℕ) → before.0.guest.serves ≡ Some w → is_told before.0.behind w ≡ true
-              → kept_of warehouses w before.0.guest.seen ≡ kept_of warehouses w before.0.mine.seen)
+          → kept_of warehouses w before.0.guest.seen ≡ kept_of warehouses w before.0.mine.seen)
 
       -- a commit enters the end
       abbrev pub Appends : mathlib.Core.Option.Option (Entry C) → Me S (View C) → Me S (View C) → Type 0

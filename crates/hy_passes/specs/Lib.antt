@@ -1,4 +1,6 @@
+pub mod Agreement
 pub mod History
 pub mod Inside
 pub mod Law
 pub mod Worlds
+mod WorkedRows

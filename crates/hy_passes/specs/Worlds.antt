@@ -12,12 +12,12 @@ pub record Origin : Type 0 where
 
 -- that of no kit
 abbrev pub no_origin : Origin
-no_origin = record
-  { word = record { words = 0; slots = 0; views_name = 0; atom = 0; block = 0; offset = 0; slot_names = [] }
-  ; name = 0
-  ; partitions = 0
-  ; clients = 0
-  }
+no_origin = record {
+  word = record { words = 0; slots = 0; views_name = 0; atom = 0; block = 0; offset = 0; slot_names = [] };
+  name = 0;
+  partitions = 0;
+  clients = 0;
+}
 
 -- a client's pass: a beginning of the serial list that the client has seen, and the number of looks at the list
 pub record PassState (C : Type 0) : Type 0 where

@@ -67,12 +67,7 @@ impl<C: Commits, K: World> KeptList<C, K> {
     }
 
     /// A commit of this warehouse alone enters the serial list and this one, and the client is told. It takes no memory.
-    pub fn commit(
-        &mut self,
-        journal: &mut Journal<C, K>,
-        pass: &mut Pass<C, K>,
-        entry: Entry<C>,
-    )
+    pub fn commit(&mut self, journal: &mut Journal<C, K>, pass: &mut Pass<C, K>, entry: Entry<C>)
         requires alone { C.warehouses entry.commit ≡ self.old.warehouse ∷ [] }
         requires unnumbered { C.number entry.commit ≡ None }
         requires stamped { entry.stamp ≤ length pass.old.seen }

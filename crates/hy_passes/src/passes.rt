@@ -57,7 +57,12 @@ impl<C: Commits, K: World> Passes<C, K> {
     }
 
     // A commit enters the end of the list, by the journal's seat.
-    pub(crate) fn append(&self, journal: &mut Seat<Entry<C>, View<C>>, length: u64, entry: &Entry<C>)
+    pub(crate) fn append(
+        &self,
+        journal: &mut Seat<Entry<C>, View<C>>,
+        length: u64,
+        entry: &Entry<C>,
+    )
         requires place { (journal.old.table_id ≡ K.passes.word) × (journal.old.id ≡ 0) }
         requires length { length ≡ Rattle.std.specs.Prelude.length journal.old.me.0.mine.seen }
         requires room { length < 2 ^ 63 }
@@ -70,7 +75,11 @@ impl<C: Commits, K: World> Passes<C, K> {
     }
 
     // The seat of the next partition.
-    pub(crate) fn deal(&self, journal: &mut Seat<Entry<C>, View<C>>, warehouse: u8) -> PartitionSeat<C, K>
+    pub(crate) fn deal(
+        &self,
+        journal: &mut Seat<Entry<C>, View<C>>,
+        warehouse: u8,
+    ) -> PartitionSeat<C, K>
         requires journal { (journal.old.table_id ≡ K.passes.word) × (journal.old.id ≡ 0) }
         requires next { warehouse ≡ suc journal.old.me.0.dealt }
         requires range { warehouse ≤ K.passes.partitions }

@@ -268,8 +268,14 @@ fn ends<K: World, R: Wait + Abort>(
     let mut journal = journal.lock(rt);
     first.tell(&mut journal);
     second.tell(&mut journal);
-    assert_eq!(rt; journal.history.commits_of(first.warehouse()), first.list().len() as u64);
-    assert_eq!(rt; journal.history.commits_of(second.warehouse()), second.list().len() as u64);
+    assert_eq!(rt;
+        journal.history.commits_of(first.warehouse()),
+        first.list().len() as u64
+    );
+    assert_eq!(rt;
+        journal.history.commits_of(second.warehouse()),
+        second.list().len() as u64
+    );
     assert_eq!(rt; journal.history.len(), 4 * TURNS);
     assert_eq!(rt; journal.history.next_crossing(), 4 * TURNS / 10 + 1);
     assert_eq!(rt; crossings(rt, first.list()), 4 * TURNS / 10);

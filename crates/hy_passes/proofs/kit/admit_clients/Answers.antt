@@ -11,8 +11,8 @@ loop-client-preserved g c =
       search rules,
       search rules,
       c.push_reserved.ensures.items
-      ∙ ap (λ xs. xs ++ c.admit.result ∷ []) c.loop-client.invariant.3
-      ∙ numbered-behind new_client 0 k c.admit.result (c.admit.ensures.pass ∙ ap new_client here),
+          ∙ ap (λ xs. xs ++ c.admit.result ∷ []) c.loop-client.invariant.3
+          ∙ numbered-behind new_client 0 k c.admit.result (c.admit.ensures.pass ∙ ap new_client here),
       search rules,
       search rules,
     )

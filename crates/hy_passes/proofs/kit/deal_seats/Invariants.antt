@@ -1,4 +1,4 @@
-use Rattle.std.proofs.Common.{◌≡◌, ◌≤◌, ◌+◌, map}
+use Rattle.std.proofs.Common.{◌≡◌, ◌≤◌, map}
 use Rattle.std.specs.Prelude.{vec_capacity, length}
 use Rattle.std.specs.List.{range_with_len}
 use Rattle.hy_passes.specs.Law.{dealer}

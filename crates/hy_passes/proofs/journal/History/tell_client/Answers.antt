@@ -1,4 +1,4 @@
-use Rattle.std.proofs.Common.{rules, ap, ◌∙◌, filter, not, subst}
+use Rattle.std.proofs.Common.{ap, ◌∙◌, filter, not}
 use Rattle.hy_passes.specs.Law.{is_served}
 use Rattle.hy_passes.proofs.Lists.{without-none}
 use Rattle.hy_passes.proofs.journal.History.tell_client.Goals as goal

@@ -1,4 +1,4 @@
-use Rattle.std.proofs.Common.{rules, sym, ◌∙◌, arith}
+use Rattle.std.proofs.Common.{rules}
 use Rattle.hy_passes.proofs.Steps.{looks}
 use Rattle.hy_passes.proofs.passes.Passes.look.Goals as goal
 

@@ -1,4 +1,4 @@
-use Rattle.std.proofs.Common.{rules, refl}
+use Rattle.std.proofs.Common.{rules}
 use Rattle.hy_passes.proofs.Steps.{admits_at, boards_at, leaves_at, meets_at}
 use Rattle.hy_passes.proofs.passes.Passes.meet.Goals as goal
 
