@@ -8,7 +8,7 @@ use Rattle.std.proofs.lemmas.List.Elements.{All-nil, All-cons, All-head, All-tai
 use Rattle.std.proofs.lemmas.List.Kept.{AllPairs-cons}
 use Rattle.hy_passes.specs.declared.entry.Entry.{Entry}
 use Rattle.hy_passes.specs.Agreement.{Agree, AreProjections, IsWarehouse, Stands}
-use Rattle.hy_passes.specs.History.{kept_of, names, numbers_of, projection, IsSerial}
+use Rattle.hy_passes.specs.SerialList.{kept_of, names, numbers_of, projection, IsSerial}
 use Rattle.hy_passes.proofs.SerialLaws.{plus-one}
 
 -- who knows a beginning of the serial list knows a beginning of each kept list

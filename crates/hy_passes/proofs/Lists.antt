@@ -10,7 +10,7 @@ use Rattle.std.proofs.lemmas.List.Folds.{list_any-append}
 use Rattle.std.proofs.Common.{append-nil, eq-eqb}
 use Rattle.atomic_table.proofs.Lists.{at_set}
 use Rattle.hy_passes.specs.declared.entry.Entry.{Entry}
-use Rattle.hy_passes.specs.History.{names, projection, kept_of}
+use Rattle.hy_passes.specs.SerialList.{names, projection, kept_of}
 use Rattle.hy_passes.specs.Law.{is_served, is_told}
 
 -- what holds of each place holds after one was set

@@ -7,8 +7,8 @@ use Rattle.std.proofs.lemmas.Bool.{le-leb}
 use Rattle.std.proofs.lemmas.List.Elements.{All-nil, All-cons, All-append, filter_map-append}
 use Rattle.atomic_table.specs.Seated.{TableId}
 use Rattle.hy_passes.specs.declared.entry.Entry.{Entry}
-use Rattle.hy_passes.specs.History.{are_warehouses, is_crossing, is_number, kept_of, max_commits, names, number_after, numbers_of, respects_after, IsSerial}
-use Rattle.hy_passes.specs.Inside.{IsHistory}
+use Rattle.hy_passes.specs.SerialList.{are_warehouses, is_crossing, is_number, kept_of, max_commits, names, number_after, numbers_of, respects_after, IsSerial}
+use Rattle.hy_passes.specs.Inside.{IsCounted}
 use Rattle.hy_passes.specs.Worlds.{Origin}
 use Rattle.hy_passes.proofs.Lists.{kept-adds, kept-skips}
 use Rattle.hy_passes.proofs.Totals.{log-room, numbers-within}
@@ -83,7 +83,7 @@ module _ {C : Type 0} (warehouses : C → List ℕ) (number : C → Option ℕ) 
           stamped = respects-more 0 log entry serial.stamped (omega (arith, stamped));
         }
 
-  module _ {origin : Origin} {word : TableId} {seat size crossings : ℕ} {counts : List ℕ} {log : List (Entry C)} (i : IsHistory warehouses number origin word seat log size crossings counts) where
+  module _ {origin : Origin} {word : TableId} {seat size crossings : ℕ} {counts : List ℕ} {log : List (Entry C)} (i : IsCounted warehouses number origin word seat log size crossings counts) where
     few-commits : length log ≤ 68719476736
     few-commits =
         log-room warehouses origin.partitions log i.few i.serial.named
@@ -102,7 +102,7 @@ module _ {C : Type 0} (warehouses : C → List ℕ) (number : C → Option ℕ) 
         let l = few-commits in let n = numbers-within warehouses number log in omega (arith, i.crossings_are)
 
     -- after one more commit
-    pub history-more : (entry : Entry C) (crossings' : ℕ) (counts' : List ℕ)
+    pub counts-more : (entry : Entry C) (crossings' : ℕ) (counts' : List ℕ)
         → are_warehouses origin.partitions (warehouses entry.commit) ≡ true
         → number entry.commit ≡ number_after warehouses number log entry.commit
         → entry.stamp ≤ length log
@@ -110,8 +110,8 @@ module _ {C : Type 0} (warehouses : C → List ℕ) (number : C → Option ℕ) 
         → crossings' ≡ cond (is_number (number entry.commit)) (suc crossings) crossings
         → length counts' ≡ length counts
         → ((k : ℕ) → k < length counts → slice_index counts' k ≡ cond (names warehouses (k + 1) entry.commit) (suc (slice_index counts k)) (slice_index counts k))
-        → IsHistory warehouses number origin word seat (log ++ entry ∷ []) (size + 1) crossings' counts'
-    history-more entry crossings' counts' named numbered stamped room crossed same counted = record {
+        → IsCounted warehouses number origin word seat (log ++ entry ∷ []) (size + 1) crossings' counts'
+    counts-more entry crossings' counts' named numbered stamped room crossed same counted = record {
       word_is = i.word_is;
       first = i.first;
       size_is = omega (arith, i.size_is, length-append log (entry ∷ []));

@@ -2,7 +2,7 @@
 use Rattle.std.specs.Prelude.{◌≡◌, ℕ, ◌<◌, ◌≤◌, true, ◌⊎◌, List, [], ◌∷◌, Option, Some}
 use Rattle.std.specs.List.{filter_map, AllPairs}
 use Rattle.hy_passes.specs.declared.entry.Entry.{Entry}
-use Rattle.hy_passes.specs.History.{kept_of, names}
+use Rattle.hy_passes.specs.SerialList.{kept_of, names}
 
 -- a commit stands in a list
 abbrev pub Stands : {C : Type 0} → C → List C → Type 0

@@ -8,7 +8,7 @@ use Rattle.atomic_table.specs.Table.{Me}
 use Rattle.hy_passes.specs.declared.entry.Entry.{Entry}
 use Rattle.hy_passes.specs.declared.view.Knowledge.{Knowledge}
 use Rattle.hy_passes.specs.declared.view.View.{View}
-use Rattle.hy_passes.specs.History.{kept_of}
+use Rattle.hy_passes.specs.SerialList.{kept_of}
 
 -- whether the warehouse that a guest serves is this one
 abbrev pub is_served : Option ℕ → ℕ → Bool

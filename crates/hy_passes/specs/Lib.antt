@@ -1,5 +1,5 @@
 pub mod Agreement
-pub mod History
+pub mod SerialList
 pub mod Inside
 pub mod Law
 pub mod Worlds

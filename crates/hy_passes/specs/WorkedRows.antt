@@ -1,7 +1,7 @@
 -- Worked rows, which the checker computes: three commits of two warehouses, one of them crossing.
 use Rattle.std.specs.Prelude.{◌≡◌, ℕ, true, false, List, [], ◌∷◌, Option, Some, None, refl}
 use Rattle.hy_passes.specs.declared.entry.Entry.{Entry}
-use Rattle.hy_passes.specs.History.{are_warehouses, kept_of, number_after, numbers_of, respects_stamps}
+use Rattle.hy_passes.specs.SerialList.{are_warehouses, kept_of, number_after, numbers_of, respects_stamps}
 
 -- a commit of these rows: its warehouses, its number if it is crossing, and what it does
 record Note : Type 0 where

@@ -31,7 +31,7 @@ pub record SeatState (C : Type 0) : Type 0 where
   pub seen : List (Entry C)
 
 -- the journal: all of the serial list, and the warehouses that have still to be told of a commit that names them
-pub record HistoryState (C : Type 0) : Type 0 where
+pub record SerialListState (C : Type 0) : Type 0 where
   pub log : List (Entry C)
   pub behind : List ℕ
 

@@ -1,7 +1,7 @@
 //! Commits as the journal has them.
 
 ghost use Rattle.std.specs.Prelude.{◌≡◌, ℕ, List, Option};
-ghost use Rattle.hy_passes.specs.History.{names};
+ghost use Rattle.hy_passes.specs.SerialList.{names};
 
 /// What a commit says of itself.
 pub trait Commits: Drop {

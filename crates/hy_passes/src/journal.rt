@@ -2,7 +2,7 @@
 
 ghost use Rattle.std.specs.Prelude.{None, ◌≡◌, ℕ, suc, ◌+◌, ◌≤◌, ◌<◌, [], ◌∷◌, ◌++◌, length, not, true, cond, slice_index, ◌==◌, filter, ◌^◌};
 ghost use mathlib.Core.List.{IsPrefix};
-ghost use Rattle.hy_passes.specs.History.{are_warehouses, is_number, kept_of, max_commits, names, number_after, numbers_of, IsSerial};
+ghost use Rattle.hy_passes.specs.SerialList.{are_warehouses, is_number, kept_of, max_commits, names, number_after, numbers_of, IsSerial};
 ghost use Rattle.hy_passes.specs.Law.{is_told};
 
 use crate::entry::{Commits, Entry};
@@ -19,7 +19,7 @@ use std::sync::Arc;
 /// All of the serial list, and which warehouses have still to be told of a commit. The commits themselves lie in the
 /// partitions; here they are counted.
 #[derive(Drop)]
-pub struct History<C: Commits, K: World> {
+pub struct SerialList<C: Commits, K: World> {
     pub(crate) passes: Arc<Passes<C, K>, Global>,
     pub(crate) seat: Seat<Entry<C>, View<C>>,
     pub(crate) size: u64,
@@ -27,15 +27,15 @@ pub struct History<C: Commits, K: World> {
     pub(crate) counts: Vec<u64>,
 }
 
-impl<C: Commits, K: World> Model for History<C, K> {
-    ghost use Rattle.hy_passes.specs.Inside.{IsHistory};
-    ghost use Rattle.hy_passes.specs.Worlds.{HistoryState};
+impl<C: Commits, K: World> Model for SerialList<C, K> {
+    ghost use Rattle.hy_passes.specs.Inside.{IsCounted};
+    ghost use Rattle.hy_passes.specs.Worlds.{SerialListState};
 
-    ghost Value = { HistoryState C };
+    ghost Value = { SerialListState C };
 
     ghost view = { λ h. record { log = h.seat.me.0.mine.seen; behind = h.seat.me.0.behind } };
 
-    ghost invariant = { λ h. IsHistory C.warehouses C.number K.passes h.seat.table_id h.seat.id h.seat.me.0.mine.seen h.size h.crossings h.counts.items };
+    ghost invariant = { λ h. IsCounted C.warehouses C.number K.passes h.seat.table_id h.seat.id h.seat.me.0.mine.seen h.size h.crossings h.counts.items };
 }
 
 // Counts a commit at each warehouse that it names; the first place is that of warehouse 1.
@@ -63,7 +63,7 @@ fn crossings_with<C: Commits>(crossings: u64, commit: &C) -> u64
     }
 }
 
-impl<C: Commits, K: World> History<C, K> {
+impl<C: Commits, K: World> SerialList<C, K> {
     /// How many commits there are.
     pub fn len(&self) -> u64
         ensures { result ≡ length self.now.log }
@@ -88,7 +88,7 @@ impl<C: Commits, K: World> History<C, K> {
 
     /// The list is serial: its commits name warehouses of the kit, the crossing ones are numbered 1, 2, 3 and so on, and
     /// the stamps are respected.
-    pub fn serial(&self)
+    pub fn sound(&self)
         ensures { IsSerial C.warehouses C.number K.passes.partitions self.now.log }
     {
         let _size = self.size;
@@ -143,8 +143,8 @@ impl<C: Commits, K: World> History<C, K> {
 #[derive(Drop)]
 pub struct Journal<C: Commits, K: World> {
     /// The list. A function that lets a commit of several warehouses enter tells each of them before it returns.
-    pub history: History<C, K>,
-    pub ghost told: { history.behind ≡ [] },
+    pub list: SerialList<C, K>,
+    pub ghost told: { list.behind ≡ [] },
 }
 
 impl<C: Commits, K: World> Journal<C, K> {
@@ -160,40 +160,40 @@ impl<C: Commits, K: World> Journal<C, K> {
         requires unnumbered { C.number entry.now.commit ≡ None }
         requires stamped { entry.now.stamp ≤ length pass.old.seen }
         requires room { length (kept_of C.warehouses seat.old.warehouse seat.old.seen) < max_commits }
-        ensures log { self.new.history.log ≡ self.old.history.log ++ entry.now ∷ [] }
+        ensures log { self.new.list.log ≡ self.old.list.log ++ entry.now ∷ [] }
         ensures warehouse { seat.new.warehouse ≡ seat.old.warehouse }
-        ensures seat { (seat.new.seen ≡ self.new.history.log) × IsPrefix seat.old.seen self.old.history.log }
+        ensures seat { (seat.new.seen ≡ self.new.list.log) × IsPrefix seat.old.seen self.old.list.log }
         ensures kept { kept_of C.warehouses seat.old.warehouse seat.new.seen ≡ kept_of C.warehouses seat.old.warehouse seat.old.seen ++ entry.now.commit ∷ [] }
         ensures client { (pass.new.client ≡ pass.old.client) × (pass.new.looks ≡ pass.old.looks) }
-        ensures pass { (pass.new.seen ≡ self.new.history.log) × IsPrefix pass.old.seen self.old.history.log }
+        ensures pass { (pass.new.seen ≡ self.new.list.log) × IsPrefix pass.old.seen self.old.list.log }
     {
         self.tell(seat);
         self.tell_client(pass);
-        self.history.append(entry);
-        self.history.tell(seat);
+        self.list.append(entry);
+        self.list.tell(seat);
         self.tell_client(pass);
     }
 
     /// Tells a partition of all commits. It lacked none of its warehouse.
     pub fn tell(&mut self, seat: &mut PartitionSeat<C, K>)
-        ensures log { self.new.history.log ≡ self.old.history.log }
+        ensures log { self.new.list.log ≡ self.old.list.log }
         ensures warehouse { seat.new.warehouse ≡ seat.old.warehouse }
         ensures range { (1 ≤ seat.old.warehouse) × (seat.old.warehouse ≤ K.passes.partitions) }
-        ensures seen { seat.new.seen ≡ self.old.history.log }
-        ensures begins { IsPrefix seat.old.seen self.old.history.log }
-        ensures kept { kept_of C.warehouses seat.old.warehouse seat.old.seen ≡ kept_of C.warehouses seat.old.warehouse self.old.history.log }
+        ensures seen { seat.new.seen ≡ self.old.list.log }
+        ensures begins { IsPrefix seat.old.seen self.old.list.log }
+        ensures kept { kept_of C.warehouses seat.old.warehouse seat.old.seen ≡ kept_of C.warehouses seat.old.warehouse self.old.list.log }
     {
-        self.history.tell(seat);
+        self.list.tell(seat);
     }
 
     /// Tells a client of all commits, with no look. What the client had seen begins the list.
     pub fn tell_client(&mut self, pass: &mut Pass<C, K>)
-        ensures log { self.new.history.log ≡ self.old.history.log }
+        ensures log { self.new.list.log ≡ self.old.list.log }
         ensures client { pass.new.client ≡ pass.old.client }
         ensures looks { pass.new.looks ≡ pass.old.looks }
-        ensures seen { pass.new.seen ≡ self.old.history.log }
-        ensures begins { IsPrefix pass.old.seen self.old.history.log }
+        ensures seen { pass.new.seen ≡ self.old.list.log }
+        ensures begins { IsPrefix pass.old.seen self.old.list.log }
     {
-        self.history.tell_client(pass);
+        self.list.tell_client(pass);
     }
 }

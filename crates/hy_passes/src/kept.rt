@@ -2,10 +2,10 @@
 
 ghost use Rattle.std.specs.Prelude.{◌≡◌, ℕ, suc, ◌+◌, ◌-◌, ◌≤◌, ◌<◌, ◌==◌, [], ◌∷◌, ◌++◌, filter, length, not, None, OnOk};
 ghost use mathlib.Core.List.{IsPrefix};
-ghost use Rattle.hy_passes.specs.History.{kept_of, max_commits};
+ghost use Rattle.hy_passes.specs.SerialList.{kept_of, max_commits};
 
 use crate::entry::{Commits, Entry};
-use crate::journal::{History, Journal};
+use crate::journal::{Journal, SerialList};
 use crate::pass::Pass;
 use crate::seat::PartitionSeat;
 use crate::world::World;
@@ -21,7 +21,7 @@ pub struct KeptList<C: Commits, K: World> {
 
 impl<C: Commits, K: World> Model for KeptList<C, K> {
     ghost use Rattle.std.specs.Prelude.{◌≡◌, ◌-◌, length, vec_capacity};
-    ghost use Rattle.hy_passes.specs.History.{kept_of};
+    ghost use Rattle.hy_passes.specs.SerialList.{kept_of};
     ghost use Rattle.hy_passes.specs.Worlds.{KeptState};
 
     ghost Value = { KeptState C };
@@ -73,12 +73,12 @@ impl<C: Commits, K: World> KeptList<C, K> {
         requires stamped { entry.stamp ≤ length pass.old.seen }
         requires few { length (kept_of C.warehouses self.old.warehouse self.old.seen) < max_commits }
         requires room { 1 ≤ self.old.room }
-        ensures log { journal.new.history.log ≡ journal.old.history.log ++ entry ∷ [] }
+        ensures log { journal.new.list.log ≡ journal.old.list.log ++ entry ∷ [] }
         ensures warehouse { self.new.warehouse ≡ self.old.warehouse }
-        ensures seen { (self.new.seen ≡ journal.new.history.log) × IsPrefix self.old.seen journal.old.history.log }
+        ensures seen { (self.new.seen ≡ journal.new.list.log) × IsPrefix self.old.seen journal.old.list.log }
         ensures kept { kept_of C.warehouses self.old.warehouse self.new.seen ≡ kept_of C.warehouses self.old.warehouse self.old.seen ++ entry.commit ∷ [] }
         ensures client { (pass.new.client ≡ pass.old.client) × (pass.new.looks ≡ pass.old.looks) }
-        ensures pass { (pass.new.seen ≡ journal.new.history.log) × IsPrefix pass.old.seen journal.old.history.log }
+        ensures pass { (pass.new.seen ≡ journal.new.list.log) × IsPrefix pass.old.seen journal.old.list.log }
     {
         journal.commit(&mut self.seat, pass, &entry);
         self.kept.push_reserved(entry.commit);
@@ -86,24 +86,24 @@ impl<C: Commits, K: World> KeptList<C, K> {
 
     /// Tells the list of all commits. It lacked none.
     pub fn tell(&mut self, journal: &mut Journal<C, K>)
-        ensures log { journal.new.history.log ≡ journal.old.history.log }
+        ensures log { journal.new.list.log ≡ journal.old.list.log }
         ensures same { (self.new.warehouse ≡ self.old.warehouse) × (self.new.room ≡ self.old.room) }
-        ensures seen { (self.new.seen ≡ journal.old.history.log) × IsPrefix self.old.seen journal.old.history.log }
+        ensures seen { (self.new.seen ≡ journal.old.list.log) × IsPrefix self.old.seen journal.old.list.log }
         ensures kept { kept_of C.warehouses self.old.warehouse self.new.seen ≡ kept_of C.warehouses self.old.warehouse self.old.seen }
     {
         journal.tell(&mut self.seat);
     }
 
     /// A commit that has just entered the serial list, and names several warehouses, enters this one.
-    pub fn enter(&mut self, history: &mut History<C, K>, commit: C)
-        requires last { kept_of C.warehouses self.old.warehouse history.old.log ≡ kept_of C.warehouses self.old.warehouse self.old.seen ++ commit ∷ [] }
+    pub fn enter(&mut self, list: &mut SerialList<C, K>, commit: C)
+        requires last { kept_of C.warehouses self.old.warehouse list.old.log ≡ kept_of C.warehouses self.old.warehouse self.old.seen ++ commit ∷ [] }
         requires room { 1 ≤ self.old.room }
-        ensures log { history.new.log ≡ history.old.log }
-        ensures behind { history.new.behind ≡ filter (λ w. not (w == self.old.warehouse)) history.old.behind }
+        ensures log { list.new.log ≡ list.old.log }
+        ensures behind { list.new.behind ≡ filter (λ w. not (w == self.old.warehouse)) list.old.behind }
         ensures warehouse { self.new.warehouse ≡ self.old.warehouse }
-        ensures seen { (self.new.seen ≡ history.old.log) × IsPrefix self.old.seen history.old.log }
+        ensures seen { (self.new.seen ≡ list.old.log) × IsPrefix self.old.seen list.old.log }
     {
-        history.tell(&mut self.seat);
+        list.tell(&mut self.seat);
         self.kept.push_reserved(commit);
     }
 }

@@ -2,12 +2,12 @@
 
 ghost use Rattle.std.specs.Prelude.{◌≡◌, ℕ, ◌+◌, ◌≤◌, [], map, length, IfOk};
 ghost use Rattle.std.specs.List.{range_with_len};
-ghost use Rattle.hy_passes.specs.History.{max_clients, max_partitions};
+ghost use Rattle.hy_passes.specs.SerialList.{max_clients, max_partitions};
 ghost use Rattle.hy_passes.specs.Law.{beginner};
 ghost use Rattle.hy_passes.specs.Worlds.{new_client, new_partition};
 
 use crate::entry::{Commits, Entry};
-use crate::journal::{History, Journal};
+use crate::journal::{Journal, SerialList};
 use crate::law::Word;
 use crate::pass::Pass;
 use crate::passes::Passes;
@@ -32,7 +32,7 @@ pub struct Kit<C: Commits> {
 
 impl<C: Commits> Model for Kit<C> {
     ghost use Rattle.std.specs.Prelude.{◌≡◌, ◌≤◌, []};
-    ghost use Rattle.hy_passes.specs.History.{max_clients, max_partitions};
+    ghost use Rattle.hy_passes.specs.SerialList.{max_clients, max_partitions};
     ghost use Rattle.hy_passes.specs.Law.{beginner};
     ghost use Rattle.hy_passes.specs.Worlds.{Origin};
 
@@ -122,7 +122,7 @@ impl<C: Commits> Kit<C> {
         AllocError,
     >
         requires { self ≡ K.passes }
-        ensures journal { IfOk result (λ o. o.1.history.log ≡ []) }
+        ensures journal { IfOk result (λ o. o.1.list.log ≡ []) }
         ensures seats { IfOk result (λ o. o.2.items ≡ map new_partition (range_with_len 1 K.passes.partitions)) }
         ensures clients { IfOk result (λ o. o.3.items ≡ map new_client (range_with_len 0 K.passes.clients)) }
     {
@@ -143,13 +143,13 @@ impl<C: Commits> Kit<C> {
         let clients = admit_clients(alloc, &passes, &mut seat, clients)?;
         let counts = Vec::from_elem(alloc, 0u64, partitions as usize)?;
         let passes = Arc::new(alloc, passes)?;
-        let history = History {
+        let list = SerialList {
             passes: Arc::try_clone(&passes)?,
             seat,
             size: 0,
             crossings: 0,
             counts,
         };
-        Ok((passes, Journal { history }, seats, clients))
+        Ok((passes, Journal { list }, seats, clients))
     }
 }

@@ -4,7 +4,7 @@ ghost use Rattle.std.specs.Prelude.{ℕ, List};
 ghost use mathlib.Core.List.{IsPrefix};
 ghost use Rattle.hy_passes.specs.declared.entry.Entry.{Entry};
 ghost use Rattle.hy_passes.specs.Agreement.{Agree, AreProjections};
-ghost use Rattle.hy_passes.specs.History.{kept_of, IsSerial};
+ghost use Rattle.hy_passes.specs.SerialList.{kept_of, IsSerial};
 
 use crate::entry::Commits;
 

@@ -14,7 +14,7 @@ mod view;
 mod world;
 
 pub use entry::{Commits, Entry};
-pub use journal::{History, Journal};
+pub use journal::{Journal, SerialList};
 pub use kept::KeptList;
 pub use kit::{Kit, make};
 pub use laws::{beginnings_of_kept_lists, projections_agree};

@@ -2,7 +2,7 @@
 
 ghost use Rattle.std.specs.Prelude.{suc, ◌≡◌, ℕ, ◌+◌, ◌≤◌, ◌<◌, ◌^◌, [], ◌∷◌, length, true, Some};
 ghost use mathlib.Core.List.{IsPrefix};
-ghost use Rattle.hy_passes.specs.History.{kept_of};
+ghost use Rattle.hy_passes.specs.SerialList.{kept_of};
 ghost use Rattle.hy_passes.specs.Law.{after_dealing, after_leaving, appended, boarded, is_told, leaving, Looks};
 ghost use Rattle.hy_passes.specs.Worlds.{new_client, new_partition};
 

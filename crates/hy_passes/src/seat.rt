@@ -1,7 +1,7 @@
 //! What a partition has been told.
 
 ghost use Rattle.std.specs.Prelude.{◌≡◌, ℕ, ◌≤◌, length};
-ghost use Rattle.hy_passes.specs.History.{kept_of};
+ghost use Rattle.hy_passes.specs.SerialList.{kept_of};
 
 use crate::entry::{Commits, Entry};
 use crate::view::View;
@@ -21,7 +21,7 @@ pub struct PartitionSeat<C: Commits, K: World> {
 
 impl<C: Commits, K: World> Model for PartitionSeat<C, K> {
     ghost use Rattle.std.specs.Prelude.{◌≡◌, ◌≤◌, [], length, Some};
-    ghost use Rattle.hy_passes.specs.History.{kept_of};
+    ghost use Rattle.hy_passes.specs.SerialList.{kept_of};
     ghost use Rattle.hy_passes.specs.Worlds.{SeatState};
 
     ghost Value = { SeatState C };

@@ -1,7 +1,7 @@
 //! A small model of partitions that keep a list each, under real locks and on real threads.
 
 ghost use Rattle.std.specs.Prelude.{◌≡◌, ℕ, ◌==◌, ◌≢◌, suc, ◌+◌, ◌<◌, ◌≤◌, if◌then◌else◌, [], ◌∷◌, ◌++◌, length, true, Some, None};
-ghost use Rattle.hy_passes.specs.History.{are_warehouses, kept_of, max_commits, numbers_of};
+ghost use Rattle.hy_passes.specs.SerialList.{are_warehouses, kept_of, max_commits, numbers_of};
 
 use crate::{Commits, Entry, Journal, KeptList, Kit, Pass, Passes, World, make};
 use std::alloc::Global;
@@ -76,20 +76,20 @@ fn enter_two<C: Commits + Copy, K: World>(
     requires named { C.warehouses entry.commit ≡ first.old.warehouse ∷ second.old.warehouse ∷ [] }
     requires range { are_warehouses K.passes.partitions (C.warehouses entry.commit) ≡ true }
     requires apart { first.old.warehouse ≢ second.old.warehouse }
-    requires numbered { C.number entry.commit ≡ Some (suc (length (numbers_of C.warehouses C.number journal.old.history.log))) }
+    requires numbered { C.number entry.commit ≡ Some (suc (length (numbers_of C.warehouses C.number journal.old.list.log))) }
     requires stamped { entry.stamp ≤ length pass.old.seen }
     requires few_first { length (kept_of C.warehouses first.old.warehouse first.old.seen) < max_commits }
     requires few_second { length (kept_of C.warehouses second.old.warehouse second.old.seen) < max_commits }
     requires room { (1 ≤ first.old.room) × (1 ≤ second.old.room) }
-    ensures log { journal.new.history.log ≡ journal.old.history.log ++ entry ∷ [] }
-    ensures seen { (first.new.seen ≡ journal.new.history.log) × (second.new.seen ≡ journal.new.history.log) × (pass.new.seen ≡ journal.new.history.log) }
+    ensures log { journal.new.list.log ≡ journal.old.list.log ++ entry ∷ [] }
+    ensures seen { (first.new.seen ≡ journal.new.list.log) × (second.new.seen ≡ journal.new.list.log) × (pass.new.seen ≡ journal.new.list.log) }
 {
     first.tell(journal);
     second.tell(journal);
     journal.tell_client(pass);
-    journal.history.append(&entry);
-    first.enter(&mut journal.history, entry.commit);
-    second.enter(&mut journal.history, entry.commit);
+    journal.list.append(&entry);
+    first.enter(&mut journal.list, entry.commit);
+    second.enter(&mut journal.list, entry.commit);
     journal.tell_client(pass);
 }
 
@@ -114,7 +114,7 @@ fn cross<K: World, R: Wait + Abort>(
     let commit = Note {
         home: u64::from(home),
         other: u64::from(other),
-        crossing: journal.history.next_crossing(),
+        crossing: journal.list.next_crossing(),
         client: pass.client(),
         turn,
     };
@@ -269,15 +269,15 @@ fn ends<K: World, R: Wait + Abort>(
     first.tell(&mut journal);
     second.tell(&mut journal);
     assert_eq!(rt;
-        journal.history.commits_of(first.warehouse()),
+        journal.list.commits_of(first.warehouse()),
         first.list().len() as u64
     );
     assert_eq!(rt;
-        journal.history.commits_of(second.warehouse()),
+        journal.list.commits_of(second.warehouse()),
         second.list().len() as u64
     );
-    assert_eq!(rt; journal.history.len(), 4 * TURNS);
-    assert_eq!(rt; journal.history.next_crossing(), 4 * TURNS / 10 + 1);
+    assert_eq!(rt; journal.list.len(), 4 * TURNS);
+    assert_eq!(rt; journal.list.next_crossing(), 4 * TURNS / 10 + 1);
     assert_eq!(rt; crossings(rt, first.list()), 4 * TURNS / 10);
     assert_eq!(rt; crossings(rt, second.list()), 4 * TURNS / 10);
     for client in 0..4 {

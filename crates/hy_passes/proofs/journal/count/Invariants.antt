@@ -1,6 +1,6 @@
 use Rattle.std.proofs.Common.{◌≡◌, ℕ, suc, ◌+◌, ◌≤◌, ◌<◌, length, cond}
 use Rattle.std.specs.Prelude.{slice_index}
-use Rattle.hy_passes.specs.History.{names}
+use Rattle.hy_passes.specs.SerialList.{names}
 use Rattle.hy_passes.proofs.journal.count.Given as goal
 
 abbrev pub invariant-loop-place : goal.invariant-loop-place

@@ -1,5 +1,5 @@
 use Rattle.std.proofs.Common.{◌≡◌, true, sym, subst}
-use Rattle.hy_passes.specs.History.{are_warehouses}
+use Rattle.hy_passes.specs.SerialList.{are_warehouses}
 use Rattle.hy_passes.proofs.SerialLaws.{named-alone}
 use Rattle.hy_passes.proofs.journal.Journal.commit.Goals as goal
 

@@ -1,7 +1,7 @@
 use Rattle.std.proofs.Common.{ap, ◌∙◌, filter, not}
 use Rattle.hy_passes.specs.Law.{is_served}
 use Rattle.hy_passes.proofs.Lists.{without-none}
-use Rattle.hy_passes.proofs.journal.History.tell_client.Goals as goal
+use Rattle.hy_passes.proofs.journal.SerialList.tell_client.Goals as goal
 
 pub returns-clause-behind : goal.returns-clause-behind
 returns-clause-behind g c =
