@@ -1,0 +1,6 @@
+mod Beginnings
+mod Lists
+mod Steps
+mod Totals
+mod SerialLaws
+mod AgreementLaws

@@ -1,0 +1,6 @@
+use Rattle.std.proofs.Common.{rules}
+use Rattle.hy_passes.proofs.Steps.{deals_at}
+use Rattle.hy_passes.proofs.passes.Passes.deal.Goals as goal
+
+pub split_seat-seat-requires : goal.split_seat-seat-requires
+split_seat-seat-requires g c = (search rules, search rules, deals_at g.C.Commits.warehouses _ _ c.requires.journal.1)

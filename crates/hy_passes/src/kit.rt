@@ -1,0 +1,155 @@
+//! How passes, the journal and the seats are made.
+
+ghost use Rattle.std.specs.Prelude.{◌≡◌, ℕ, ◌+◌, ◌≤◌, [], map, length, IfOk};
+ghost use Rattle.std.specs.List.{range_with_len};
+ghost use Rattle.hy_passes.specs.SerialList.{max_clients, max_partitions};
+ghost use Rattle.hy_passes.specs.Law.{beginner};
+ghost use Rattle.hy_passes.specs.Worlds.{new_client, new_partition};
+
+use crate::entry::{Commits, Entry};
+use crate::journal::{Journal, SerialList};
+use crate::law::Word;
+use crate::pass::Pass;
+use crate::passes::Passes;
+use crate::seat::PartitionSeat;
+use crate::view::View;
+use crate::world::World;
+use atomic_table::{Seat, Table};
+use std::alloc::{AllocError, Global};
+use std::marker::{Model, PhantomData};
+use std::sync::Arc;
+
+/// A shared word with an empty list, which belongs to no world yet.
+#[derive(Drop)]
+pub struct Kit<C: Commits> {
+    alloc: Global,
+    table: Word<C>,
+    seat: Seat<Entry<C>, View<C>>,
+    name: u64,
+    partitions: u8,
+    clients: u32,
+}
+
+impl<C: Commits> Model for Kit<C> {
+    ghost use Rattle.std.specs.Prelude.{◌≡◌, ◌≤◌, []};
+    ghost use Rattle.hy_passes.specs.SerialList.{max_clients, max_partitions};
+    ghost use Rattle.hy_passes.specs.Law.{beginner};
+    ghost use Rattle.hy_passes.specs.Worlds.{Origin};
+
+    ghost Value = { Origin };
+
+    ghost view = { λ k. record { word = k.table.shared.table_id; name = k.name; partitions = k.partitions; clients = k.clients } };
+
+    ghost invariant = { λ k. (k.table.shared.table_id.words ≡ 1) × (k.seat.table_id ≡ k.table.shared.table_id) × (k.seat.id ≡ 0) × (k.seat.me ≡ (beginner, [])) × (k.partitions ≤ max_partitions) × (k.clients ≤ max_clients) };
+}
+
+/// Makes the shared word for the partitions of warehouses 1, 2, 3 and so on, and for clients that are numbered from 0.
+/// The name is the caller's choice.
+pub fn make<C: Commits>(
+    alloc: Global,
+    partitions: u8,
+    clients: u32,
+    name: u64,
+) -> Result<Kit<C>, AllocError>
+    requires partitions { (1 ≤ partitions) × (partitions ≤ max_partitions) }
+    requires clients { (1 ≤ clients) × (clients ≤ max_clients) }
+    ensures { IfOk result (λ k. (k.partitions ≡ partitions) × (k.clients ≡ clients) × (k.name ≡ name)) }
+{
+    let (table, seat) = Table::of_words(alloc, &[0], &())?;
+    Ok(Kit {
+        alloc,
+        table,
+        seat,
+        name,
+        partitions,
+        clients,
+    })
+}
+
+// The seats of the partitions of warehouses 1 to the last.
+fn deal_seats<C: Commits, K: World>(
+    alloc: Global,
+    passes: &Passes<C, K>,
+    journal: &mut Seat<Entry<C>, View<C>>,
+    partitions: u8,
+) -> Result<Vec<PartitionSeat<C, K>>, AllocError>
+    requires journal { (journal.old.table_id ≡ K.passes.word) × (journal.old.id ≡ 0) }
+    requires partitions { partitions ≡ K.passes.partitions }
+    requires new { journal.old.me.0 ≡ beginner }
+    ensures place { (journal.new.table_id ≡ journal.old.table_id) × (journal.new.id ≡ journal.old.id) }
+    ensures journal { (journal.new.me.0.mine.seen ≡ []) × (journal.new.me.0.behind ≡ []) }
+    ensures seats { IfOk result (λ seats. seats.items ≡ map new_partition (range_with_len 1 partitions)) }
+{
+    let mut seats = Vec::with_capacity(alloc, partitions as usize)?;
+    for before in 0..partitions {
+        seats.push_reserved(passes.deal(journal, before + 1));
+    }
+    Ok(seats)
+}
+
+// The passes of the clients from 0 to the last.
+fn admit_clients<C: Commits, K: World>(
+    alloc: Global,
+    passes: &Passes<C, K>,
+    journal: &mut Seat<Entry<C>, View<C>>,
+    clients: u32,
+) -> Result<Vec<Pass<C, K>>, AllocError>
+    requires journal { (journal.old.table_id ≡ K.passes.word) × (journal.old.id ≡ 0) }
+    requires new { journal.old.me.0.mine.seen ≡ [] }
+    ensures place { (journal.new.table_id ≡ journal.old.table_id) × (journal.new.id ≡ journal.old.id) }
+    ensures journal { journal.new.me.0 ≡ journal.old.me.0 }
+    ensures passes { IfOk result (λ all. all.items ≡ map new_client (range_with_len 0 clients)) }
+{
+    let mut all = Vec::with_capacity(alloc, clients as usize)?;
+    for client in 0..clients {
+        all.push_reserved(passes.admit(journal, client));
+    }
+    Ok(all)
+}
+
+impl<C: Commits> Kit<C> {
+    /// Opens the kit in the world that names it: the word that all threads share, the journal, the seats of the
+    /// partitions of warehouses 1, 2, 3 and so on, and the passes of the clients from 0. E1.
+    pub fn open<K: World>(
+        self,
+    ) -> Result<
+        (
+            Arc<Passes<C, K>, Global>,
+            Journal<C, K>,
+            Vec<PartitionSeat<C, K>>,
+            Vec<Pass<C, K>>,
+        ),
+        AllocError,
+    >
+        requires { self ≡ K.passes }
+        ensures journal { IfOk result (λ o. o.1.list.log ≡ []) }
+        ensures seats { IfOk result (λ o. o.2.items ≡ map new_partition (range_with_len 1 K.passes.partitions)) }
+        ensures clients { IfOk result (λ o. o.3.items ≡ map new_client (range_with_len 0 K.passes.clients)) }
+    {
+        let Kit {
+            alloc,
+            table,
+            mut seat,
+            name,
+            partitions,
+            clients,
+        } = self;
+        let passes = Passes {
+            table,
+            name,
+            of: PhantomData,
+        };
+        let seats = deal_seats(alloc, &passes, &mut seat, partitions)?;
+        let clients = admit_clients(alloc, &passes, &mut seat, clients)?;
+        let counts = Vec::from_elem(alloc, 0u64, partitions as usize)?;
+        let passes = Arc::new(alloc, passes)?;
+        let list = SerialList {
+            passes: Arc::try_clone(&passes)?,
+            seat,
+            size: 0,
+            crossings: 0,
+            counts,
+        };
+        Ok((passes, Journal { list }, seats, clients))
+    }
+}

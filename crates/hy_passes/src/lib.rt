@@ -1,0 +1,27 @@
+//! The one serial list of commits, and what each client has seen of it.
+#![tactic(auto)]
+
+mod entry;
+mod journal;
+mod kept;
+mod kit;
+mod law;
+mod laws;
+mod pass;
+mod passes;
+mod seat;
+mod view;
+mod world;
+
+pub use entry::{Commits, Entry};
+pub use journal::{Journal, SerialList};
+pub use kept::KeptList;
+pub use kit::{Kit, make};
+pub use laws::{beginnings_of_kept_lists, projections_agree};
+pub use pass::Pass;
+pub use passes::Passes;
+pub use seat::PartitionSeat;
+pub use world::World;
+
+#[cfg(test)]
+mod tests;

@@ -1,0 +1,56 @@
+//! What a partition has been told.
+
+ghost use Rattle.std.specs.Prelude.{◌≡◌, ℕ, ◌≤◌, length};
+ghost use Rattle.hy_passes.specs.SerialList.{kept_of};
+
+use crate::entry::{Commits, Entry};
+use crate::view::View;
+use crate::world::World;
+use atomic_table::Seat;
+use std::marker::{Model, PhantomData};
+
+/// A partition's seat: a beginning of the serial list that the partition has been told of.
+#[derive(Drop)]
+pub struct PartitionSeat<C: Commits, K: World> {
+    pub(crate) seat: Seat<Entry<C>, View<C>>,
+    pub(crate) warehouse: u8,
+    pub(crate) commits: u64,
+    pub(crate) name: u64,
+    pub(crate) of: PhantomData<K>,
+}
+
+impl<C: Commits, K: World> Model for PartitionSeat<C, K> {
+    ghost use Rattle.std.specs.Prelude.{◌≡◌, ◌≤◌, [], length, Some};
+    ghost use Rattle.hy_passes.specs.SerialList.{kept_of};
+    ghost use Rattle.hy_passes.specs.Worlds.{SeatState};
+
+    ghost Value = { SeatState C };
+
+    ghost view = { λ s. record { warehouse = s.warehouse; seen = s.seat.me.0.mine.seen } };
+
+    ghost invariant = { λ s. (s.seat.table_id ≡ K.passes.word) × (s.seat.me.1 ≡ []) × (s.seat.me.0.mine.serves ≡ Some s.warehouse) × (1 ≤ s.warehouse) × (s.warehouse ≤ K.passes.partitions) × (s.commits ≡ length (kept_of C.warehouses s.warehouse s.seat.me.0.mine.seen)) × (s.name ≡ K.passes.name) };
+}
+
+impl<C: Commits, K: World> PartitionSeat<C, K> {
+    /// The partition's warehouse.
+    pub fn warehouse(&self) -> u8
+        ensures warehouse { result ≡ self.now.warehouse }
+        ensures range { (1 ≤ result) × (result ≤ K.passes.partitions) }
+    {
+        self.warehouse
+    }
+
+    /// How many commits of the warehouse the partition has been told of.
+    pub fn commits(&self) -> u64
+        ensures { result ≡ length (kept_of C.warehouses self.now.warehouse self.now.seen) }
+    {
+        self.commits
+    }
+
+    /// The kit's name.
+    pub fn name(&self) -> u64
+        ensures { result ≡ K.passes.name }
+    {
+        self.name
+    }
+}
