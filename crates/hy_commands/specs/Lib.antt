@@ -1,0 +1,10 @@
+pub mod Commands
+pub mod Customers
+pub mod Sorting
+pub mod NewOrders
+pub mod Payments
+pub mod OrderStatus
+pub mod Deliveries
+pub mod StockLevels
+pub mod Transactions
+pub mod Replay
