@@ -53,7 +53,7 @@ delivered_in delivery tables district =
     let number : ℕ = oldest delivery.warehouse district tables in
     if number == 0 then tables
     else with_delivered delivery
-      (first_or (order_of []) (is_order delivery.warehouse district number) tables.orders) tables
+    (first_or (order_of []) (is_order delivery.warehouse district number) tables.orders) tables
 
 -- what it does in all districts, one after the other
 abbrev pub delivered : Delivery → Tables → Tables

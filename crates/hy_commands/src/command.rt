@@ -1,6 +1,7 @@
 //! Commands and commits.
 
 ghost use Rattle.std.specs.Prelude.{◌≡◌, ◌<◌, ◌≤◌, ◌+◌, ◌↔◌, IsTrue, IsOk, IsErrOf, fold, length};
+ghost use Rattle.std.specs.List.{list_all};
 ghost use Rattle.hy_rows.specs.Ranges.{is_between};
 ghost use Rattle.hy_commands.specs.declared.command.Command.TheVariants as commands;
 ghost use Rattle.hy_commands.specs.Commands.{home_of, is_in_range, is_line_in_range, is_moment, is_name, is_reader, is_who, warehouses_of, with_named};
@@ -221,12 +222,19 @@ fn is_printable(byte: u8) -> bool
     (32..=126).contains(&byte)
 }
 
+/// Whether all bytes are printable characters.
+fn are_printable(bytes: &[u8]) -> bool
+    ensures { result ≡ list_all (is_between 32 126) bytes.now }
+{
+    bytes.iter().all(|byte| is_printable(*byte))
+}
+
 impl Name {
     /// Whether it is at most `MAX_NAME` printable characters.
     fn is_name(&self) -> bool
         ensures { result ≡ is_name self.now }
     {
-        self.bytes.len() <= MAX_NAME && self.bytes.iter().all(|byte| is_printable(*byte))
+        self.bytes.len() <= MAX_NAME && are_printable(&self.bytes)
     }
 }
 
@@ -258,6 +266,13 @@ impl PurchaseLine {
     }
 }
 
+/// Whether the quantities of all lines are in range.
+fn are_in_range(lines: &[PurchaseLine]) -> bool
+    ensures { result ≡ list_all is_line_in_range lines.now }
+{
+    lines.iter().all(|line| line.is_in_range())
+}
+
 impl Purchase {
     /// Whether the lines and the moment are in range.
     fn is_in_range(&self) -> bool
@@ -265,7 +280,7 @@ impl Purchase {
     {
         let lines = self.lines.as_slice();
         (MIN_PURCHASE_LINES..=MAX_PURCHASE_LINES).contains(&lines.len())
-            && lines.iter().all(|line| line.is_in_range())
+            && are_in_range(lines)
             && is_moment(self.at)
     }
 }
@@ -296,7 +311,9 @@ impl Command {
             Command::Delivery(delivery) => {
                 (1..=MAX_CARRIER).contains(&delivery.carrier) && is_moment(delivery.at)
             }
-            Command::StockLevel(level) => (MIN_THRESHOLD..=MAX_THRESHOLD).contains(&level.threshold),
+            Command::StockLevel(level) => (MIN_THRESHOLD..=MAX_THRESHOLD).contains(
+                &level.threshold,
+            ),
         };
         if in_range {
             Ok(())
@@ -335,7 +352,7 @@ impl Command {
         named.push(self.home());
         match self {
             Command::NewOrder(order) => name_suppliers(&mut named, order.lines.as_slice()),
-            Command::Payment(payment) => name(&mut named, payment.customer_warehouse),
+            Command::Payment(payment) => name_warehouse(&mut named, payment.customer_warehouse),
             _ => {}
         }
         named
@@ -343,7 +360,7 @@ impl Command {
 }
 
 /// Names a warehouse, where it isn't named yet.
-fn name(named: &mut ArrayVec<u64, MAX_NAMED>, warehouse: u64)
+fn name_warehouse(named: &mut ArrayVec<u64, MAX_NAMED>, warehouse: u64)
     requires { length named.old.items < 16 }
     ensures { named.new.items ≡ with_named named.old.items warehouse }
 {
@@ -358,6 +375,6 @@ fn name_suppliers(named: &mut ArrayVec<u64, MAX_NAMED>, lines: &[PurchaseLine])
     ensures { named.new.items ≡ fold (λ named line. with_named named line.supply_warehouse) named.old.items lines.now }
 {
     for line in lines {
-        name(named, line.supply_warehouse);
+        name_warehouse(named, line.supply_warehouse);
     }
 }

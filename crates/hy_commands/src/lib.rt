@@ -10,3 +10,6 @@ pub use command::{
     OrderStatus, Payment, Purchase, PurchaseLine, PurchaseLines, StockLevel, Who,
 };
 pub use reply::{PlacedOrder, Reply, StatusLines};
+
+#[cfg(test)]
+mod tests;
