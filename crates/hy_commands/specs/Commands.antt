@@ -1,5 +1,5 @@
 -- Commands: the ranges of their values, the warehouses that they name, and what an accepted one adds to the kept list.
-use Rattle.std.specs.Prelude.{ℕ, ◌+◌, Bool, true, false, nat_le, ◌==◌, ◌&&◌, if◌then◌else◌, List, [], ◌∷◌, ◌++◌, length, fold}
+use Rattle.std.specs.Prelude.{ℕ, Bool, true, false, nat_le, ◌==◌, ◌&&◌, if◌then◌else◌, List, [], ◌∷◌, ◌++◌, length, fold}
 use Rattle.std.specs.List.{list_all, list_any}
 use Rattle.hy_rows.specs.Limits.{max_carriers, max_lines, max_moment, max_payment, max_quantity, min_lines, min_payment}
 use Rattle.hy_rows.specs.Ranges.{is_between}
@@ -7,8 +7,6 @@ use Rattle.hy_commands.specs.declared.command.Command.{Command}
 use Rattle.hy_commands.specs.declared.command.Command.TheVariants as commands
 use Rattle.hy_commands.specs.declared.command.Commit.{Commit}
 use Rattle.hy_commands.specs.declared.command.Commit.TheVariants as commits
-use Rattle.hy_commands.specs.declared.command.Payment.{Payment}
-use Rattle.hy_commands.specs.declared.command.Purchase.{Purchase}
 use Rattle.hy_commands.specs.declared.command.PurchaseLine.{PurchaseLine}
 use Rattle.hy_commands.specs.declared.command.Who.{Who}
 use Rattle.hy_commands.specs.declared.command.Who.TheVariants as who

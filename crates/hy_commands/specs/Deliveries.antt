@@ -1,7 +1,6 @@
 -- Delivery (TPC-C clause 2.7.4.2): in each district the oldest undelivered order is delivered.
-use Rattle.std.specs.Prelude.{ℕ, ◌+◌, ℤ, ◌+ℤ◌, ◌==◌, not, if◌then◌else◌, List, [], ◌∷◌, fold, map, filter}
+use Rattle.std.specs.Prelude.{ℕ, ◌+◌, ℤ, ◌+ℤ◌, ◌==◌, not, if◌then◌else◌, List, [], fold, map, filter}
 use Rattle.hy_rows.specs.declared.customer.Customer.{Customer}
-use Rattle.hy_rows.specs.declared.new_order.NewOrder.{NewOrder}
 use Rattle.hy_rows.specs.declared.order.Order.{Order}
 use Rattle.hy_rows.specs.declared.order_line.OrderLine.{OrderLine}
 use Rattle.hy_rows.specs.Finding.{first_or, is_customer, with_changed}

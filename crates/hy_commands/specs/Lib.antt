@@ -8,3 +8,6 @@ pub mod Deliveries
 pub mod StockLevels
 pub mod Transactions
 pub mod Replay
+pub mod WorkedSample
+pub mod WorkedTransactions
+pub mod WorkedDeliveries

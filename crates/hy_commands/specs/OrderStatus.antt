@@ -1,5 +1,5 @@
 -- Order-Status (TPC-C clause 2.6.2.2): a customer's last order.
-use Rattle.std.specs.Prelude.{ℕ, ◌<◌, nat_lt, Bool, if◌then◌else◌, Option, None, Some, List, [], ◌∷◌, fold}
+use Rattle.std.specs.Prelude.{nat_lt, Bool, if◌then◌else◌, Option, None, Some, List, fold}
 use Rattle.std.specs.Option.{option_map}
 use Rattle.hy_rows.specs.declared.customer.Customer.{Customer}
 use Rattle.hy_rows.specs.declared.order.Order.{Order}

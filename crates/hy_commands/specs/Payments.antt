@@ -1,5 +1,5 @@
 -- Payment (TPC-C clause 2.5.2.2): what it does at its home warehouse, and what at the customer's.
-use Rattle.std.specs.Prelude.{ℕ, pos, ◌+◌, ◌+ℤ◌, ◌-ℤ◌, List, [], ◌∷◌, ◌++◌, codes}
+use Rattle.std.specs.Prelude.{ℕ, pos, ◌+◌, ◌+ℤ◌, ◌-ℤ◌, [], ◌∷◌, ◌++◌, codes}
 use Rattle.hy_rows.specs.declared.customer.Customer.{Customer}
 use Rattle.hy_rows.specs.declared.district.District.{District}
 use Rattle.hy_rows.specs.declared.history.History.{History}

@@ -1,6 +1,6 @@
 -- What a command that names one warehouse does to it, and its reply (TPC-C clause 2). Nothing here knows of slices of a
 -- transaction, of memory or of pages.
-use Rattle.std.specs.Prelude.{ℕ, pos, ◌-ℤ◌, Bool, true, ◌==◌, ◌&&◌, not, if◌then◌else◌, is_some, Option, Some, None, List, [], find, unwrap_or}
+use Rattle.std.specs.Prelude.{ℕ, Bool, true, ◌==◌, ◌&&◌, not, if◌then◌else◌, is_some, Option, Some, None, List, [], find, unwrap_or}
 use Rattle.std.specs.List.{list_all}
 use Rattle.std.specs.Option.{option_or}
 use Rattle.hy_rows.specs.declared.customer.Customer.{Customer}
