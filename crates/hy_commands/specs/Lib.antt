@@ -8,6 +8,7 @@ pub mod Deliveries
 pub mod StockLevels
 pub mod Transactions
 pub mod Replay
+pub mod Invariant
 pub mod WorkedSample
 pub mod WorkedTransactions
 pub mod WorkedDeliveries

@@ -1,0 +1,289 @@
+-- What a change does to a list: of the one row that passes a test, of each that passes it, and of rows put behind.
+use Rattle.std.proofs.Common.{◌≡◌, ◌≢◌, ℕ, zero, suc, ◌+◌, ◌<◌, ℤ, pos, ◌+ℤ◌, Bool, true, false, cond, not, ◌||◌, ◌&&◌, List, [], ◌∷◌, ◌++◌, length, map, filter, Option, Some, None, refl, sym, ap, subst, ◌∙◌, arith}
+use Rattle.std.specs.Prelude.{All, fold}
+use Rattle.std.specs.List.{AllPairs, find, list_all, list_any, flat_map}
+use Rattle.std.proofs.lemmas.Int.{ints}
+use Rattle.std.proofs.lemmas.List.Elements.{All-nil, All-cons, All-head, All-tail, filter-append}
+use Rattle.std.proofs.lemmas.List.Kept.{AllPairs-cons}
+use Rattle.std.proofs.lemmas.List.Quantifiers.{all_pairs_push}
+use Rattle.hy_rows.specs.Finding.{with_changed}
+use Rattle.hy_schema.specs.Conditions.{column_sum}
+use Rattle.hy_schema.specs.Keys.{AreUnique}
+use Rattle.hy_commands.specs.Sorting.{with_all_changed}
+
+-- of two rows at different places at most one passes the test
+abbrev pub Once : {Row : Type 0} → (Row → Bool) → List Row → Type 0
+Once test [] = Unit {0}
+Once test (row ∷ rows) = (test row ≡ true → All (λ other. test other ≡ false) rows) × Once test rows
+
+-- what a list of keys that differ says of its first and of the others
+pub unique-head : {Key : Type 0} (key : Key) (keys : List Key) → AreUnique (key ∷ keys) → All (λ other. key ≢ other) keys
+unique-head key keys unique = λ k d below. unique 0 (suc k) d (omega arith) (omega arith)
+
+pub unique-tail : {Key : Type 0} (key : Key) (keys : List Key) → AreUnique (key ∷ keys) → AreUnique keys
+unique-tail key keys unique = λ i j d before within. unique (suc i) (suc j) d (omega arith) (omega arith)
+
+-- where keys differ, a test of the key passes once
+pub once-unique : {Row Key : Type 0} (key : Row → Key) (test : Row → Bool)
+    → ((row other : Row) → test row ≡ true → key row ≢ key other → test other ≡ false)
+    → (rows : List Row) → AreUnique (map key rows) → Once test rows
+once-unique key test apart [] unique = tt
+once-unique {Row = Row} key test apart (row ∷ rows) unique =
+    (λ passes. fails passes rows (unique-head (key row) (map key rows) unique),
+      once-unique key test apart rows (unique-tail (key row) (map key rows) unique))
+  where
+    fails : test row ≡ true → (others : List Row) → All (λ other. key row ≢ other) (map key others)
+        → All (λ other. test other ≡ false) others
+    fails passes [] all = All-nil (λ other. test other ≡ false)
+    fails passes (other ∷ others) all =
+        All-cons (λ other. test other ≡ false) other others
+        (apart row other passes (All-head (λ other. key row ≢ other) (key other) (map key others) all))
+        (fails passes others (All-tail (λ other. key row ≢ other) (key other) (map key others) all))
+
+-- what holds of each row after the one that passes was changed
+pub All-changed_once : {Row : Type 0} (P Q : Row → Type 0) (test : Row → Bool) (change : Row → Row) (rows : List Row)
+    → Once test rows
+    → ((row : Row) → test row ≡ true → find test rows ≡ Some row → P row → Q (change row))
+    → ((row : Row) → test row ≡ false → P row → Q row)
+    → All P rows → All Q (with_changed test change rows)
+All-changed_once P Q test change [] once chosen other all = All-nil Q
+All-changed_once {Row = Row} P Q test change (row ∷ rows) once chosen other all =
+    elim (test row) as (λ b. test row ≡ b → All Q (cond b (change row ∷ rows) (row ∷ with_changed test change rows))) [
+      | true ↦ λ passes.
+          All-cons Q (change row) rows
+          (chosen row passes (ap (λ b. cond b (Some row) (find test rows)) passes) (All-head P row rows all))
+          (others rows (once.0 passes) (All-tail P row rows all))
+      | false ↦ λ fails.
+          All-cons Q row (with_changed test change rows) (other row fails (All-head P row rows all))
+          (All-changed_once P Q test change rows once.1
+          (λ found passes finds. chosen found passes (ap (λ b. cond b (Some row) (find test rows)) fails ∙ finds))
+          other (All-tail P row rows all))
+    ] refl
+  where
+    others : (rows : List Row) → All (λ row. test row ≡ false) rows → All P rows → All Q rows
+    others [] fails all = All-nil Q
+    others (row ∷ rows) fails all =
+        All-cons Q row rows
+        (other row (All-head (λ row. test row ≡ false) row rows fails) (All-head P row rows all))
+        (others rows (All-tail (λ row. test row ≡ false) row rows fails) (All-tail P row rows all))
+
+-- a change that a test doesn't see
+pub list_any-with_changed : {Row : Type 0} (sees test : Row → Bool) (change : Row → Row)
+    → ((row : Row) → sees (change row) ≡ sees row) → (rows : List Row)
+    → list_any sees (with_changed test change rows) ≡ list_any sees rows
+list_any-with_changed sees test change same [] = refl
+list_any-with_changed sees test change same (row ∷ rows) =
+    elim (test row) as (λ b. list_any sees (cond b (change row ∷ rows) (row ∷ with_changed test change rows))
+    ≡ (sees row || list_any sees rows)) [
+      | true ↦ ap (λ b. b || list_any sees rows) (same row)
+      | false ↦ ap (λ b. sees row || b) (list_any-with_changed sees test change same rows)
+    ]
+
+-- a column that a change leaves alone, among the rows that pass a test that doesn't see the change
+pub map-filter-with_changed : {Row Key : Type 0} (key : Row → Key) (keep test : Row → Bool) (change : Row → Row)
+    → ((row : Row) → key (change row) ≡ key row) → ((row : Row) → keep (change row) ≡ keep row) → (rows : List Row)
+    → map key (filter keep (with_changed test change rows)) ≡ map key (filter keep rows)
+map-filter-with_changed key keep test change same stays [] = refl
+map-filter-with_changed {Row = Row} {Key = Key} key keep test change same stays (row ∷ rows) =
+    elim (test row) as (λ b. map key (filter keep (cond b (change row ∷ rows) (row ∷ with_changed test change rows)))
+    ≡ map key (filter keep (row ∷ rows))) [
+      | true ↦
+          by_keys (keep (change row)) (change row) rows
+          ∙ (rw (stays row, same row) (sym (by_keys (keep row) row rows)))
+      | false ↦
+          by_keys (keep row) row (with_changed test change rows)
+          ∙ ap (λ keys. cond (keep row) (key row ∷ keys) keys) (map-filter-with_changed key keep test change same stays rows)
+          ∙ sym (by_keys (keep row) row rows)
+    ]
+  where
+    by_keys : (b : Bool) (row : Row) (rows : List Row) → map key (cond b (row ∷ filter keep rows) (filter keep rows))
+        ≡ cond b (key row ∷ map key (filter keep rows)) (map key (filter keep rows))
+    by_keys true row rows = refl
+    by_keys false row rows = refl
+
+-- a sum over a column is one over the list of its values
+pub sum-column : {Row : Type 0} (column : Row → ℤ) (start : ℤ) (rows : List Row)
+    → fold (λ sum row. sum +ℤ column row) start rows ≡ fold (λ sum value. sum +ℤ value) start (map column rows)
+sum-column column start [] = refl
+sum-column column start (row ∷ rows) = sum-column column (start +ℤ column row) rows
+
+pub column_sum-by_values : {Row Other : Type 0} (column : Row → ℤ) (other : Other → ℤ) (rows : List Row) (others : List Other)
+    → map column rows ≡ map other others → column_sum column rows ≡ column_sum other others
+column_sum-by_values column other rows others same =
+    sum-column column (pos 0) rows ∙ ap (fold (λ sum value. sum +ℤ value) (pos 0)) same
+    ∙ sym (sum-column other (pos 0) others)
+
+-- a sum that starts at a number
+sum-from : {Row : Type 0} (column : Row → ℤ) (start : ℤ) (rows : List Row)
+    → fold (λ sum row. sum +ℤ column row) start rows ≡ start +ℤ column_sum column rows
+sum-from column start [] = omega (arith, ints)
+sum-from column start (row ∷ rows) =
+    omega (arith, ints, sum-from column (start +ℤ column row) rows, sum-from column (pos 0 +ℤ column row) rows)
+
+pub column_sum-cons : {Row : Type 0} (column : Row → ℤ) (row : Row) (rows : List Row)
+    → column_sum column (row ∷ rows) ≡ column row +ℤ column_sum column rows
+column_sum-cons column row rows = omega (arith, ints, sum-from column (pos 0 +ℤ column row) rows)
+
+pub column_sum-append : {Row : Type 0} (column : Row → ℤ) (rows others : List Row)
+    → column_sum column (rows ++ others) ≡ column_sum column rows +ℤ column_sum column others
+column_sum-append column [] others = omega (arith, ints)
+column_sum-append column (row ∷ rows) others = omega (
+  arith,
+  ints,
+  column_sum-append column rows others,
+  column_sum-cons column row (rows ++ others),
+  column_sum-cons column row rows,
+)
+
+-- a filter that all rows pass, and one that none passes
+pub filter-all : {Row : Type 0} (keep : Row → Bool) (rows : List Row) → All (λ row. keep row ≡ true) rows
+    → filter keep rows ≡ rows
+filter-all keep [] all = refl
+filter-all keep (row ∷ rows) all =
+    let here = All-head (λ row. keep row ≡ true) row rows all in
+    let later = filter-all keep rows (All-tail (λ row. keep row ≡ true) row rows all) in
+    rw (here, later) refl
+
+pub filter-none : {Row : Type 0} (keep : Row → Bool) (rows : List Row) → All (λ row. keep row ≡ false) rows
+    → filter keep rows ≡ []
+filter-none keep [] all = refl
+filter-none keep (row ∷ rows) all =
+    let here = All-head (λ row. keep row ≡ false) row rows all in
+    let later = filter-none keep rows (All-tail (λ row. keep row ≡ false) row rows all) in
+    rw (here, later) refl
+
+-- a row that is found passes the test, and what holds of all rows holds of it
+pub find-passes : {Row : Type 0} (test : Row → Bool) (rows : List Row) (row : Row) → find test rows ≡ Some row
+    → test row ≡ true
+find-passes test [] row finds = absurd (cc)
+find-passes test (first ∷ rows) row finds =
+    elim (test first) as (λ b. test first ≡ b → cond b (Some first) (find test rows) ≡ Some row → test row ≡ true) [
+      | true ↦ λ passes finds. grind (arith, passes, finds)
+      | false ↦ λ fails finds. find-passes test rows row finds
+    ] refl finds
+
+pub All-find : {Row : Type 0} (P : Row → Type 0) (test : Row → Bool) (rows : List Row) (row : Row) → All P rows
+    → find test rows ≡ Some row → P row
+All-find P test [] row all finds = absurd (cc)
+All-find P test (first ∷ rows) row all finds =
+    elim (test first) as (λ b. cond b (Some first) (find test rows) ≡ Some row → P row) [
+      | true ↦ λ finds. subst P (some finds) (All-head P first rows all)
+      | false ↦ λ finds. All-find P test rows row (All-tail P first rows all) finds
+    ] finds
+  where
+    some : Some first ≡ Some row → first ≡ row
+    some same = cc
+
+-- a row is found exactly where some row passes
+pub find-any : {Row : Type 0} (test : Row → Bool) (rows : List Row) → list_any test rows ≡ true
+    → (row : Row) × (find test rows ≡ Some row)
+find-any test [] any = absurd (cc)
+find-any test (first ∷ rows) any =
+    elim (test first) as (λ b. (b || list_any test rows) ≡ true → (row : _) × (cond b (Some first) (find test rows) ≡ Some row)) [
+      | true ↦ λ here. (first, refl)
+      | false ↦ λ later. find-any test rows later
+    ] any
+
+-- some row passes where one of all is known to
+pub any-none : {Row : Type 0} (test : Row → Bool) (rows : List Row) → All (λ row. test row ≡ false) rows
+    → list_any test rows ≡ false
+any-none test [] all = refl
+any-none test (row ∷ rows) all =
+    let here = All-head (λ row. test row ≡ false) row rows all in
+    let later = any-none test rows (All-tail (λ row. test row ≡ false) row rows all) in
+    rw (here, later) refl
+
+-- the rows that pass a test are rows
+pub All-of_both : {Row : Type 0} (P Q R : Row → Type 0) (rows : List Row) → ((row : Row) → P row → Q row → R row)
+    → All P rows → All Q rows → All R rows
+All-of_both P Q R [] follows ps qs = All-nil R
+All-of_both P Q R (row ∷ rows) follows ps qs =
+    All-cons R row rows (follows row (All-head P row rows ps) (All-head Q row rows qs))
+    (All-of_both P Q R rows follows (All-tail P row rows ps) (All-tail Q row rows qs))
+
+-- two tests that agree on the rows of a list
+pub filter-agree_on : {Row : Type 0} (keep other : Row → Bool) (rows : List Row) → All (λ row. keep row ≡ other row) rows
+    → filter keep rows ≡ filter other rows
+filter-agree_on keep other [] all = refl
+filter-agree_on keep other (row ∷ rows) all =
+    let here = All-head (λ row. keep row ≡ other row) row rows all in
+    let later = filter-agree_on keep other rows (All-tail (λ row. keep row ≡ other row) row rows all) in
+    rw (here, later) refl
+
+pub list_any-agree_on : {Row : Type 0} (test other : Row → Bool) (rows : List Row)
+    → All (λ row. test row ≡ other row) rows → list_any test rows ≡ list_any other rows
+list_any-agree_on test other [] all = refl
+list_any-agree_on test other (row ∷ rows) all =
+    let here = All-head (λ row. test row ≡ other row) row rows all in
+    let later = list_any-agree_on test other rows (All-tail (λ row. test row ≡ other row) row rows all) in
+    rw (here, later) refl
+
+-- a filter by a test that a change of each row doesn't see
+pub filter-map : {Row : Type 0} (keep : Row → Bool) (change : Row → Row) → ((row : Row) → keep (change row) ≡ keep row)
+    → (rows : List Row) → filter keep (map change rows) ≡ map change (filter keep rows)
+filter-map keep change same [] = refl
+filter-map keep change same (row ∷ rows) =
+    elim (keep row) as (λ b. keep row ≡ b
+    → filter keep (change row ∷ map change rows) ≡ map change (cond b (row ∷ filter keep rows) (filter keep rows))) [
+      | true ↦ λ passes. rw (same row, passes) (ap (λ rows. change row ∷ rows) (filter-map keep change same rows))
+      | false ↦ λ fails. rw (same row, fails) (filter-map keep change same rows)
+    ] refl
+
+pub length-map : {Row Other : Type 0} (change : Row → Other) (rows : List Row) → length (map change rows) ≡ length rows
+length-map change [] = refl
+length-map change (row ∷ rows) = ap suc (length-map change rows)
+
+pub map-map : {A B C : Type 0} (f : A → B) (g : B → C) (rows : List A) → map g (map f rows) ≡ map (λ row. g (f row)) rows
+map-map f g [] = refl
+map-map f g (row ∷ rows) = ap (λ others. g (f row) ∷ others) (map-map f g rows)
+
+pub map-same : {Row Other : Type 0} (f g : Row → Other) → ((row : Row) → f row ≡ g row) → (rows : List Row)
+    → map f rows ≡ map g rows
+map-same f g same [] = refl
+map-same f g same (row ∷ rows) = rw (same row, map-same f g same rows) refl
+
+pub map-same_on : {Row Other : Type 0} (f g : Row → Other) (rows : List Row) → All (λ row. f row ≡ g row) rows
+    → map f rows ≡ map g rows
+map-same_on f g [] all = refl
+map-same_on f g (row ∷ rows) all =
+    let here = All-head (λ row. f row ≡ g row) row rows all in
+    let later = map-same_on f g rows (All-tail (λ row. f row ≡ g row) row rows all) in
+    rw (here, later) refl
+
+pub map-append : {Row Other : Type 0} (f : Row → Other) (rows others : List Row)
+    → map f (rows ++ others) ≡ map f rows ++ map f others
+map-append f [] others = refl
+map-append f (row ∷ rows) others = ap (λ rows. f row ∷ rows) (map-append f rows others)
+
+-- where a key tells rows apart, so does another among the rows that pass a test
+pub unique-filter : {Row Key Other : Type 0} (key : Row → Key) (other : Row → Other) (keep : Row → Bool)
+    → ((one two : Row) → keep one ≡ true → keep two ≡ true → other one ≡ other two → key one ≡ key two)
+    → (rows : List Row) → AreUnique (map key rows) → AreUnique (map other (filter keep rows))
+unique-filter key other keep tells [] unique = λ i j d before within. absurd (omega arith)
+unique-filter {Row = Row} key other keep tells (row ∷ rows) unique =
+    let later = unique-filter key other keep tells rows (unique-tail (key row) (map key rows) unique) in
+    elim (keep row) as (λ b. keep row ≡ b
+    → AreUnique (map other (cond b (row ∷ filter keep rows) (filter keep rows)))) [
+      | true ↦ λ kept.
+          AllPairs-cons (λ one two. one ≢ two) (other row) (map other (filter keep rows))
+          (apart kept rows (unique-head (key row) (map key rows) unique)) later
+      | false ↦ λ left. later
+    ] refl
+  where
+    apart : keep row ≡ true → (others : List Row) → All (λ k. key row ≢ k) (map key others)
+        → All (λ k. other row ≢ k) (map other (filter keep others))
+    apart kept [] all = All-nil (λ k. other row ≢ k)
+    apart kept (next ∷ others) all =
+        let differs = All-head (λ k. key row ≢ k) (key next) (map key others) all in
+        let later = apart kept others (All-tail (λ k. key row ≢ k) (key next) (map key others) all) in
+        elim (keep next) as (λ b. keep next ≡ b
+        → All (λ k. other row ≢ k) (map other (cond b (next ∷ filter keep others) (filter keep others)))) [
+          | true ↦ λ passes. All-cons (λ k. other row ≢ k) (other next) (map other (filter keep others))
+              (λ same. differs (tells row next kept passes same)) later
+          | false ↦ λ left. later
+        ] refl
+
+-- a key behind keys that differ from it
+pub unique-push : {Key : Type 0} (keys : List Key) (key : Key) → AreUnique keys → All (λ other. other ≢ key) keys
+    → AreUnique (keys ++ key ∷ [])
+unique-push keys key unique apart = all_pairs_push (λ one other. one ≢ other) keys key unique apart
