@@ -1,2 +1,6 @@
 mod ListLaws
 mod NumberLaws
+mod MeetsLaws
+mod AcceptedLaws
+mod OnceLaws
+mod KeptByPayment

@@ -1,5 +1,5 @@
 -- The greatest and the least of some numbers that differ, as a number is put behind or the least is taken out.
-use Rattle.std.proofs.Common.{◌≡◌, ◌≢◌, ℕ, zero, suc, ◌+◌, ◌-◌, ◌<◌, ◌≤◌, ◌==◌, ◌⊎◌, inl, inr, Bool, true, false, cond, not, ◌||◌, List, [], ◌∷◌, ◌++◌, length, filter, refl, sym, ap, subst, ◌∙◌, arith, max, min}
+use Rattle.std.proofs.Common.{◌≡◌, ◌≢◌, ℕ, zero, suc, ◌+◌, ◌-◌, ◌<◌, ◌≤◌, ◌==◌, ◌⊎◌, inl, inr, Bool, true, false, cond, not, ◌||◌, List, [], ◌∷◌, ◌++◌, length, filter, refl, sym, ap, subst, ◌∙◌, arith, max, min, length-append}
 use Rattle.std.specs.Prelude.{All, fold}
 use Rattle.std.specs.List.{AllPairs, list_any}
 use Rattle.std.proofs.lemmas.Bool.{eqb-true, eqb-false, eq-eqb, ne_eqb, or_cases}
@@ -9,7 +9,7 @@ use Rattle.std.proofs.lemmas.List.Kept.{AllPairs-filter}
 use Rattle.std.proofs.lemmas.List.Sums.{fold-append}
 use Rattle.hy_schema.specs.Conditions.{greatest, least}
 use Rattle.hy_schema.specs.Keys.{AreUnique}
-use Rattle.hy_commands.proofs.ListLaws.{filter-all, unique-head, unique-tail}
+use Rattle.hy_commands.proofs.ListLaws.{All-of_both, filter-all, unique-head, unique-tail}
 
 -- whether a number is there
 abbrev pub is_in : ℕ → List ℕ → Bool
@@ -215,3 +215,84 @@ few-between (suc count) low (n ∷ numbers) unique above below =
         let differs = All-head (λ n. n ≢ low + count) n numbers apart in
         All-cons (λ n. n < low + count) n numbers (omega (arith, here, differs))
         (All-apart P numbers (All-tail (λ n. n < low + suc count) n numbers all) (All-tail (λ n. n ≢ low + count) n numbers apart))
+
+-- ---- the next number of an order, the numbers of a district's orders, and those of its undelivered ones
+
+pub record AreInRow (next : ℕ) (orders news : List ℕ) : Type 0 where
+  pub behind : next - 1 ≡ greatest orders
+  pub behind_new : 0 < length news → next - 1 ≡ greatest news
+  pub in_row : 0 < length news → greatest news - least news + 1 ≡ length news
+
+-- no order has the next number, nor one above it
+pub in_row-below : (next : ℕ) (orders news : List ℕ) → 0 < next → AreInRow next orders news
+    → All (λ n. n < next) orders
+in_row-below next orders news some row =
+    All-weaker (λ n. n ≤ greatest orders) (λ n. n < next) (λ n below. omega (arith, below, row.behind, some)) orders
+    (greatest-each orders)
+
+-- the next number put behind both
+pub in_row-push : (next : ℕ) (orders news : List ℕ) → 0 < next → AreInRow next orders news
+    → AreInRow (next + 1) (orders ++ next ∷ []) (news ++ next ∷ [])
+in_row-push next orders news some row = record {
+  behind = omega (arith, greatest-push orders next, row.behind);
+  behind_new = λ more. omega (arith, greatest-push news next, top);
+  in_row = λ more. from news row top;
+}
+  where
+    top : greatest news ≤ next
+    top = at news row
+      where
+        at : (news : List ℕ) → AreInRow next orders news → greatest news ≤ next
+        at [] row = omega arith
+        at (n ∷ news) row = let is = row.behind_new (omega arith) in omega (arith, is)
+    from : (news : List ℕ) → AreInRow next orders news → greatest news ≤ next
+        → greatest (news ++ next ∷ []) - least (news ++ next ∷ []) + 1 ≡ length (news ++ next ∷ [])
+    from [] row top = omega arith
+    from (n ∷ news) row top =
+        let all : List ℕ = n ∷ news in
+        let some_new : 0 < length all = omega arith in
+        let is = row.behind_new some_new in
+        let long = row.in_row some_new in
+        let below : least all ≤ greatest all =
+        All-in (λ m. m ≤ greatest all) (least all) all (greatest-each all) (least-in all some_new) in
+        omega (arith, is, long, below, some, greatest-push all next, least-push all next some_new, length-append all (next ∷ []))
+
+-- the least of the undelivered ones taken out
+pub in_row-taken : (next : ℕ) (orders news : List ℕ) → AreUnique news → AreInRow next orders news
+    → AreInRow next orders (others (least news) news)
+in_row-taken next orders [] unique row = record {
+  behind = row.behind;
+  behind_new = λ more. absurd (omega (arith, more));
+  in_row = λ more. absurd (omega (arith, more));
+}
+in_row-taken next orders (n ∷ news) unique row =
+    let all : List ℕ = n ∷ news in
+    let first : ℕ = least all in
+    let top : ℕ = greatest all in
+    let rest : List ℕ = others first all in
+    let some : 0 < length all = omega arith in
+    let first_in = least-in all some in
+    let apart = others-differ first all in
+    let beyond : All (λ m. first + 1 ≤ m) rest = All-of_both (λ m. first ≤ m) (λ m. m ≢ first) (λ m. first + 1 ≤ m) rest
+    (λ m above differs. omega (arith, above, differs)) (All-filter (λ m. not (m == first)) (λ m. first ≤ m) all (least-each all)) apart in
+    let within : All (λ m. m ≤ top) rest = All-filter (λ m. not (m == first)) (λ m. m ≤ top) all (greatest-each all) in
+    let fewer : suc (length rest) ≡ length all = omega (arith, others-length first all unique, others-length_in first all first_in) in
+    let long = row.in_row some in
+    let same_top : 0 < length rest → greatest rest ≡ top = λ more.
+    let above : first + 1 ≤ least rest = least-above (first + 1) rest more beyond in
+    let least_below : least rest ≤ top = All-in (λ m. m ≤ top) (least rest) rest within (least-in rest more) in
+    let top_in : is_in top all ≡ true = greatest-in all (omega (arith, above, least_below)) in
+    greatest-is top rest within (others-in first top all (λ same. omega (arith, same, above, least_below)) top_in) in
+    record {
+      behind = row.behind;
+      behind_new = λ more. row.behind_new some ∙ sym (same_top more);
+      in_row = λ more.
+          let is_top = same_top more in
+          let above : first + 1 ≤ least rest = least-above (first + 1) rest more beyond in
+          let least_below : least rest ≤ top = All-in (λ m. m ≤ top) (least rest) rest within (least-in rest more) in
+          let short : All (λ m. m < least rest + (top + 1 - least rest)) rest = All-weaker (λ m. m ≤ top)
+          (λ m. m < least rest + (top + 1 - least rest)) (λ m below. omega (arith, below, least_below)) rest within in
+          let few = few-between (top + 1 - least rest) (least rest) rest
+          (AllPairs-filter (λ one other. one ≢ other) (λ m. not (m == first)) all unique) (least-each rest) short in
+          omega (arith, is_top, above, least_below, few, fewer, long);
+    }

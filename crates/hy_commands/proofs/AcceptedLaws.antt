@@ -1,0 +1,138 @@
+-- What is known of a command that isn't refused.
+use Rattle.std.proofs.Common.{◌≡◌, ℕ, ◌==◌, ◌&&◌, ◌||◌, Bool, true, false, cond, not, List, [], ◌∷◌, ◌++◌, Option, Some, None, refl, sym, ap, subst, ◌∙◌, arith}
+use Rattle.std.specs.Prelude.{fold, is_some}
+use Rattle.std.specs.List.{find, list_all, list_any}
+use Rattle.std.specs.Option.{option_or}
+use Rattle.std.proofs.lemmas.Bool.{and_parts, eqb-true}
+use Rattle.std.proofs.lemmas.List.Folds.{list_all-append}
+use Rattle.hy_rows.specs.Ranges.{IsBetween}
+use Rattle.hy_rows.specs.Tables.{Tables}
+use Rattle.hy_rows.specs.declared.customer.Customer.{Customer}
+use Rattle.hy_rows.specs.declared.item.Item.{Item}
+use Rattle.hy_schema.specs.declared.refusal.Refusal.{Refusal}
+use Rattle.hy_commands.specs.declared.command.Command.{Command}
+use Rattle.hy_commands.specs.declared.command.Command.TheVariants as commands
+use Rattle.hy_commands.specs.declared.command.Delivery.{Delivery}
+use Rattle.hy_commands.specs.declared.command.Payment.{Payment}
+use Rattle.hy_commands.specs.declared.command.Purchase.{Purchase}
+use Rattle.hy_commands.specs.declared.command.PurchaseLine.{PurchaseLine}
+use Rattle.hy_commands.specs.Commands.{is_in_range, warehouses_of, with_named}
+use Rattle.hy_commands.specs.Transactions.{begin_refusal_of, has_customer, has_districts, has_items, refusal_of}
+
+-- one test of a chain
+go_on : (test : Bool) (why : Refusal) (later : Option Refusal) → cond (not test) (Some why) later ≡ None
+    → (test ≡ true) × (later ≡ None)
+go_on true why later none = (refl, none)
+go_on false why later none = absurd (cc)
+
+-- one of two refusals
+neither : (one other : Option Refusal) → option_or one other ≡ None → (one ≡ None) × (other ≡ None)
+neither None other none = (refl, none)
+neither (Some why) other none = absurd (cc)
+
+-- what holds of each name on a list with one more
+named-before : (test : ℕ → Bool) (named : List ℕ) (number : ℕ) → list_all test (with_named named number) ≡ true
+    → list_all test named ≡ true
+named-before test named number all =
+    elim (list_any (λ other. other == number) named) as (λ b.
+    list_all test (cond b named (named ++ number ∷ [])) ≡ true → list_all test named ≡ true) [
+      | true ↦ λ same. same
+      | false ↦ λ more.
+          (and_parts (list_all test named) (list_all test (number ∷ []))
+          (sym (list_all-append test named (number ∷ [])) ∙ more)).0
+    ] all
+
+named-lines : (test : ℕ → Bool) (lines : List PurchaseLine) (named : List ℕ)
+    → list_all test (fold (λ named (line : PurchaseLine). with_named named line.supply_warehouse) named lines) ≡ true
+    → list_all test named ≡ true
+named-lines test [] named all = all
+named-lines test (line ∷ lines) named all =
+    named-before test named line.supply_warehouse
+    (named-lines test lines (with_named named line.supply_warehouse) all)
+
+-- the home warehouse is the one that acts, and so is that of a payment's customer
+home-purchase : (number : ℕ) (order : Purchase)
+    → list_all (λ named. named == number) (warehouses_of (commands.NewOrder order)) ≡ true → order.warehouse ≡ number
+home-purchase number order all =
+    let first = named-lines (λ named. named == number) order.lines (order.warehouse ∷ []) all in
+    eqb-true order.warehouse number (and_parts _ _ first).0
+
+home-payment : (number : ℕ) (payment : Payment)
+    → list_all (λ named. named == number) (warehouses_of (commands.Payment payment)) ≡ true
+    → (payment.warehouse ≡ number) × (payment.customer_warehouse ≡ number)
+home-payment number payment all =
+    let home : payment.warehouse ≡ number = eqb-true payment.warehouse number
+    (and_parts _ _ (named-before (λ named. named == number) (payment.warehouse ∷ []) payment.customer_warehouse all)).0 in
+    elim (payment.warehouse == payment.customer_warehouse) as (λ b. (payment.warehouse == payment.customer_warehouse) ≡ b
+    → list_all (λ named. named == number)
+    (cond (b || false) (payment.warehouse ∷ []) ((payment.warehouse ∷ []) ++ payment.customer_warehouse ∷ [])) ≡ true
+    → (payment.warehouse ≡ number) × (payment.customer_warehouse ≡ number)) [
+      | true ↦ λ same named. (home, sym (eqb-true payment.warehouse payment.customer_warehouse same) ∙ home)
+      | false ↦ λ other named.
+          (home, eqb-true payment.customer_warehouse number (and_parts _ _ (and_parts (payment.warehouse == number) _ named).1).0)
+    ] refl all
+
+-- what a command that isn't refused has passed
+pub record IsAccepted (items : List Item) (number : ℕ) (command : Command) (tables : Tables) : Type 0 where
+  pub in_range : is_in_range command ≡ true
+  pub named : list_all (λ named. named == number) (warehouses_of command) ≡ true
+  pub districts : has_districts command ≡ true
+  pub customer : has_customer command tables ≡ true
+  pub known : has_items items command ≡ true
+
+pub accepted-not_refused : (items : List Item) (number : ℕ) (command : Command) (tables : Tables)
+    → refusal_of items number command tables ≡ None → IsAccepted items number command tables
+accepted-not_refused items number command tables none =
+    let both = neither (begin_refusal_of number command tables) _ none in
+    let first = go_on (is_in_range command) _ _ both.0 in
+    let second = go_on (list_all (λ named. named == number) (warehouses_of command)) _ _ first.1 in
+    let third = go_on (has_districts command) _ _ second.1 in
+    let fourth = go_on (has_customer command tables) _ _ third.1 in
+    record {
+      in_range = first.0;
+      named = second.0;
+      districts = third.0;
+      customer = fourth.0;
+      known = last (has_items items command) _ both.1;
+    }
+  where
+    last : (test : Bool) (why : Refusal) → cond test None (Some why) ≡ None → test ≡ true
+    last true why none = refl
+    last false why none = absurd (cc)
+
+pub record IsAcceptedPurchase (number : ℕ) (order : Purchase) : Type 0 where
+  pub home : order.warehouse ≡ number
+  pub district : IsBetween 1 10 order.district
+
+pub accepted-purchase : (items : List Item) (number : ℕ) (order : Purchase) (tables : Tables)
+    → IsAccepted items number (commands.NewOrder order) tables → IsAcceptedPurchase number order
+accepted-purchase items number order tables accepted = record {
+  home = home-purchase number order accepted.named;
+  district = accepted.districts;
+}
+
+pub record IsAcceptedPayment (number : ℕ) (payment : Payment) : Type 0 where
+  pub home : payment.warehouse ≡ number
+  pub customer_home : payment.customer_warehouse ≡ number
+  pub district : IsBetween 1 10 payment.district
+
+pub accepted-payment : (items : List Item) (number : ℕ) (payment : Payment) (tables : Tables)
+    → IsAccepted items number (commands.Payment payment) tables → IsAcceptedPayment number payment
+accepted-payment items number payment tables accepted =
+    let homes = home-payment number payment accepted.named in
+    record { home = homes.0; customer_home = homes.1; district = (and_parts _ _ accepted.districts).0 }
+
+pub record IsAcceptedDelivery (number : ℕ) (delivery : Delivery) : Type 0 where
+  pub home : delivery.warehouse ≡ number
+  pub carrier : IsBetween 1 10 delivery.carrier
+  pub moment : IsBetween 1 1_000_000_000_000_000 delivery.at
+
+pub accepted-delivery : (items : List Item) (number : ℕ) (delivery : Delivery) (tables : Tables)
+    → IsAccepted items number (commands.Delivery delivery) tables → IsAcceptedDelivery number delivery
+accepted-delivery items number delivery tables accepted =
+    let range = and_parts _ _ accepted.in_range in
+    record {
+      home = eqb-true delivery.warehouse number (and_parts _ _ accepted.named).0;
+      carrier = range.0;
+      moment = range.1;
+    }
