@@ -4,3 +4,4 @@ mod MeetsLaws
 mod AcceptedLaws
 mod OnceLaws
 mod KeptByPayment
+mod KeptByNewOrder

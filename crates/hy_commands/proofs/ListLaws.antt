@@ -1,9 +1,10 @@
 -- What a change does to a list: of the one row that passes a test, of each that passes it, and of rows put behind.
-use Rattle.std.proofs.Common.{◌≡◌, ◌≢◌, ℕ, zero, suc, ◌+◌, ◌<◌, ℤ, pos, ◌+ℤ◌, Bool, true, false, cond, not, ◌||◌, ◌&&◌, List, [], ◌∷◌, ◌++◌, length, map, filter, Option, Some, None, refl, sym, ap, subst, ◌∙◌, arith}
-use Rattle.std.specs.Prelude.{All, fold}
+use Rattle.std.proofs.Common.{◌≡◌, ◌≢◌, ℕ, zero, suc, ◌+◌, ◌<◌, ℤ, pos, ◌+ℤ◌, Bool, true, false, cond, not, ◌||◌, ◌&&◌, List, [], ◌∷◌, ◌++◌, length, map, filter, Option, Some, None, refl, sym, ap, subst, ◌∙◌, arith, append_assoc}
+use Rattle.std.specs.Prelude.{All, fold, is_some}
+use Rattle.std.proofs.lemmas.Bool.{both_ways}
 use Rattle.std.specs.List.{AllPairs, find, list_all, list_any, flat_map}
 use Rattle.std.proofs.lemmas.Int.{ints}
-use Rattle.std.proofs.lemmas.List.Elements.{All-nil, All-cons, All-head, All-tail, filter-append}
+use Rattle.std.proofs.lemmas.List.Elements.{All-append, All-nil, All-cons, All-head, All-tail, filter-append}
 use Rattle.std.proofs.lemmas.List.Kept.{AllPairs-cons}
 use Rattle.std.proofs.lemmas.List.Quantifiers.{all_pairs_push}
 use Rattle.hy_rows.specs.Finding.{with_changed}
@@ -287,3 +288,66 @@ unique-filter {Row = Row} key other keep tells (row ∷ rows) unique =
 pub unique-push : {Key : Type 0} (keys : List Key) (key : Key) → AreUnique keys → All (λ other. other ≢ key) keys
     → AreUnique (keys ++ key ∷ [])
 unique-push keys key unique apart = all_pairs_push (λ one other. one ≢ other) keys key unique apart
+
+-- what holds of a key of the rows that pass a test
+pub All-map_filter : {Row Key : Type 0} (P : Key → Type 0) (key : Row → Key) (keep : Row → Bool) (rows : List Row)
+    → All P (map key (filter keep rows)) → All (λ row. keep row ≡ true → P (key row)) rows
+All-map_filter P key keep [] all = All-nil (λ row. keep row ≡ true → P (key row))
+All-map_filter P key keep (row ∷ rows) all =
+    elim (keep row) as (λ b. keep row ≡ b → All P (map key (cond b (row ∷ filter keep rows) (filter keep rows)))
+    → All (λ row. keep row ≡ true → P (key row)) (row ∷ rows)) [
+      | true ↦ λ passes all.
+          All-cons (λ row. keep row ≡ true → P (key row)) row rows
+          (λ also. All-head P (key row) (map key (filter keep rows)) all)
+          (All-map_filter P key keep rows (All-tail P (key row) (map key (filter keep rows)) all))
+      | false ↦ λ fails all.
+          All-cons (λ row. keep row ≡ true → P (key row)) row rows (λ passes. absurd (both_ways (keep row) fails passes))
+          (All-map_filter P key keep rows all)
+    ] refl all
+
+-- a key of the rows that pass a test, with a row behind
+pub map-filter-push : {Row Key : Type 0} (key : Row → Key) (keep : Row → Bool) (rows : List Row) (row : Row)
+    → map key (filter keep (rows ++ row ∷ [])) ≡ map key (filter keep rows) ++ cond (keep row) (key row ∷ []) []
+map-filter-push key keep rows row =
+    ap (map key) (filter-append keep rows (row ∷ []))
+    ∙ elim (keep row) as (λ b. map key (filter keep rows ++ cond b (row ∷ []) [])
+    ≡ map key (filter keep rows) ++ cond b (key row ∷ []) []) [
+      | true ↦ map-append key (filter keep rows) (row ∷ [])
+      | false ↦ map-append key (filter keep rows) []
+    ]
+
+-- rows with keys that differ, behind such rows
+pub unique-append : {Key : Type 0} (keys others : List Key) → AreUnique keys → AreUnique others
+    → All (λ key. All (λ other. key ≢ other) others) keys → AreUnique (keys ++ others)
+unique-append [] others unique unique_others apart = unique_others
+unique-append (key ∷ keys) others unique unique_others apart =
+    AllPairs-cons (λ one two. one ≢ two) key (keys ++ others)
+    (All-append (λ other. key ≢ other) keys others (unique-head key keys unique)
+    (All-head (λ key. All (λ other. key ≢ other) others) key keys apart))
+    (unique-append keys others (unique-tail key keys unique) unique_others
+    (All-tail (λ key. All (λ other. key ≢ other) others) key keys apart))
+
+-- lists joined
+pub flat_map-append : {Row Part : Type 0} (parts : Row → List Part) (rows others : List Row)
+    → flat_map parts (rows ++ others) ≡ flat_map parts rows ++ flat_map parts others
+flat_map-append parts [] others = refl
+flat_map-append parts (row ∷ rows) others =
+    ap (λ later. parts row ++ later) (flat_map-append parts rows others)
+    ∙ sym (append_assoc (parts row) (flat_map parts rows) (flat_map parts others))
+
+pub flat_map-same_on : {Row Part : Type 0} (parts other : Row → List Part) (rows : List Row)
+    → All (λ row. parts row ≡ other row) rows → flat_map parts rows ≡ flat_map other rows
+flat_map-same_on parts other [] all = refl
+flat_map-same_on parts other (row ∷ rows) all =
+    let here = All-head (λ row. parts row ≡ other row) row rows all in
+    let later = flat_map-same_on parts other rows (All-tail (λ row. parts row ≡ other row) row rows all) in
+    rw (here, later) refl
+
+-- a row is found where some row passes, and only there
+pub found-any : {Row : Type 0} (test : Row → Bool) (rows : List Row) → is_some (find test rows) ≡ list_any test rows
+found-any test [] = refl
+found-any test (row ∷ rows) =
+    elim (test row) as (λ b. is_some (cond b (Some row) (find test rows)) ≡ (b || list_any test rows)) [
+      | true ↦ refl
+      | false ↦ found-any test rows
+    ]
