@@ -5,3 +5,4 @@ mod AcceptedLaws
 mod OnceLaws
 mod KeptByPayment
 mod KeptByNewOrder
+mod KeptByDelivery

@@ -351,3 +351,109 @@ found-any test (row ∷ rows) =
       | true ↦ refl
       | false ↦ found-any test rows
     ]
+
+-- a test of the key where a filter tests the rows
+pub map-filter-again : {Row Key : Type 0} (key : Row → Key) (keep also : Row → Bool) (test : Key → Bool)
+    → ((row : Row) → keep row ≡ true → also row ≡ test (key row)) → (rows : List Row)
+    → map key (filter keep (filter also rows)) ≡ filter test (map key (filter keep rows))
+map-filter-again key keep also test agrees [] = refl
+map-filter-again {Row = Row} key keep also test agrees (row ∷ rows) =
+    let later = map-filter-again key keep also test agrees rows in
+    elim (keep row) as (λ b. keep row ≡ b
+    → map key (filter keep (cond (also row) (row ∷ filter also rows) (filter also rows)))
+    ≡ filter test (map key (cond b (row ∷ filter keep rows) (filter keep rows)))) [
+      | true ↦ λ kept. elim (also row) as (λ c. also row ≡ c
+        → map key (filter keep (cond c (row ∷ filter also rows) (filter also rows)))
+        ≡ filter test (key row ∷ map key (filter keep rows))) [
+          | true ↦ λ passes.
+              let tested : test (key row) ≡ true = sym (agrees row kept) ∙ passes in
+              rw (kept, tested) (ap (λ keys. key row ∷ keys) later)
+          | false ↦ λ fails.
+              let tested : test (key row) ≡ false = sym (agrees row kept) ∙ fails in
+              rw tested later
+        ] refl
+      | false ↦ λ left. elim (also row) as (λ c.
+        map key (filter keep (cond c (row ∷ filter also rows) (filter also rows)))
+        ≡ filter test (map key (filter keep rows))) [
+          | true ↦ rw left later
+          | false ↦ later
+        ]
+    ] refl
+
+-- whether a row passes, among those that a filter leaves
+pub any-filter-none : {Row : Type 0} (test keep : Row → Bool) → ((row : Row) → keep row ≡ true → test row ≡ false)
+    → (rows : List Row) → list_any test (filter keep rows) ≡ false
+any-filter-none test keep fails [] = refl
+any-filter-none test keep fails (row ∷ rows) =
+    elim (keep row) as (λ b. keep row ≡ b → list_any test (cond b (row ∷ filter keep rows) (filter keep rows)) ≡ false) [
+      | true ↦ λ kept. rw (fails row kept) (any-filter-none test keep fails rows)
+      | false ↦ λ left. any-filter-none test keep fails rows
+    ] refl
+
+pub any-filter-same : {Row : Type 0} (test keep : Row → Bool) → ((row : Row) → keep row ≡ false → test row ≡ false)
+    → (rows : List Row) → list_any test (filter keep rows) ≡ list_any test rows
+any-filter-same test keep fails [] = refl
+any-filter-same test keep fails (row ∷ rows) =
+    elim (keep row) as (λ b. keep row ≡ b
+    → list_any test (cond b (row ∷ filter keep rows) (filter keep rows)) ≡ (test row || list_any test rows)) [
+      | true ↦ λ kept. ap (λ b. test row || b) (any-filter-same test keep fails rows)
+      | false ↦ λ left. rw (fails row left) (any-filter-same test keep fails rows)
+    ] refl
+
+-- a sum over the rows that pass, of lists joined
+pub column_sum-flat_map : {Row Part : Type 0} (column : Part → ℤ) (keep : Part → Bool) (parts : Row → List Part)
+    (rows : List Row)
+    → column_sum column (filter keep (flat_map parts rows))
+    ≡ column_sum (λ row. column_sum column (filter keep (parts row))) rows
+column_sum-flat_map column keep parts [] = refl
+column_sum-flat_map column keep parts (row ∷ rows) =
+    let joined = ap (column_sum column) (filter-append keep (parts row) (flat_map parts rows))
+    ∙ column_sum-append column (filter keep (parts row)) (filter keep (flat_map parts rows)) in
+    omega (
+      arith,
+      ints,
+      joined,
+      column_sum-flat_map column keep parts rows,
+      column_sum-cons (λ row. column_sum column (filter keep (parts row))) row rows,
+    )
+
+-- two columns that differ in one row
+pub column_sum-once : {Row : Type 0} (column other : Row → ℤ) (test keep : Row → Bool) (amount : ℤ) (rows : List Row)
+    → Once test rows → ((row : Row) → test row ≡ false → column row ≡ other row) → (the : Row)
+    → find test rows ≡ Some the → column the ≡ other the +ℤ amount
+    → column_sum column (filter keep rows) ≡ column_sum other (filter keep rows) +ℤ cond (keep the) amount (pos 0)
+column_sum-once column other test keep amount [] once same the finds more = absurd (cc)
+column_sum-once {Row = Row} column other test keep amount (row ∷ rows) once same the finds more =
+    elim (test row) as (λ b. test row ≡ b → cond b (Some row) (find test rows) ≡ Some the
+    → column_sum column (filter keep (row ∷ rows)) ≡ column_sum other (filter keep (row ∷ rows)) +ℤ cond (keep the) amount (pos 0)) [
+      | true ↦ λ passes this.
+          let is : row ≡ the = cc in
+          let rest = others rows (once.0 passes) in
+          subst (λ r. column r ≡ other r +ℤ amount → column_sum column (filter keep (row ∷ rows))
+          ≡ column_sum other (filter keep (row ∷ rows)) +ℤ cond (keep r) amount (pos 0)) is
+          (λ more. elim (keep row) as (λ k. column_sum column (cond k (row ∷ filter keep rows) (filter keep rows))
+          ≡ column_sum other (cond k (row ∷ filter keep rows) (filter keep rows)) +ℤ cond k amount (pos 0)) [
+            | true ↦ omega (arith, ints, more, rest, column_sum-cons column row (filter keep rows), column_sum-cons other row (filter keep rows))
+            | false ↦ omega (arith, ints, rest)
+          ]) more
+      | false ↦ λ fails later.
+          let rest = column_sum-once column other test keep amount rows once.1 same the later more in
+          let here = same row fails in
+          elim (keep row) as (λ k. column_sum column (cond k (row ∷ filter keep rows) (filter keep rows))
+          ≡ column_sum other (cond k (row ∷ filter keep rows) (filter keep rows)) +ℤ cond (keep the) amount (pos 0)) [
+            | true ↦ omega (arith, ints, here, rest, column_sum-cons column row (filter keep rows), column_sum-cons other row (filter keep rows))
+            | false ↦ rest
+          ]
+    ] refl finds
+  where
+    others : (rows : List Row) → All (λ row. test row ≡ false) rows
+        → column_sum column (filter keep rows) ≡ column_sum other (filter keep rows)
+    others [] fails = refl
+    others (row ∷ rows) fails =
+        let rest = others rows (All-tail (λ row. test row ≡ false) row rows fails) in
+        let here = same row (All-head (λ row. test row ≡ false) row rows fails) in
+        elim (keep row) as (λ k. column_sum column (cond k (row ∷ filter keep rows) (filter keep rows))
+        ≡ column_sum other (cond k (row ∷ filter keep rows) (filter keep rows))) [
+          | true ↦ omega (arith, ints, here, rest, column_sum-cons column row (filter keep rows), column_sum-cons other row (filter keep rows))
+          | false ↦ rest
+        ]
