@@ -16,14 +16,14 @@ use Rattle.hy_rows.specs.declared.new_order.NewOrder.{NewOrder}
 use Rattle.hy_rows.specs.declared.order.Order.{Order}
 use Rattle.hy_rows.specs.declared.order_line.OrderLine.{OrderLine}
 use Rattle.hy_schema.specs.Conditions.{column_sum, delivered_amount, least, new_order_numbers, order_numbers}
-use Rattle.hy_schema.specs.Keys.{AreUnique, IsOneWarehouse, customer_key}
+use Rattle.hy_schema.specs.Keys.{AreUnique, IsOneWarehouse, customer_key, district_numbers}
 use Rattle.hy_schema.specs.Related.{is_delivered, is_line_of, is_new_order, is_new_order_of, is_order, is_order_by, is_undelivered, lines_of, lines_of_district, new_orders_of, orders_by, orders_of}
 use Rattle.hy_schema.proofs.ChangedLists.{All-with_changed, map-with_changed}
 use Rattle.hy_schema.proofs.ConditionLaws.{filter-implied}
 use Rattle.hy_commands.specs.declared.command.Delivery.{Delivery}
 use Rattle.hy_commands.specs.Deliveries.{carried, customer_delivered, delivered, delivered_in, delivered_line, oldest, order_cents, with_delivered}
 use Rattle.hy_commands.specs.Invariant.{HasOrder, HasOrderAndItem, HasOwnOrders, IsOwnOrder, IsSoundWarehouse, line_key, new_order_key, order_key}
-use Rattle.hy_commands.proofs.ListLaws.{All-changed_once, All-find, All-of_both, any-filter-none, any-filter-same, column_sum-by_values, column_sum-flat_map, column_sum-once, filter-all, filter-map, filter-none, find-any, find-passes, length-map, list_any-with_changed, map-filter-again, map-filter-with_changed, map-map, map-same, map-same_on, unique-filter}
+use Rattle.hy_commands.proofs.ListLaws.{All-changed_once, All-find, All-of_both, any-filter-none, any-filter-same, column_sum-by_values, column_sum-flat_map, column_sum-once, filter-all, filter-map, filter-none, find-any, find-passes, in-any, length-map, list_any-with_changed, map-filter-again, map-filter-with_changed, map-map, map-same, map-same_on, unique-filter}
 use Rattle.hy_commands.proofs.MeetsLaws.{CarriedOrNew, CountsDistrict, CountsLines, DeliveredWithLines, IsBalanced, Meets, NumbersInRow, meets-facts, meets-tests}
 use Rattle.hy_commands.proofs.NumberLaws.{AreInRow, in_row-taken, is_in, least-in, others}
 use Rattle.hy_commands.proofs.OnceLaws.{once-customer, once-order, passes-three, tells-three, tells-two}
@@ -304,3 +304,58 @@ module _ (items : List Item) (number : ℕ) (delivery : Delivery) (tables : Tabl
     orders = delivered-orders;
     conditions = meets-tests after (delivered-meets (meets-facts tables sound.conditions));
   }
+
+-- where the least number isn't 0, there is one
+least-some : (numbers : List ℕ) → (least numbers == 0) ≡ false → 0 < length numbers
+least-some [] differs = absurd (cc)
+least-some (n ∷ numbers) differs = omega arith
+
+module _ (items : List Item) (number : ℕ) (delivery : Delivery) (carrier : (delivery.carrier == 0) ≡ false) (moment : (delivery.at == 0) ≡ false) where
+  -- the oldest undelivered order of a district is delivered
+  sound-oldest : (tables : Tables) (district : ℕ) → IsSoundWarehouse items number tables
+      → (oldest delivery.warehouse district tables == 0) ≡ false
+      → IsSoundWarehouse items number (with_delivered delivery
+      (first_or (order_of []) (is_order delivery.warehouse district (oldest delivery.warehouse district tables)) tables.orders) tables)
+  sound-oldest tables district sound some =
+      let w : ℕ = delivery.warehouse in
+      let m : ℕ = oldest w district tables in
+      let N : List ℕ = map (λ (new : NewOrder). new.order) (new_orders_of w district tables.new_orders) in
+      let there : list_any (is_new_order w district m) tables.new_orders ≡ true =
+      in-any (λ (new : NewOrder). new.order) (λ new. (new.warehouse == w) && (new.district == district)) m tables.new_orders
+      (least-in N (least-some N some)) in
+      let new = find-any (is_new_order w district m) tables.new_orders there in
+      let has = All-find (HasOrder tables.orders) (is_new_order w district m) tables.new_orders new.0 sound.orders.new_orders new.1 in
+      let is_new = tells-three (new.0).warehouse (new.0).district (new.0).order w district m
+      (find-passes (is_new_order w district m) tables.new_orders new.0 new.1) in
+      let ordered : list_any (is_order w district m) tables.orders ≡ true = rw (is_new.0, is_new.1, is_new.2) at has in
+      let order = find-any (is_order w district m) tables.orders ordered in
+      let o : Order = order.0 in
+      let is = tells-three o.warehouse o.district o.id w district m (find-passes (is_order w district m) tables.orders o order.1) in
+      let chosen : first_or (order_of []) (is_order w district m) tables.orders ≡ o = ap (λ one. unwrap_or one (order_of [])) order.1 in
+      let finds : find (is_order o.warehouse o.district o.id) tables.orders ≡ Some o = rw (is.0, is.1, is.2) order.1 in
+      let waits : list_any (is_new_order o.warehouse o.district o.id) tables.new_orders ≡ true = rw (is.0, is.1, is.2) there in
+      let first : o.id ≡ least (map (λ (new : NewOrder). new.order) (new_orders_of o.warehouse o.district tables.new_orders)) =
+      rw (is.0, is.1) is.2 in
+      subst (λ order. IsSoundWarehouse items number (with_delivered delivery order tables)) (sym chosen)
+      (sound-with_delivered items number delivery tables o carrier moment finds waits first sound)
+
+  sound-delivered_in : (tables : Tables) (district : ℕ) → IsSoundWarehouse items number tables
+      → IsSoundWarehouse items number (delivered_in delivery tables district)
+  sound-delivered_in tables district sound =
+      elim (oldest delivery.warehouse district tables == 0) as (λ b. (oldest delivery.warehouse district tables == 0) ≡ b
+      → IsSoundWarehouse items number (cond b tables (with_delivered delivery
+      (first_or (order_of []) (is_order delivery.warehouse district (oldest delivery.warehouse district tables)) tables.orders) tables))) [
+        | true ↦ λ none. sound
+        | false ↦ λ some. sound-oldest tables district sound some
+      ] refl
+
+  -- one district after the other
+  sound-districts : (districts : List ℕ) (tables : Tables) → IsSoundWarehouse items number tables
+      → IsSoundWarehouse items number (fold (delivered_in delivery) tables districts)
+  sound-districts [] tables sound = sound
+  sound-districts (district ∷ districts) tables sound =
+      sound-districts districts (delivered_in delivery tables district) (sound-delivered_in tables district sound)
+
+  pub sound-delivered : (tables : Tables) → IsSoundWarehouse items number tables
+      → IsSoundWarehouse items number (delivered delivery tables)
+  sound-delivered tables sound = sound-districts district_numbers tables sound

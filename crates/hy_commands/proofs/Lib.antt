@@ -6,3 +6,4 @@ mod OnceLaws
 mod KeptByPayment
 mod KeptByNewOrder
 mod KeptByDelivery
+pub mod Kept

@@ -1,5 +1,5 @@
 -- What a change does to a list: of the one row that passes a test, of each that passes it, and of rows put behind.
-use Rattle.std.proofs.Common.{◌≡◌, ◌≢◌, ℕ, zero, suc, ◌+◌, ◌<◌, ℤ, pos, ◌+ℤ◌, Bool, true, false, cond, not, ◌||◌, ◌&&◌, List, [], ◌∷◌, ◌++◌, length, map, filter, Option, Some, None, refl, sym, ap, subst, ◌∙◌, arith, append_assoc}
+use Rattle.std.proofs.Common.{◌≡◌, ◌≢◌, ℕ, zero, suc, ◌+◌, ◌<◌, ℤ, pos, ◌+ℤ◌, Bool, true, false, cond, not, ◌||◌, ◌==◌, ◌&&◌, List, [], ◌∷◌, ◌++◌, length, map, filter, Option, Some, None, refl, sym, ap, subst, ◌∙◌, arith, append_assoc}
 use Rattle.std.specs.Prelude.{All, fold, is_some}
 use Rattle.std.proofs.lemmas.Bool.{both_ways}
 use Rattle.std.specs.List.{AllPairs, find, list_all, list_any, flat_map}
@@ -457,3 +457,19 @@ column_sum-once {Row = Row} column other test keep amount (row ∷ rows) once sa
           | true ↦ omega (arith, ints, here, rest, column_sum-cons column row (filter keep rows), column_sum-cons other row (filter keep rows))
           | false ↦ rest
         ]
+
+-- a key that is there among the rows that pass a test is that of a row
+pub in-any : {Row : Type 0} (key : Row → ℕ) (keep : Row → Bool) (number : ℕ) (rows : List Row)
+    → list_any (λ n. n == number) (map key (filter keep rows)) ≡ true
+    → list_any (λ row. keep row && (key row == number)) rows ≡ true
+in-any key keep number [] is = absurd (cc)
+in-any key keep number (row ∷ rows) is =
+    elim (keep row) as (λ b. list_any (λ n. n == number) (map key (cond b (row ∷ filter keep rows) (filter keep rows))) ≡ true
+    → ((b && (key row == number)) || list_any (λ row. keep row && (key row == number)) rows) ≡ true) [
+      | true ↦ λ is. elim (key row == number) as (λ t. (t || list_any (λ n. n == number) (map key (filter keep rows))) ≡ true
+        → (t || list_any (λ row. keep row && (key row == number)) rows) ≡ true) [
+          | true ↦ λ here. refl
+          | false ↦ λ later. in-any key keep number rows later
+        ] is
+      | false ↦ λ is. in-any key keep number rows is
+    ] is
