@@ -7,3 +7,4 @@ mod KeptByPayment
 mod KeptByNewOrder
 mod KeptByDelivery
 pub mod Kept
+pub mod SoundLoad

@@ -3,6 +3,7 @@
 
 mod command;
 mod reply;
+mod theorem;
 
 pub use command::{
     Command, Commit, Delivery, MAX_CARRIER, MAX_LINE_QUANTITY, MAX_NAME, MAX_NAMED, MAX_PAYMENT,
@@ -10,6 +11,7 @@ pub use command::{
     OrderStatus, Payment, Purchase, PurchaseLine, PurchaseLines, StockLevel, Who,
 };
 pub use reply::{PlacedOrder, Reply, StatusLines};
+pub use theorem::conditions_are_kept;
 
 #[cfg(test)]
 mod tests;
