@@ -1,12 +1,12 @@
 -- A delivery keeps the rows of a warehouse sound.
-use Rattle.std.proofs.Common.{◌≡◌, ◌≢◌, ℕ, zero, suc, ◌+◌, ◌-◌, ◌<◌, ◌≤◌, pos, ◌+ℤ◌, ◌==◌, ◌&&◌, ◌||◌, Bool, true, false, cond, not, ℤ, List, [], ◌∷◌, ◌++◌, map, filter, length, Option, Some, None, refl, sym, ap, ap₂, subst, ◌∙◌, arith}
+use Rattle.std.proofs.Common.{◌≡◌, ℕ, ◌<◌, pos, ◌+ℤ◌, ◌==◌, ◌&&◌, Bool, true, false, cond, not, ℤ, List, [], ◌∷◌, map, filter, length, Some, refl, sym, ap, ap₂, subst, ◌∙◌, arith}
 use Rattle.std.specs.Prelude.{All, fold, unwrap_or}
-use Rattle.std.specs.List.{find, flat_map, list_any, sum}
+use Rattle.std.specs.List.{find, list_any, sum}
 use Rattle.std.proofs.lemmas.Int.{ints}
-use Rattle.std.proofs.lemmas.Bool.{and_parts, both_ways, eq-eqb, eqb-false, eqb-true, false_from_ne_true, ne_eqb, not-false}
+use Rattle.std.proofs.lemmas.Bool.{both_ways, false_from_ne_true}
 use Rattle.std.proofs.lemmas.Bool.Decides.{nat_tests}
-use Rattle.std.proofs.lemmas.List.Elements.{All-cons, All-filter, All-head, All-map, All-nil, All-tail, All-weaker, filter_passes}
-use Rattle.hy_rows.specs.Finding.{first_or, is_customer, with_changed}
+use Rattle.std.proofs.lemmas.List.Elements.{All-filter, All-map, All-weaker, filter_passes}
+use Rattle.hy_rows.specs.Finding.{first_or, is_customer}
 use Rattle.hy_rows.specs.Rows.{order_of}
 use Rattle.hy_rows.specs.Tables.{Tables}
 use Rattle.hy_rows.specs.declared.customer.Customer.{Customer}
@@ -17,15 +17,15 @@ use Rattle.hy_rows.specs.declared.order.Order.{Order}
 use Rattle.hy_rows.specs.declared.order_line.OrderLine.{OrderLine}
 use Rattle.hy_schema.specs.Conditions.{column_sum, delivered_amount, least, new_order_numbers, order_numbers}
 use Rattle.hy_schema.specs.Keys.{AreUnique, IsOneWarehouse, customer_key, district_numbers}
-use Rattle.hy_schema.specs.Related.{is_delivered, is_line_of, is_new_order, is_new_order_of, is_order, is_order_by, is_undelivered, lines_of, lines_of_district, new_orders_of, orders_by, orders_of}
+use Rattle.hy_schema.specs.Related.{is_delivered, is_line_of, is_new_order, is_new_order_of, is_order, is_order_by, is_undelivered, lines_of, lines_of_district, new_orders_of, orders_by}
 use Rattle.hy_schema.proofs.ChangedLists.{All-with_changed, map-with_changed}
 use Rattle.hy_schema.proofs.ConditionLaws.{filter-implied}
 use Rattle.hy_commands.specs.declared.command.Delivery.{Delivery}
 use Rattle.hy_commands.specs.Deliveries.{carried, customer_delivered, delivered, delivered_in, delivered_line, oldest, order_cents, with_delivered}
 use Rattle.hy_commands.specs.Invariant.{HasOrder, HasOrderAndItem, HasOwnOrders, IsOwnOrder, IsSoundWarehouse, line_key, new_order_key, order_key}
-use Rattle.hy_commands.proofs.ListLaws.{All-changed_once, All-find, All-of_both, any-filter-none, any-filter-same, column_sum-by_values, column_sum-flat_map, column_sum-once, filter-all, filter-map, filter-none, find-any, find-passes, in-any, length-map, list_any-with_changed, map-filter-again, map-filter-with_changed, map-map, map-same, map-same_on, unique-filter}
+use Rattle.hy_commands.proofs.ListLaws.{All-changed_once, All-find, any-filter-none, any-filter-same, column_sum-by_values, column_sum-flat_map, column_sum-once, filter-all, filter-map, filter-none, find-any, find-passes, in-any, length-map, list_any-with_changed, map-filter-again, map-filter-with_changed, map-map, map-same, map-same_on, unique-filter}
 use Rattle.hy_commands.proofs.MeetsLaws.{CarriedOrNew, CountsDistrict, CountsLines, DeliveredWithLines, IsBalanced, Meets, NumbersInRow, meets-facts, meets-tests}
-use Rattle.hy_commands.proofs.NumberLaws.{AreInRow, in_row-taken, is_in, least-in, others}
+use Rattle.hy_commands.proofs.NumberLaws.{AreInRow, in_row-taken, least-in, others}
 use Rattle.hy_commands.proofs.OnceLaws.{once-customer, once-order, passes-three, tells-three, tells-two}
 
 module _ (items : List Item) (number : ℕ) (delivery : Delivery) (tables : Tables) (o : Order) (carrier : (delivery.carrier == 0) ≡ false) (moment : (delivery.at == 0) ≡ false) (finds : find (is_order o.warehouse o.district o.id) tables.orders ≡ Some o) (waits : is_undelivered tables.new_orders o ≡ true) (first : o.id ≡ least (map (λ row. row.order) (new_orders_of o.warehouse o.district tables.new_orders))) (sound : IsSoundWarehouse items number tables) where

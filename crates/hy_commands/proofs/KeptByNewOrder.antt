@@ -1,17 +1,15 @@
 -- A purchase keeps the rows of a warehouse sound.
-use Rattle.std.proofs.Common.{◌≡◌, ◌≢◌, ℕ, zero, suc, ◌+◌, ◌-◌, ◌<◌, ◌≤◌, ◌+ℤ◌, ◌==◌, ◌&&◌, ◌||◌, Bool, true, false, cond, List, [], ◌∷◌, ◌++◌, map, filter, length, Option, Some, None, refl, sym, ap, ap₂, subst, ◌∙◌, arith, length-append}
+use Rattle.std.proofs.Common.{◌≡◌, ◌≢◌, ℕ, suc, ◌+◌, ◌<◌, ◌==◌, ◌&&◌, ◌||◌, Bool, true, false, cond, List, [], ◌∷◌, ◌++◌, map, filter, length, Some, refl, sym, ap, ap₂, subst, ◌∙◌, arith, length-append}
 use Rattle.std.specs.Prelude.{All, unwrap_or}
 use Rattle.std.specs.List.{find, flat_map, list_all, list_any, sum}
-use Rattle.std.proofs.lemmas.Int.{ints}
-use Rattle.std.proofs.lemmas.Bool.{and_parts, both_ways, eq-eqb, eqb-true, false_from_ne_true, or_from, or_left, or_right}
+use Rattle.std.proofs.lemmas.Bool.{and_parts, both_ways, eqb-true, false_from_ne_true, or_left, or_right}
 use Rattle.std.proofs.lemmas.Bool.Decides.{nat_tests}
 use Rattle.std.proofs.lemmas.List.{append-nil}
-use Rattle.std.proofs.lemmas.List.Elements.{All-append, All-cons, All-filter, All-head, All-map, All-nil, All-push, All-tail, All-weaker, filter-append}
+use Rattle.std.proofs.lemmas.List.Elements.{All-append, All-cons, All-filter, All-map, All-nil, All-push, All-weaker, filter-append}
 use Rattle.std.proofs.lemmas.List.Folds.{list_any-append}
 use Rattle.std.proofs.lemmas.List.Kept.{AllPairs-cons}
 use Rattle.std.proofs.lemmas.List.Sums.{sum_by_push}
-use Rattle.hy_rows.specs.Finding.{first_or, is_customer, is_district, with_changed}
-use Rattle.hy_rows.specs.Ranges.{IsBetween}
+use Rattle.hy_rows.specs.Finding.{is_customer, is_district}
 use Rattle.hy_rows.specs.Rows.{district_of}
 use Rattle.hy_rows.specs.Tables.{Tables}
 use Rattle.hy_rows.specs.declared.customer.Customer.{Customer}
@@ -20,8 +18,7 @@ use Rattle.hy_rows.specs.declared.item.Item.{Item}
 use Rattle.hy_rows.specs.declared.new_order.NewOrder.{NewOrder}
 use Rattle.hy_rows.specs.declared.order.Order.{Order}
 use Rattle.hy_rows.specs.declared.order_line.OrderLine.{OrderLine}
-use Rattle.hy_rows.specs.declared.warehouse.Warehouse.{Warehouse}
-use Rattle.hy_schema.specs.Conditions.{column_sum, delivered_amount, new_order_numbers, order_numbers, ytd_of_districts}
+use Rattle.hy_schema.specs.Conditions.{column_sum, delivered_amount, new_order_numbers, order_numbers}
 use Rattle.hy_schema.specs.Keys.{AreUnique, HasUniqueKeys, IsOneWarehouse, district_key}
 use Rattle.hy_schema.specs.Related.{is_delivered, is_line_of, is_new_order_of, is_order, is_order_by, is_undelivered, lines_of, lines_of_district, orders_by, orders_of}
 use Rattle.hy_schema.proofs.ChangedLists.{All-with_changed, map-with_changed}
@@ -98,9 +95,11 @@ orders-below items number warehouse district tables row sound found =
     let is = tells-two row.warehouse row.id warehouse district
     (find-passes (is_district warehouse district) tables.districts row found) in
     let below = in_row-below row.next_order (order_numbers tables.orders row) (new_order_numbers tables.new_orders row) some in_row in
-    let each = All-map_filter (λ id. id < row.next_order) (λ (order : Order). order.id) (In row.warehouse row.id) tables.orders below in
-    (some, subst (λ d. All (λ order. In warehouse d order ≡ true → order.id < row.next_order) tables.orders) is.1
-    (subst (λ w. All (λ order. In w row.id order ≡ true → order.id < row.next_order) tables.orders) is.0 each))
+    let each = All-map_filter (λ id. id < row.next_order) (λ (order : Order). order.id) (In row.warehouse row.id) tables.orders below in (
+      some,
+      subst (λ d. All (λ order. In warehouse d order ≡ true → order.id < row.next_order) tables.orders) is.1
+          (subst (λ w. All (λ order. In w row.id order ≡ true → order.id < row.next_order) tables.orders) is.0 each),
+    )
 
 -- ---- a purchase
 
@@ -252,6 +251,7 @@ module _ (items : List Item) (number : ℕ) (order : Purchase) (tables : Tables)
           both_ways ((a == w) && (b == d) && (c == n)) other
           (passes-three a b c w d n (ap (λ (key : ℕ × ℕ × ℕ). key.0) same) (ap (λ (key : ℕ × ℕ × ℕ). key.1) same)
           (ap (λ (key : ℕ × ℕ × ℕ). key.2) same))
+
       differ_line : (a b c place other : ℕ) → ((a == w) && (b == d) && (c == n)) ≡ false
           → ◌≡◌ {A = ℕ × ℕ × ℕ × ℕ} (a, b, c, place) (w, d, n, other) → ⊥
       differ_line a b c place other apart same =

@@ -1,23 +1,21 @@
 -- A payment keeps the rows of a warehouse sound.
-use Rattle.std.proofs.Common.{◌≡◌, ◌≢◌, ℕ, ◌+◌, ◌<◌, ℤ, pos, ◌+ℤ◌, ◌-ℤ◌, ◌==◌, ◌&&◌, Bool, true, false, cond, List, [], ◌∷◌, ◌++◌, map, filter, Option, Some, None, refl, sym, ap, subst, ◌∙◌, arith}
+use Rattle.std.proofs.Common.{◌≡◌, ℕ, ◌<◌, ℤ, pos, ◌+ℤ◌, ◌==◌, ◌&&◌, Bool, true, false, cond, List, [], ◌∷◌, ◌++◌, filter, Some, refl, sym, ap, subst, ◌∙◌, arith}
 use Rattle.std.specs.Prelude.{All}
-use Rattle.std.specs.List.{find, list_any}
+use Rattle.std.specs.List.{find}
 use Rattle.std.proofs.lemmas.Int.{ints}
-use Rattle.std.proofs.lemmas.Bool.{and_parts, eq-eqb, eqb-true}
+use Rattle.std.proofs.lemmas.Bool.{eq-eqb}
 use Rattle.std.proofs.lemmas.Bool.Decides.{nat_tests}
 use Rattle.std.proofs.lemmas.List.Elements.{All-nil, All-cons, All-weaker, filter-append}
-use Rattle.hy_rows.specs.Finding.{is_customer, is_district, is_warehouse, with_changed}
+use Rattle.hy_rows.specs.Finding.{is_customer, is_district, is_warehouse}
 use Rattle.hy_rows.specs.Ranges.{IsBetween}
 use Rattle.hy_rows.specs.Tables.{Tables}
 use Rattle.hy_rows.specs.declared.customer.Customer.{Customer}
 use Rattle.hy_rows.specs.declared.district.District.{District}
 use Rattle.hy_rows.specs.declared.history.History.{History}
 use Rattle.hy_rows.specs.declared.item.Item.{Item}
-use Rattle.hy_rows.specs.declared.order.Order.{Order}
 use Rattle.hy_rows.specs.declared.warehouse.Warehouse.{Warehouse}
-use Rattle.hy_schema.specs.Conditions.{column_sum, paid_amount, ytd_of_districts}
+use Rattle.hy_schema.specs.Conditions.{paid_amount, ytd_of_districts}
 use Rattle.hy_schema.specs.Keys.{AreUnique, HasUniqueKeys, IsOneWarehouse, customer_key, district_key}
-use Rattle.hy_schema.specs.Related.{payments_in, payments_in_district}
 use Rattle.hy_schema.proofs.ChangedLists.{All-with_changed, column_sum-changed, finds-key, map-with_changed}
 use Rattle.hy_schema.proofs.KeptConditionLaws.{finds-district}
 use Rattle.hy_schema.proofs.KeyLaws.{HasUniqueKeys-one_warehouse}

@@ -1,8 +1,8 @@
 -- What a change does to a list: of the one row that passes a test, of each that passes it, and of rows put behind.
-use Rattle.std.proofs.Common.{◌≡◌, ◌≢◌, ℕ, zero, suc, ◌+◌, ◌<◌, ℤ, pos, ◌+ℤ◌, Bool, true, false, cond, not, ◌||◌, ◌==◌, ◌&&◌, List, [], ◌∷◌, ◌++◌, length, map, filter, Option, Some, None, refl, sym, ap, subst, ◌∙◌, arith, append_assoc}
+use Rattle.std.proofs.Common.{◌≡◌, ◌≢◌, ℕ, suc, ℤ, pos, ◌+ℤ◌, Bool, true, false, cond, ◌||◌, ◌==◌, ◌&&◌, List, [], ◌∷◌, ◌++◌, length, map, filter, Some, refl, sym, ap, subst, ◌∙◌, arith, append_assoc}
 use Rattle.std.specs.Prelude.{All, fold, is_some}
 use Rattle.std.proofs.lemmas.Bool.{both_ways}
-use Rattle.std.specs.List.{AllPairs, find, list_all, list_any, flat_map}
+use Rattle.std.specs.List.{find, list_any, flat_map}
 use Rattle.std.proofs.lemmas.Int.{ints}
 use Rattle.std.proofs.lemmas.List.Elements.{All-append, All-nil, All-cons, All-head, All-tail, filter-append}
 use Rattle.std.proofs.lemmas.List.Kept.{AllPairs-cons}
@@ -10,7 +10,6 @@ use Rattle.std.proofs.lemmas.List.Quantifiers.{all_pairs_push}
 use Rattle.hy_rows.specs.Finding.{with_changed}
 use Rattle.hy_schema.specs.Conditions.{column_sum}
 use Rattle.hy_schema.specs.Keys.{AreUnique}
-use Rattle.hy_commands.specs.Sorting.{with_all_changed}
 
 -- of two rows at different places at most one passes the test
 abbrev pub Once : {Row : Type 0} → (Row → Bool) → List Row → Type 0
@@ -29,9 +28,10 @@ pub once-unique : {Row Key : Type 0} (key : Row → Key) (test : Row → Bool)
     → ((row other : Row) → test row ≡ true → key row ≢ key other → test other ≡ false)
     → (rows : List Row) → AreUnique (map key rows) → Once test rows
 once-unique key test apart [] unique = tt
-once-unique {Row = Row} key test apart (row ∷ rows) unique =
-    (λ passes. fails passes rows (unique-head (key row) (map key rows) unique),
-      once-unique key test apart rows (unique-tail (key row) (map key rows) unique))
+once-unique {Row = Row} key test apart (row ∷ rows) unique = (
+  λ passes. fails passes rows (unique-head (key row) (map key rows) unique),
+  once-unique key test apart rows (unique-tail (key row) (map key rows) unique),
+)
   where
     fails : test row ≡ true → (others : List Row) → All (λ other. key row ≢ other) (map key others)
         → All (λ other. test other ≡ false) others
@@ -363,21 +363,21 @@ map-filter-again {Row = Row} key keep also test agrees (row ∷ rows) =
     → map key (filter keep (cond (also row) (row ∷ filter also rows) (filter also rows)))
     ≡ filter test (map key (cond b (row ∷ filter keep rows) (filter keep rows)))) [
       | true ↦ λ kept. elim (also row) as (λ c. also row ≡ c
-        → map key (filter keep (cond c (row ∷ filter also rows) (filter also rows)))
-        ≡ filter test (key row ∷ map key (filter keep rows))) [
-          | true ↦ λ passes.
-              let tested : test (key row) ≡ true = sym (agrees row kept) ∙ passes in
-              rw (kept, tested) (ap (λ keys. key row ∷ keys) later)
-          | false ↦ λ fails.
-              let tested : test (key row) ≡ false = sym (agrees row kept) ∙ fails in
-              rw tested later
-        ] refl
+          → map key (filter keep (cond c (row ∷ filter also rows) (filter also rows)))
+          ≡ filter test (key row ∷ map key (filter keep rows))) [
+            | true ↦ λ passes.
+                let tested : test (key row) ≡ true = sym (agrees row kept) ∙ passes in
+                rw (kept, tested) (ap (λ keys. key row ∷ keys) later)
+            | false ↦ λ fails.
+                let tested : test (key row) ≡ false = sym (agrees row kept) ∙ fails in
+                rw tested later
+          ] refl
       | false ↦ λ left. elim (also row) as (λ c.
-        map key (filter keep (cond c (row ∷ filter also rows) (filter also rows)))
-        ≡ filter test (map key (filter keep rows))) [
-          | true ↦ rw left later
-          | false ↦ later
-        ]
+          map key (filter keep (cond c (row ∷ filter also rows) (filter also rows)))
+          ≡ filter test (map key (filter keep rows))) [
+            | true ↦ rw left later
+            | false ↦ later
+          ]
     ] refl
 
 -- whether a row passes, among those that a filter leaves
@@ -467,9 +467,9 @@ in-any key keep number (row ∷ rows) is =
     elim (keep row) as (λ b. list_any (λ n. n == number) (map key (cond b (row ∷ filter keep rows) (filter keep rows))) ≡ true
     → ((b && (key row == number)) || list_any (λ row. keep row && (key row == number)) rows) ≡ true) [
       | true ↦ λ is. elim (key row == number) as (λ t. (t || list_any (λ n. n == number) (map key (filter keep rows))) ≡ true
-        → (t || list_any (λ row. keep row && (key row == number)) rows) ≡ true) [
-          | true ↦ λ here. refl
-          | false ↦ λ later. in-any key keep number rows later
-        ] is
+          → (t || list_any (λ row. keep row && (key row == number)) rows) ≡ true) [
+            | true ↦ λ here. refl
+            | false ↦ λ later. in-any key keep number rows later
+          ] is
       | false ↦ λ is. in-any key keep number rows is
     ] is

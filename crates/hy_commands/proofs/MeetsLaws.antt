@@ -1,5 +1,5 @@
 -- The consistency conditions of a warehouse as facts on its rows, there and back.
-use Rattle.std.proofs.Common.{◌≡◌, ℕ, ◌+◌, ◌-◌, ◌<◌, ◌+ℤ◌, ◌==◌, Bool, true, false, cond, List, [], ◌∷◌, map, filter, length, refl, sym, ap, subst, ◌∙◌, arith}
+use Rattle.std.proofs.Common.{◌≡◌, ℕ, ◌+◌, ◌-◌, ◌<◌, ◌+ℤ◌, ◌==◌, Bool, true, false, cond, List, [], ◌∷◌, map, length, refl, sym, subst, arith}
 use Rattle.std.specs.Prelude.{All}
 use Rattle.std.specs.Bool.{Decides}
 use Rattle.std.specs.List.{list_all, sum}

@@ -1,8 +1,8 @@
 -- The greatest and the least of some numbers that differ, as a number is put behind or the least is taken out.
 use Rattle.std.proofs.Common.{◌≡◌, ◌≢◌, ℕ, zero, suc, ◌+◌, ◌-◌, ◌<◌, ◌≤◌, ◌==◌, ◌⊎◌, inl, inr, Bool, true, false, cond, not, ◌||◌, List, [], ◌∷◌, ◌++◌, length, filter, refl, sym, ap, subst, ◌∙◌, arith, max, min, length-append}
 use Rattle.std.specs.Prelude.{All, fold}
-use Rattle.std.specs.List.{AllPairs, list_any}
-use Rattle.std.proofs.lemmas.Bool.{eqb-true, eqb-false, eq-eqb, ne_eqb, or_cases}
+use Rattle.std.specs.List.{list_any}
+use Rattle.std.proofs.lemmas.Bool.{eqb-true, eqb-false, ne_eqb, or_cases}
 use Rattle.std.proofs.lemmas.Bool.Decides.{nat_tests}
 use Rattle.std.proofs.lemmas.List.Elements.{All-nil, All-cons, All-head, All-tail, All-filter, All-weaker}
 use Rattle.std.proofs.lemmas.List.Kept.{AllPairs-filter}
@@ -245,6 +245,7 @@ in_row-push next orders news some row = record {
         at : (news : List ℕ) → AreInRow next orders news → greatest news ≤ next
         at [] row = omega arith
         at (n ∷ news) row = let is = row.behind_new (omega arith) in omega (arith, is)
+
     from : (news : List ℕ) → AreInRow next orders news → greatest news ≤ next
         → greatest (news ++ next ∷ []) - least (news ++ next ∷ []) + 1 ≡ length (news ++ next ∷ [])
     from [] row top = omega arith

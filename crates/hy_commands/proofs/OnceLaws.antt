@@ -1,17 +1,16 @@
 -- A test of a key passes once among rows whose keys differ.
-use Rattle.std.proofs.Common.{◌≡◌, ◌≢◌, ℕ, ◌==◌, ◌&&◌, Bool, true, false, List, [], ◌∷◌, map, refl, sym, ap, ap₂, subst, ◌∙◌, arith}
+use Rattle.std.proofs.Common.{◌≡◌, ℕ, ◌==◌, ◌&&◌, Bool, true, List, [], ◌∷◌, map, refl, sym, ap₂, ◌∙◌}
 use Rattle.std.specs.Prelude.{All}
 use Rattle.std.proofs.lemmas.Bool.{and_parts, eqb-true, eq-eqb, false_from_ne_true}
 use Rattle.std.proofs.lemmas.List.Elements.{All-nil, All-cons, All-head, All-tail}
 use Rattle.hy_rows.specs.Finding.{is_customer, is_district, is_warehouse}
 use Rattle.hy_rows.specs.declared.customer.Customer.{Customer}
 use Rattle.hy_rows.specs.declared.district.District.{District}
-use Rattle.hy_rows.specs.declared.new_order.NewOrder.{NewOrder}
 use Rattle.hy_rows.specs.declared.order.Order.{Order}
 use Rattle.hy_rows.specs.declared.warehouse.Warehouse.{Warehouse}
 use Rattle.hy_schema.specs.Keys.{AreUnique, customer_key, district_key}
-use Rattle.hy_schema.specs.Related.{is_new_order, is_order}
-use Rattle.hy_commands.specs.Invariant.{new_order_key, order_key}
+use Rattle.hy_schema.specs.Related.{is_order}
+use Rattle.hy_commands.specs.Invariant.{order_key}
 use Rattle.hy_commands.proofs.ListLaws.{Once, once-unique}
 
 -- a test that only rows with one key pass

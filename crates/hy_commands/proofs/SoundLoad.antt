@@ -1,28 +1,24 @@
 -- The rows of each warehouse of a load are sound.
-use Rattle.std.proofs.Common.{◌≡◌, ◌≢◌, ℕ, zero, suc, ◌+◌, ◌<◌, ◌==◌, ◌&&◌, ◌||◌, Bool, true, false, cond, not, List, [], ◌∷◌, map, filter, length, take, slice_get, IfSome, Option, Some, None, refl, sym, ap, subst, ◌∙◌, arith}
-use Rattle.std.specs.Prelude.{All, find}
+use Rattle.std.proofs.Common.{◌≡◌, ◌≢◌, ℕ, zero, suc, ◌<◌, ◌==◌, ◌&&◌, Bool, true, false, List, [], ◌∷◌, map, length, take, slice_get, IfSome, None, refl, sym, ap, subst, ◌∙◌, arith}
+use Rattle.std.specs.Prelude.{All}
 use Rattle.std.specs.List.{list_all, list_any, sum}
-use Rattle.std.proofs.lemmas.Bool.{and_parts, both_ways, eq-eqb, eqb-true, false_from_ne_true, or_parts}
+use Rattle.std.proofs.lemmas.Bool.{and_parts, both_ways, eq-eqb, eqb-true, or_parts}
 use Rattle.std.proofs.lemmas.Bool.Decides.{nat_tests}
-use Rattle.std.proofs.lemmas.List.Elements.{All-cons, All-filter, All-head, All-map, All-nil, All-tail, All-weaker}
+use Rattle.std.proofs.lemmas.List.Elements.{All-cons, All-filter, All-map, All-nil}
 use Rattle.std.proofs.lemmas.List.Kept.{AllPairs-cons}
 use Rattle.std.proofs.lemmas.Option.{IfSome_then}
 use Rattle.hy_rows.specs.Finding.{is_customer}
 use Rattle.hy_rows.specs.Ranges.{IsBetween}
 use Rattle.hy_rows.specs.Tables.{Lists, Tables, of_warehouse}
-use Rattle.hy_rows.specs.declared.customer.Customer.{Customer}
 use Rattle.hy_rows.specs.declared.district.District.{District}
-use Rattle.hy_rows.specs.declared.history.History.{History}
-use Rattle.hy_rows.specs.declared.item.Item.{Item}
 use Rattle.hy_rows.specs.declared.new_order.NewOrder.{NewOrder}
 use Rattle.hy_rows.specs.declared.order.Order.{Order}
 use Rattle.hy_rows.specs.declared.order_line.OrderLine.{OrderLine}
-use Rattle.hy_rows.specs.declared.warehouse.Warehouse.{Warehouse}
 use Rattle.hy_rows.proofs.BetweenLaws.{bounds}
-use Rattle.hy_schema.specs.Conditions.{column_sum, conditions, first_broken, is_consistent, new_order_numbers, order_numbers, paid_amount, ytd_of_districts}
+use Rattle.hy_schema.specs.Conditions.{column_sum, conditions, first_broken, new_order_numbers, order_numbers, paid_amount}
 use Rattle.hy_schema.specs.Keys.{AreUnique}
 use Rattle.hy_schema.specs.Loads.{IsDistrictAt, IsLoad, IsNewOrderAt, IsOrderAt, IsOrderLineAt}
-use Rattle.hy_schema.specs.Related.{is_item, is_line, is_line_of, is_new_order, is_new_order_of, is_order, is_undelivered, lines_of, lines_of_district, orders_of, payments_in, payments_in_district}
+use Rattle.hy_schema.specs.Related.{is_line, is_line_of, is_new_order, is_new_order_of, is_order, lines_of}
 use Rattle.hy_schema.proofs.ChangedLists.{All-passing_also}
 use Rattle.hy_schema.proofs.ConditionLaws.{consistent-unbroken, delivered-own, filter-implied}
 use Rattle.hy_schema.proofs.KeyLaws.{IsOneWarehouse-load}
@@ -30,7 +26,7 @@ use Rattle.hy_commands.specs.Invariant.{HasOrder, HasOrderAndItem, HasOwnOrders,
 use Rattle.hy_commands.proofs.ListLaws.{any-filter-same, unique-filter}
 use Rattle.hy_commands.proofs.MeetsLaws.{CarriedOrNew, CountsDistrict, CountsLines, DeliveredWithLines, IsBalanced, Meets, NumbersInRow, PaidIn, PaidInDistrict, SumsDistricts, meets-facts, meets-tests}
 use Rattle.hy_commands.proofs.NumberLaws.{AreInRow}
-use Rattle.hy_commands.proofs.OnceLaws.{passes-three, tells-two}
+use Rattle.hy_commands.proofs.OnceLaws.{passes-three}
 
 -- ---- the conditions of a load
 

@@ -11,11 +11,8 @@ ghost use Rattle.hy_commands.specs.Replay.{replay};
 /// Does nothing: its contract says that the rows of each warehouse of a load, after each list of commits, are those of
 /// one warehouse with complete orders, and meet the consistency conditions 1 to 9 and 12 (TPC-C clause 3.3.2).
 pub fn conditions_are_kept()
-    ensures {
-        (lists : Lists) (number : ℕ) (commits : List Commit) → IsLoad lists
+    ensures { (lists : Lists) (number : ℕ) (commits : List Commit) → IsLoad lists
         → IsBetween 1 (length lists.tables.warehouses) number
         → IsSoundWarehouse lists.items number
-        (replay lists.items number (of_warehouse number lists.tables) commits)
-    }
-{
-}
+        (replay lists.items number (of_warehouse number lists.tables) commits) }
+{}
