@@ -1,11 +1,12 @@
 -- What is known of a command that isn't refused.
-use Rattle.std.proofs.Common.{◌≡◌, ℕ, ◌==◌, ◌||◌, Bool, true, false, cond, not, List, [], ◌∷◌, ◌++◌, Option, Some, None, refl, sym, ◌∙◌}
-use Rattle.std.specs.Prelude.{fold}
+use Rattle.std.proofs.Common.{◌≡◌, ℕ, ◌==◌, ◌&&◌, ◌||◌, inl, inr, Bool, true, false, cond, not, List, [], ◌∷◌, ◌++◌, length, Option, Some, None, refl, sym, ◌∙◌}
+use Rattle.std.specs.Prelude.{All, fold}
 use Rattle.std.specs.List.{list_all, list_any}
 use Rattle.std.specs.Option.{option_or}
-use Rattle.std.proofs.lemmas.Bool.{and_parts, eqb-true}
+use Rattle.std.proofs.lemmas.Bool.{and_parts, eqb-true, or_cases}
+use Rattle.std.proofs.lemmas.List.Elements.{All-cons, All-nil}
 use Rattle.std.proofs.lemmas.List.Folds.{list_all-append}
-use Rattle.hy_rows.specs.Ranges.{IsBetween}
+use Rattle.hy_rows.specs.Ranges.{IsBetween, is_between}
 use Rattle.hy_rows.specs.Tables.{Tables}
 use Rattle.hy_rows.specs.declared.item.Item.{Item}
 use Rattle.hy_schema.specs.declared.refusal.Refusal.{Refusal}
@@ -15,7 +16,7 @@ use Rattle.hy_commands.specs.declared.command.Delivery.{Delivery}
 use Rattle.hy_commands.specs.declared.command.Payment.{Payment}
 use Rattle.hy_commands.specs.declared.command.Purchase.{Purchase}
 use Rattle.hy_commands.specs.declared.command.PurchaseLine.{PurchaseLine}
-use Rattle.hy_commands.specs.Commands.{is_in_range, warehouses_of, with_named}
+use Rattle.hy_commands.specs.Commands.{is_in_range, is_line_in_range, is_moment, is_who, warehouses_of, with_named}
 use Rattle.hy_commands.specs.Transactions.{begin_refusal_of, has_customer, has_districts, has_items, refusal_of}
 
 -- one test of a chain
@@ -48,6 +49,39 @@ named-lines test [] named all = all
 named-lines test (line ∷ lines) named all =
     named-before test named line.supply_warehouse
     (named-lines test lines (with_named named line.supply_warehouse) all)
+
+-- what holds of each name holds of the one that is put behind, and of the supplier of each line
+named-last : (number : ℕ) (named : List ℕ) (one : ℕ) → list_all (λ named. named == number) (with_named named one) ≡ true
+    → one ≡ number
+named-last number named one all =
+    elim (list_any (λ other. other == one) named) as (λ b. list_any (λ other. other == one) named ≡ b
+    → list_all (λ named. named == number) (cond b named (named ++ one ∷ [])) ≡ true → one ≡ number) [
+      | true ↦ λ there all. among named there all
+      | false ↦ λ new all.
+          let last = (and_parts (list_all (λ named. named == number) named) (list_all (λ named. named == number) (one ∷ []))
+          (sym (list_all-append (λ named. named == number) named (one ∷ [])) ∙ all)).1 in
+          eqb-true one number (and_parts (one == number) true last).0
+    ] refl all
+  where
+    among : (named : List ℕ) → list_any (λ other. other == one) named ≡ true → list_all (λ named. named == number) named ≡ true
+        → one ≡ number
+    among [] there all = absurd (cc)
+    among (other ∷ named) there all =
+        let both = and_parts (other == number) (list_all (λ named. named == number) named) all in
+        elim (or_cases (other == one) (list_any (λ other. other == one) named) there) [
+          | inl here ↦ sym (eqb-true other one here) ∙ eqb-true other number both.0
+          | inr later ↦ among named later both.1
+        ]
+
+named-suppliers : (number : ℕ) (lines : List PurchaseLine) (named : List ℕ)
+    → list_all (λ named. named == number) (fold (λ named (line : PurchaseLine). with_named named line.supply_warehouse) named lines) ≡ true
+    → All (λ line. line.supply_warehouse ≡ number) lines
+named-suppliers number [] named all = All-nil (λ line. line.supply_warehouse ≡ number)
+named-suppliers number (line ∷ lines) named all =
+    All-cons (λ line. line.supply_warehouse ≡ number) line lines
+    (named-last number named line.supply_warehouse
+    (named-lines (λ named. named == number) lines (with_named named line.supply_warehouse) all))
+    (named-suppliers number lines (with_named named line.supply_warehouse) all)
 
 -- the home warehouse is the one that acts, and so is that of a payment's customer
 home-purchase : (number : ℕ) (order : Purchase)
@@ -102,15 +136,28 @@ accepted-not_refused items number command tables none =
 pub record IsAcceptedPurchase (number : ℕ) (order : Purchase) : Type 0 where
   pub home : order.warehouse ≡ number
   pub district : IsBetween 1 10 order.district
+  pub count : IsBetween 5 15 (length order.lines)
+  pub in_range : list_all is_line_in_range order.lines ≡ true
+  pub moment : IsBetween 1 1_000_000_000_000_000 order.at
+  pub suppliers : All (λ line. line.supply_warehouse ≡ number) order.lines
 
 pub accepted-purchase : (items : List Item) (number : ℕ) (order : Purchase) (tables : Tables)
     → IsAccepted items number (commands.NewOrder order) tables → IsAcceptedPurchase number order
-accepted-purchase items number order tables accepted = record {
-  home = home-purchase number order accepted.named;
-  district = accepted.districts;
-}
+accepted-purchase items number order tables accepted =
+    let parts = and_parts (is_between 5 15 (length order.lines) && list_all is_line_in_range order.lines) (is_moment order.at) accepted.in_range in
+    let lines = and_parts (is_between 5 15 (length order.lines)) (list_all is_line_in_range order.lines) parts.0 in
+    record {
+      home = home-purchase number order accepted.named;
+      district = accepted.districts;
+      count = lines.0;
+      in_range = lines.1;
+      moment = parts.1;
+      suppliers = named-suppliers number order.lines (order.warehouse ∷ []) accepted.named;
+    }
 
 pub record IsAcceptedPayment (number : ℕ) (payment : Payment) : Type 0 where
+  pub amount : IsBetween 100 500_000 payment.amount
+  pub moment : IsBetween 1 1_000_000_000_000_000 payment.at
   pub home : payment.warehouse ≡ number
   pub customer_home : payment.customer_warehouse ≡ number
   pub district : IsBetween 1 10 payment.district
@@ -119,7 +166,15 @@ pub accepted-payment : (items : List Item) (number : ℕ) (payment : Payment) (t
     → IsAccepted items number (commands.Payment payment) tables → IsAcceptedPayment number payment
 accepted-payment items number payment tables accepted =
     let homes = home-payment number payment accepted.named in
-    record { home = homes.0; customer_home = homes.1; district = (and_parts _ _ accepted.districts).0 }
+    let parts = and_parts (is_between 100 500_000 payment.amount && is_moment payment.at) (is_who payment.who) accepted.in_range in
+    let numbers = and_parts (is_between 100 500_000 payment.amount) (is_moment payment.at) parts.0 in
+    record {
+      amount = numbers.0;
+      moment = numbers.1;
+      home = homes.0;
+      customer_home = homes.1;
+      district = (and_parts _ _ accepted.districts).0;
+    }
 
 pub record IsAcceptedDelivery (number : ℕ) (delivery : Delivery) : Type 0 where
   pub home : delivery.warehouse ≡ number

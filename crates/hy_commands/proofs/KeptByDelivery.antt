@@ -310,13 +310,19 @@ least-some : (numbers : List ℕ) → (least numbers == 0) ≡ false → 0 < len
 least-some [] differs = absurd (cc)
 least-some (n ∷ numbers) differs = omega arith
 
-module _ (items : List Item) (number : ℕ) (delivery : Delivery) (carrier : (delivery.carrier == 0) ≡ false) (moment : (delivery.at == 0) ≡ false) where
-  -- the oldest undelivered order of a district is delivered
-  sound-oldest : (tables : Tables) (district : ℕ) → IsSoundWarehouse items number tables
-      → (oldest delivery.warehouse district tables == 0) ≡ false
-      → IsSoundWarehouse items number (with_delivered delivery
-      (first_or (order_of []) (is_order delivery.warehouse district (oldest delivery.warehouse district tables)) tables.orders) tables)
-  sound-oldest tables district sound some =
+-- the order that is delivered in a district
+pub record IsOldest (delivery : Delivery) (tables : Tables) (district : ℕ) (order : Order) : Type 0 where
+  pub chosen :
+      first_or (order_of []) (is_order delivery.warehouse district (oldest delivery.warehouse district tables)) tables.orders ≡ order
+  pub finds : find (is_order order.warehouse order.district order.id) tables.orders ≡ Some order
+  pub waits : is_undelivered tables.new_orders order ≡ true
+  pub first : order.id ≡ least (map (λ row. row.order) (new_orders_of order.warehouse order.district tables.new_orders))
+
+module _ (items : List Item) (number : ℕ) (delivery : Delivery) where
+  -- it is there
+  pub oldest-there : (tables : Tables) (district : ℕ) → IsSoundWarehouse items number tables
+      → (oldest delivery.warehouse district tables == 0) ≡ false → (order : Order) × IsOldest delivery tables district order
+  oldest-there tables district sound some =
       let w : ℕ = delivery.warehouse in
       let m : ℕ = oldest w district tables in
       let N : List ℕ = map (λ (new : NewOrder). new.order) (new_orders_of w district tables.new_orders) in
@@ -331,31 +337,33 @@ module _ (items : List Item) (number : ℕ) (delivery : Delivery) (carrier : (de
       let order = find-any (is_order w district m) tables.orders ordered in
       let o : Order = order.0 in
       let is = tells-three o.warehouse o.district o.id w district m (find-passes (is_order w district m) tables.orders o order.1) in
-      let chosen : first_or (order_of []) (is_order w district m) tables.orders ≡ o = ap (λ one. unwrap_or one (order_of [])) order.1 in
       let finds : find (is_order o.warehouse o.district o.id) tables.orders ≡ Some o = rw (is.0, is.1, is.2) order.1 in
       let waits : list_any (is_new_order o.warehouse o.district o.id) tables.new_orders ≡ true = rw (is.0, is.1, is.2) there in
       let first : o.id ≡ least (map (λ (new : NewOrder). new.order) (new_orders_of o.warehouse o.district tables.new_orders)) =
       rw (is.0, is.1) is.2 in
-      subst (λ order. IsSoundWarehouse items number (with_delivered delivery order tables)) (sym chosen)
-      (sound-with_delivered items number delivery tables o carrier moment finds waits first sound)
+      (o, record { chosen = ap (λ one. unwrap_or one (order_of [])) order.1; finds = finds; waits = waits; first = first })
 
-  sound-delivered_in : (tables : Tables) (district : ℕ) → IsSoundWarehouse items number tables
-      → IsSoundWarehouse items number (delivered_in delivery tables district)
-  sound-delivered_in tables district sound =
-      elim (oldest delivery.warehouse district tables == 0) as (λ b. (oldest delivery.warehouse district tables == 0) ≡ b
-      → IsSoundWarehouse items number (cond b tables (with_delivered delivery
-      (first_or (order_of []) (is_order delivery.warehouse district (oldest delivery.warehouse district tables)) tables.orders) tables))) [
-        | true ↦ λ none. sound
-        | false ↦ λ some. sound-oldest tables district sound some
-      ] refl
+  module _ (carrier : (delivery.carrier == 0) ≡ false) (moment : (delivery.at == 0) ≡ false) where
+    pub sound-delivered_in : (tables : Tables) (district : ℕ) → IsSoundWarehouse items number tables
+        → IsSoundWarehouse items number (delivered_in delivery tables district)
+    sound-delivered_in tables district sound =
+        elim (oldest delivery.warehouse district tables == 0) as (λ b. (oldest delivery.warehouse district tables == 0) ≡ b
+        → IsSoundWarehouse items number (cond b tables (with_delivered delivery
+        (first_or (order_of []) (is_order delivery.warehouse district (oldest delivery.warehouse district tables)) tables.orders) tables))) [
+          | true ↦ λ none. sound
+          | false ↦ λ some.
+                let there = oldest-there tables district sound some in
+                subst (λ order. IsSoundWarehouse items number (with_delivered delivery order tables)) (sym (there.1).chosen)
+                (sound-with_delivered items number delivery tables there.0 carrier moment (there.1).finds (there.1).waits (there.1).first sound)
+        ] refl
 
-  -- one district after the other
-  sound-districts : (districts : List ℕ) (tables : Tables) → IsSoundWarehouse items number tables
-      → IsSoundWarehouse items number (fold (delivered_in delivery) tables districts)
-  sound-districts [] tables sound = sound
-  sound-districts (district ∷ districts) tables sound =
-      sound-districts districts (delivered_in delivery tables district) (sound-delivered_in tables district sound)
+    -- one district after the other
+    sound-districts : (districts : List ℕ) (tables : Tables) → IsSoundWarehouse items number tables
+        → IsSoundWarehouse items number (fold (delivered_in delivery) tables districts)
+    sound-districts [] tables sound = sound
+    sound-districts (district ∷ districts) tables sound =
+        sound-districts districts (delivered_in delivery tables district) (sound-delivered_in tables district sound)
 
-  pub sound-delivered : (tables : Tables) → IsSoundWarehouse items number tables
-      → IsSoundWarehouse items number (delivered delivery tables)
-  sound-delivered tables sound = sound-districts district_numbers tables sound
+    pub sound-delivered : (tables : Tables) → IsSoundWarehouse items number tables
+        → IsSoundWarehouse items number (delivered delivery tables)
+    sound-delivered tables sound = sound-districts district_numbers tables sound

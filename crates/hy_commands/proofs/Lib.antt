@@ -8,3 +8,4 @@ mod KeptByNewOrder
 mod KeptByDelivery
 pub mod Kept
 pub mod SoundLoad
+mod GrowthLaws

@@ -9,6 +9,7 @@ pub mod StockLevels
 pub mod Transactions
 pub mod Replay
 pub mod Invariant
+pub mod Growth
 pub mod WorkedSample
 pub mod WorkedTransactions
 pub mod WorkedDeliveries
