@@ -42,6 +42,7 @@ use Rattle.hy_commands.specs.Transactions.{payer}
 use Rattle.hy_commands.proofs.KeptByDelivery.{IsOldest, oldest-there, sound-delivered_in}
 use Rattle.hy_commands.proofs.ListLaws.{All-find, column_sum-cons, find-any, find-passes}
 use Rattle.hy_commands.proofs.MeetsLaws.{CountsLines, meets-facts}
+use Rattle.hy_commands.proofs.OnceLaws.{tells-three}
 
 -- ---- lists
 
@@ -346,7 +347,8 @@ module _ (items : List Item) (fits : ItemsFit items) (number : ℕ) (order : Pur
   customer-small =
       let found = find-any (is_customer order.warehouse order.district order.customer) tables.customers buyer in
       let passes = find-passes (is_customer order.warehouse order.district order.customer) tables.customers found.0 found.1 in
-      let same : (found.0).id ≡ order.customer = eqb-true (found.0).id order.customer (and_parts _ _ passes).1 in
+      let same : (found.0).id ≡ order.customer =
+      (tells-three (found.0).warehouse (found.0).district (found.0).id order.warehouse order.district order.customer passes).2 in
       let small = (All-find (IsCustomerUpTo n (10 * n)) (is_customer order.warehouse order.district order.customer) tables.customers
       found.0 grown.customers found.1).id in
       omega (arith, same, small)

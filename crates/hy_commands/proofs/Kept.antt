@@ -21,7 +21,7 @@ use Rattle.hy_commands.proofs.KeptByPayment.{sound-paid}
 use Rattle.hy_commands.proofs.ListLaws.{found-any}
 
 -- a number from 1 on isn't 0
-not_0 : (high number : ℕ) → IsBetween 1 high number → (number == 0) ≡ false
+pub not_0 : (high number : ℕ) → IsBetween 1 high number → (number == 0) ≡ false
 not_0 high number between =
     let ends = bounds 1 high number between in
     ne_eqb number 0 (λ same. omega (arith, same, ends.0))

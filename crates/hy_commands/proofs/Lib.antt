@@ -9,3 +9,4 @@ mod KeptByDelivery
 pub mod Kept
 pub mod SoundLoad
 mod GrowthLaws
+pub mod Grown

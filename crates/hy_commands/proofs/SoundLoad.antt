@@ -140,7 +140,7 @@ module _ (number : ℕ) (tables : Tables) where
 -- ---- the rows of a load
 
 -- what holds at each place holds of all
-all-by_place : {Row : Type 0} (P : Row → Type 0) (rows : List Row) → ((place : ℕ) → IfSome (slice_get rows place) P) → All P rows
+pub all-by_place : {Row : Type 0} (P : Row → Type 0) (rows : List Row) → ((place : ℕ) → IfSome (slice_get rows place) P) → All P rows
 all-by_place P [] each = All-nil P
 all-by_place P (row ∷ rows) each = All-cons P row rows (each 0) (all-by_place P rows (λ place. each (suc place)))
 

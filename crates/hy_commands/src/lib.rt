@@ -11,7 +11,7 @@ pub use command::{
     OrderStatus, Payment, Purchase, PurchaseLine, PurchaseLines, StockLevel, Who,
 };
 pub use reply::{PlacedOrder, Reply, StatusLines};
-pub use theorem::conditions_are_kept;
+pub use theorem::{conditions_are_kept, numbers_stay_small};
 
 #[cfg(test)]
 mod tests;

@@ -5,6 +5,7 @@ ghost use Rattle.hy_rows.specs.Ranges.{IsBetween};
 ghost use Rattle.hy_rows.specs.Tables.{Lists, of_warehouse};
 ghost use Rattle.hy_schema.specs.Loads.{IsLoad};
 ghost use Rattle.hy_commands.specs.declared.command.Commit.{Commit};
+ghost use Rattle.hy_commands.specs.Growth.{HasGrownBy};
 ghost use Rattle.hy_commands.specs.Invariant.{IsSoundWarehouse};
 ghost use Rattle.hy_commands.specs.Replay.{replay};
 
@@ -14,5 +15,14 @@ pub fn conditions_are_kept()
     ensures { (lists : Lists) (number : ℕ) (commits : List Commit) → IsLoad lists
         → IsBetween 1 (length lists.tables.warehouses) number
         → IsSoundWarehouse lists.items number
+        (replay lists.items number (of_warehouse number lists.tables) commits) }
+{}
+
+/// Does nothing: its contract says how far the numbers of each warehouse of a load can have grown after each list of
+/// commits, by the number of these.
+pub fn numbers_stay_small()
+    ensures { (lists : Lists) (number : ℕ) (commits : List Commit) → IsLoad lists
+        → IsBetween 1 (length lists.tables.warehouses) number
+        → HasGrownBy (length commits)
         (replay lists.items number (of_warehouse number lists.tables) commits) }
 {}
