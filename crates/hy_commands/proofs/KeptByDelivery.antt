@@ -302,6 +302,7 @@ module _ (items : List Item) (number : ℕ) (delivery : Delivery) (tables : Tabl
   sound-with_delivered = record {
     rows = delivered-rows;
     orders = delivered-orders;
+    stock = record { unique = sound.stock.unique; each = sound.stock.each };
     conditions = meets-tests after (delivered-meets (meets-facts tables sound.conditions));
   }
 

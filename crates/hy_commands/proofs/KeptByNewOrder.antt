@@ -1,6 +1,6 @@
 -- A purchase keeps the rows of a warehouse sound.
-use Rattle.std.proofs.Common.{◌≡◌, ◌≢◌, ℕ, suc, ◌+◌, ◌<◌, ◌==◌, ◌&&◌, ◌||◌, Bool, true, false, cond, List, [], ◌∷◌, ◌++◌, map, filter, length, Some, refl, sym, ap, ap₂, subst, ◌∙◌, arith, length-append}
-use Rattle.std.specs.Prelude.{All, unwrap_or}
+use Rattle.std.proofs.Common.{◌≡◌, ◌≢◌, ℕ, suc, ◌+◌, ◌<◌, ◌==◌, ◌&&◌, ◌||◌, Bool, true, false, cond, not, List, [], ◌∷◌, ◌++◌, map, filter, length, Some, refl, sym, ap, ap₂, subst, ◌∙◌, arith, length-append}
+use Rattle.std.specs.Prelude.{All, fold, unwrap_or}
 use Rattle.std.specs.List.{find, flat_map, list_all, list_any, sum}
 use Rattle.std.proofs.lemmas.Bool.{and_parts, both_ways, eqb-true, false_from_ne_true, or_left, or_right}
 use Rattle.std.proofs.lemmas.Bool.Decides.{nat_tests}
@@ -18,6 +18,7 @@ use Rattle.hy_rows.specs.declared.item.Item.{Item}
 use Rattle.hy_rows.specs.declared.new_order.NewOrder.{NewOrder}
 use Rattle.hy_rows.specs.declared.order.Order.{Order}
 use Rattle.hy_rows.specs.declared.order_line.OrderLine.{OrderLine}
+use Rattle.hy_rows.specs.declared.stock.Stock.{Stock}
 use Rattle.hy_schema.specs.Conditions.{column_sum, delivered_amount, new_order_numbers, order_numbers}
 use Rattle.hy_schema.specs.Keys.{AreUnique, HasUniqueKeys, IsOneWarehouse, district_key}
 use Rattle.hy_schema.specs.Related.{is_delivered, is_line_of, is_new_order_of, is_order, is_order_by, is_undelivered, lines_of, lines_of_district, orders_by, orders_of}
@@ -25,11 +26,11 @@ use Rattle.hy_schema.proofs.ChangedLists.{All-with_changed, map-with_changed}
 use Rattle.hy_schema.proofs.KeyLaws.{HasUniqueKeys-one_warehouse}
 use Rattle.hy_commands.specs.declared.command.Purchase.{Purchase}
 use Rattle.hy_commands.specs.declared.command.PurchaseLine.{PurchaseLine}
-use Rattle.hy_commands.specs.Invariant.{HasOrder, HasOrderAndItem, HasOwnOrders, IsOwnOrder, IsSoundWarehouse, line_key, new_order_key, order_key}
-use Rattle.hy_commands.specs.NewOrders.{has_item, line_row, line_rows, new_order_row, order_number, order_row, ordered, supplied, with_next_order}
+use Rattle.hy_commands.specs.Invariant.{HasOrder, HasOrderAndItem, HasOwnOrders, IsOwnOrder, IsSoundWarehouse, line_key, new_order_key, order_key, stock_key}
+use Rattle.hy_commands.specs.NewOrders.{has_item, is_stock, sold, sold_line, line_row, line_rows, new_order_row, order_number, order_row, ordered, supplied, with_next_order}
 use Rattle.hy_commands.proofs.AcceptedLaws.{IsAcceptedPurchase}
 use Rattle.hy_commands.proofs.KeptByPayment.{own-district}
-use Rattle.hy_commands.proofs.ListLaws.{All-changed_once, All-find, All-map_filter, All-of_both, any-none, column_sum-by_values, filter-all, filter-none, find-passes, flat_map-append, flat_map-same_on, map-append, map-filter-push, map-filter-with_changed, unique-append, unique-push}
+use Rattle.hy_commands.proofs.ListLaws.{All-changed_once, All-find, All-map_filter, All-of_both, any-none, column_sum-by_values, filter-all, filter-none, find-passes, list_any-with_changed, flat_map-append, flat_map-same_on, map-append, map-filter-push, map-filter-with_changed, unique-append, unique-push}
 use Rattle.hy_commands.proofs.MeetsLaws.{CarriedOrNew, CountsDistrict, CountsLines, DeliveredWithLines, IsBalanced, Meets, NumbersInRow, PaidInDistrict, SumsDistricts, meets-facts, meets-tests}
 use Rattle.hy_commands.proofs.NumberLaws.{AreInRow, in_row-below, in_row-push}
 use Rattle.hy_commands.proofs.OnceLaws.{once-district, passes-three, tells-three, tells-two}
@@ -77,6 +78,25 @@ module _ (items : List Item) (order : Purchase) (number : ℕ) where
       (line_rows items order number (place + 1) lines) (there, both.0)
       (items-there orders there (place + 1) lines both.1)
 
+-- ---- the stock
+
+-- its keys stay
+sold-keys : (supplier : ℕ) (order : Purchase) (lines : List PurchaseLine) (rows : List Stock)
+    → map stock_key (fold (sold_line supplier order) rows lines) ≡ map stock_key rows
+sold-keys supplier order [] rows = refl
+sold-keys supplier order (line ∷ lines) rows =
+    sold-keys supplier order lines (sold_line supplier order rows line)
+    ∙ map-with_changed stock_key (is_stock supplier line.item) (sold (not (order.warehouse == supplier)) line.quantity)
+    (λ row. refl) rows
+
+sold-any : (supplier : ℕ) (order : Purchase) (warehouse item : ℕ) (lines : List PurchaseLine) (rows : List Stock)
+    → list_any (is_stock warehouse item) (fold (sold_line supplier order) rows lines) ≡ list_any (is_stock warehouse item) rows
+sold-any supplier order warehouse item [] rows = refl
+sold-any supplier order warehouse item (line ∷ lines) rows =
+    sold-any supplier order warehouse item lines (sold_line supplier order rows line)
+    ∙ list_any-with_changed (is_stock warehouse item) (is_stock supplier line.item)
+    (sold (not (order.warehouse == supplier)) line.quantity) (λ row. refl) rows
+
 -- the district of an order that a warehouse has, and its number
 abbrev In : ℕ → ℕ → Order → Bool
 In warehouse district row = (row.warehouse == warehouse) && (row.district == district)
@@ -106,6 +126,9 @@ orders-below items number warehouse district tables row sound found =
 module _ (items : List Item) (number : ℕ) (order : Purchase) (tables : Tables) (accepted : IsAcceptedPurchase number order) (buyer : list_any (is_customer order.warehouse order.district order.customer) tables.customers ≡ true) (known : list_all (has_item items) order.lines ≡ true) (sound : IsSoundWarehouse items number tables) where
   abbrev after : Tables
   after = supplied number order (ordered items order tables)
+
+  abbrev supplied_lines : List PurchaseLine
+  supplied_lines = filter (λ line. line.supply_warehouse == number) order.lines
 
   abbrev w : ℕ
   w = order.warehouse
@@ -432,5 +455,12 @@ module _ (items : List Item) (number : ℕ) (order : Purchase) (tables : Tables)
   sound-ordered = record {
     rows = ordered-rows;
     orders = ordered-orders;
+    stock = record {
+      unique = subst AreUnique (sym (sold-keys number order supplied_lines tables.stock)) sound.stock.unique;
+      each =
+          All-weaker (λ item. list_any (is_stock number item.id) tables.stock ≡ true)
+          (λ item. list_any (is_stock number item.id) after.stock ≡ true)
+          (λ item there. sold-any number order number item.id supplied_lines tables.stock ∙ there) items sound.stock.each;
+    };
     conditions = meets-tests after (ordered-meets (meets-facts tables sound.conditions));
   }

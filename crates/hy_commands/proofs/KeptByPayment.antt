@@ -179,5 +179,6 @@ module _ (items : List Item) (number : ℕ) (payment : Payment) (customer : ℕ)
   sound-paid = record {
     rows = paid-rows;
     orders = paid-orders;
+    stock = record { unique = sound.stock.unique; each = sound.stock.each };
     conditions = meets-tests after (paid-meets (meets-facts tables sound.conditions));
   }

@@ -1,12 +1,18 @@
 -- The rows of each warehouse of a load are sound.
-use Rattle.std.proofs.Common.{◌≡◌, ◌≢◌, ℕ, zero, suc, ◌<◌, ◌==◌, ◌&&◌, Bool, true, false, List, [], ◌∷◌, map, length, take, slice_get, IfSome, None, refl, sym, ap, subst, ◌∙◌, arith}
+use Rattle.std.proofs.Common.{◌≡◌, ◌≢◌, ℕ, zero, suc, ◌+◌, ◌-◌, ◌*◌, ◌/◌, ◌%◌, ◌<◌, ◌≤◌, ◌==◌, ◌&&◌, Bool, true, false, List, [], ◌∷◌, map, length, take, get_or, slice_get, IfSome, Option, Some, None, refl, sym, ap, subst, ◌∙◌, arith}
 use Rattle.std.specs.Prelude.{All}
 use Rattle.std.specs.List.{list_all, list_any, sum}
 use Rattle.std.proofs.lemmas.Bool.{and_parts, both_ways, eq-eqb, eqb-true, or_parts}
 use Rattle.std.proofs.lemmas.Bool.Decides.{nat_tests}
 use Rattle.std.proofs.lemmas.List.Elements.{All-cons, All-filter, All-map, All-nil}
 use Rattle.std.proofs.lemmas.List.Kept.{AllPairs-cons}
-use Rattle.std.proofs.lemmas.Option.{IfSome_then}
+use Rattle.std.proofs.Math.Nat.{div-add-mod, mul-le-mul_left}
+use Rattle.std.proofs.lemmas.Nat.{div-mul-add, mod-mul-add}
+use Rattle.std.proofs.lemmas.List.Folds.{list_any_at}
+use Rattle.std.proofs.lemmas.Option.{IfSome_then, slice_get-get_or, slice_get_within}
+use Rattle.hy_rows.specs.Rows.{stock_of}
+use Rattle.hy_rows.specs.declared.stock.Stock.{Stock}
+use Rattle.hy_commands.specs.NewOrders.{is_stock}
 use Rattle.hy_rows.specs.Finding.{is_customer}
 use Rattle.hy_rows.specs.Ranges.{IsBetween}
 use Rattle.hy_rows.specs.Tables.{Lists, Tables, of_warehouse}
@@ -17,12 +23,12 @@ use Rattle.hy_rows.specs.declared.order_line.OrderLine.{OrderLine}
 use Rattle.hy_rows.proofs.BetweenLaws.{bounds}
 use Rattle.hy_schema.specs.Conditions.{column_sum, conditions, first_broken, new_order_numbers, order_numbers, paid_amount}
 use Rattle.hy_schema.specs.Keys.{AreUnique}
-use Rattle.hy_schema.specs.Loads.{IsDistrictAt, IsLoad, IsNewOrderAt, IsOrderAt, IsOrderLineAt}
+use Rattle.hy_schema.specs.Loads.{IsDistrictAt, IsItemAt, IsStockAt, IsLoad, IsNewOrderAt, IsOrderAt, IsOrderLineAt}
 use Rattle.hy_schema.specs.Related.{is_line, is_line_of, is_new_order, is_new_order_of, is_order, lines_of}
 use Rattle.hy_schema.proofs.ChangedLists.{All-passing_also}
 use Rattle.hy_schema.proofs.ConditionLaws.{consistent-unbroken, delivered-own, filter-implied}
 use Rattle.hy_schema.proofs.KeyLaws.{IsOneWarehouse-load}
-use Rattle.hy_commands.specs.Invariant.{HasOrder, HasOrderAndItem, HasOwnOrders, IsOwnOrder, IsSoundWarehouse, MeetsOwnConditions, line_key, new_order_key, order_key}
+use Rattle.hy_commands.specs.Invariant.{HasOrder, HasOrderAndItem, HasOwnOrders, IsOwnOrder, IsSoundWarehouse, MeetsOwnConditions, line_key, new_order_key, order_key, stock_key}
 use Rattle.hy_commands.proofs.ListLaws.{any-filter-same, unique-filter}
 use Rattle.hy_commands.proofs.MeetsLaws.{CarriedOrNew, CountsDistrict, CountsLines, DeliveredWithLines, IsBalanced, Meets, NumbersInRow, PaidIn, PaidInDistrict, SumsDistricts, meets-facts, meets-tests}
 use Rattle.hy_commands.proofs.NumberLaws.{AreInRow}
@@ -163,6 +169,28 @@ unique-by_place {Row = Row} key same tells (first ∷ rows) each =
     (each (suc place))
     (λ row new. (or_parts (same row first) (list_any (same row) (take place rows)) new).1)))
 
+-- ranks that go by the place tell rows apart
+unique-ranked : {Row Key : Type 0} (key : Row → Key) (rank : Row → ℕ)
+    → ((row other : Row) → key row ≡ key other → rank row ≡ rank other) → (start : ℕ) (rows : List Row)
+    → ((place : ℕ) → IfSome (slice_get rows place) (λ row. rank row ≡ start + place)) → AreUnique (map key rows)
+unique-ranked key rank tells start [] each = λ i j d before within. absurd (omega arith)
+unique-ranked key rank tells start (row ∷ rows) each =
+    let first : rank row ≡ start + 0 = each 0 in
+    AllPairs-cons (λ one other. one ≢ other) (key row) (map key rows)
+    (All-map (λ other. key row ≢ other) key rows
+    (all-by_place (λ other. key row ≢ key other) rows (λ place. IfSome_then (slice_get rows place)
+    {P = λ other. rank other ≡ start + suc place} {Q = λ other. key row ≢ key other} (each (suc place))
+    (λ other is same. let equal : rank row ≡ rank other = tells row other same in omega (arith, is, equal, first)))))
+    (unique-ranked key rank tells (start + 1) rows (λ place. IfSome_then (slice_get rows place)
+    {P = λ other. rank other ≡ start + suc place} {Q = λ other. rank other ≡ start + 1 + place} (each (suc place))
+    (λ other is. omega (arith, is))))
+
+-- what follows at a place that is there
+at-place : {Row : Type 0} (P Q : Row → Type 0) (row : Option Row) → ((r : Row) → row ≡ Some r → P r → Q r) → IfSome row P
+    → IfSome row Q
+at-place P Q None follows holds = tt
+at-place P Q (Some row) follows holds = follows row refl holds
+
 module _ (number : ℕ) (load : Lists) (is_load : IsLoad load) where
   abbrev t : Tables
   t = load.tables
@@ -265,10 +293,57 @@ module _ (number : ℕ) (load : Lists) (is_load : IsLoad load) where
         (λ row there home. (own-there row.warehouse row.district row.order home there.0, there.1)) lines-fit;
   }
 
+  -- the stock
+  abbrev I : ℕ
+  I = length load.items
+
+  unique-stock : AreUnique (map stock_key t.stock)
+  unique-stock =
+      unique-ranked stock_key (λ row. I * row.warehouse + row.item)
+      (λ row other same. ap (λ (key : ℕ × ℕ). I * key.0 + key.1) same) (I + 1) t.stock
+      (λ place. IfSome_then (slice_get t.stock place) {P = IsStockAt (length t.warehouses) I place}
+      {Q = λ row. I * row.warehouse + row.item ≡ I + 1 + place} (is_load.stock.each place)
+      (λ row right.
+      let warehouse : I * row.warehouse ≡ I * (place / I + 1) = ap (λ w. I * w) right.1 in
+      omega (arith, warehouse, right.2, div-add-mod place I)))
+
+  in-stock : IsBetween 1 (length t.warehouses) number
+      → All (λ item. list_any (is_stock number item.id) own.stock ≡ true) load.items
+  in-stock between =
+      all-by_place (λ item. list_any (is_stock number item.id) own.stock ≡ true) load.items
+      (λ place. at-place (IsItemAt place) (λ item. list_any (is_stock number item.id) own.stock ≡ true)
+      (slice_get load.items place)
+      (λ item is right.
+      let k : ℕ = place in
+      let within : place < I = slice_get_within load.items place item is in
+      let ends = bounds 1 (length t.warehouses) number between in
+      let before : ℕ = number - 1 in
+      let is_number : number ≡ before + 1 = omega (arith, ends.0) in
+      let at : ℕ = before * I + place in
+      let room : I * number ≤ I * length t.warehouses = mul-le-mul_left I ends.1 in
+      let product : I * number ≡ I * (before + 1) = ap (λ n. I * n) is_number in
+      let there : at < length t.stock = omega (arith, room, product, within, is_load.stock.whole) in
+      let row : Stock = get_or t.stock at (stock_of []) in
+      let found : slice_get t.stock at ≡ Some row = slice_get-get_or t.stock at (stock_of []) there in
+      let holds : IsStockAt (length t.warehouses) I at row =
+      subst (λ one. IfSome one (IsStockAt (length t.warehouses) I at)) found (is_load.stock.each at) in
+      let warehouse : row.warehouse ≡ number = holds.1 ∙ ap (λ n. n + 1) (div-mul-add before I place within) ∙ sym is_number in
+      let same_item : row.item ≡ item.id = holds.2 ∙ ap (λ n. n + 1) (mod-mul-add before I place within) ∙ sym right.1 in
+      let passes : is_stock number item.id row ≡ true = rw (eq-eqb row.warehouse number warehouse, eq-eqb row.item item.id same_item) refl in
+      any-filter-same (is_stock number item.id) (λ row. row.warehouse == number)
+      (λ row other. grind (arith, nat_tests, other)) t.stock
+      ∙ list_any_at (is_stock number item.id) t.stock at (stock_of []) there passes)
+      (is_load.items.each place))
+
   -- the rows of each warehouse of a load are sound
   pub sound-load : IsBetween 1 (length load.tables.warehouses) number → IsSoundWarehouse load.items number own
   sound-load between = record {
     rows = IsOneWarehouse-load load number is_load between;
     orders = orders-load;
+    stock = record {
+      unique =
+          unique-filter stock_key stock_key (λ row. row.warehouse == number) (λ one two kept also equal. equal) t.stock unique-stock;
+      each = in-stock between;
+    };
     conditions = meets-tests own (own-meets number t (meets-facts t (own-conditions t is_load.conditions)));
   }

@@ -6,6 +6,7 @@ use Rattle.hy_rows.specs.declared.item.Item.{Item}
 use Rattle.hy_rows.specs.declared.new_order.NewOrder.{NewOrder}
 use Rattle.hy_rows.specs.declared.order.Order.{Order}
 use Rattle.hy_rows.specs.declared.order_line.OrderLine.{OrderLine}
+use Rattle.hy_rows.specs.declared.stock.Stock.{Stock}
 use Rattle.hy_rows.specs.Finding.{is_customer}
 use Rattle.hy_rows.specs.Limits.{districts_per_warehouse}
 use Rattle.hy_rows.specs.Ranges.{IsBetween}
@@ -13,6 +14,7 @@ use Rattle.hy_rows.specs.Tables.{Tables}
 use Rattle.hy_schema.specs.Conditions.{condition_1, condition_12, condition_2, condition_3, condition_4, condition_5, condition_6, condition_7, condition_8, condition_9}
 use Rattle.hy_schema.specs.Keys.{AreUnique, IsOneWarehouse}
 use Rattle.hy_schema.specs.Related.{is_item, is_order}
+use Rattle.hy_commands.specs.NewOrders.{is_stock}
 
 -- the keys (O_W_ID, O_D_ID, O_ID), (NO_W_ID, NO_D_ID, NO_O_ID) and (OL_W_ID, OL_D_ID, OL_O_ID, OL_NUMBER)
 abbrev pub order_key : Order → ℕ × ℕ × ℕ
@@ -62,8 +64,17 @@ pub record HasOwnOrders (items : List Item) (number : ℕ) (tables : Tables) : T
   pub new_orders : All (HasOrder tables.orders) tables.new_orders
   pub order_lines : All (HasOrderAndItem items tables.orders) tables.order_lines
 
--- the rows are those of one warehouse, its orders are complete, and they meet the consistency conditions
+-- no row of STOCK has the key (S_W_ID, S_I_ID) of another, and each item has its row
+abbrev pub stock_key : Stock → ℕ × ℕ
+stock_key row = (row.warehouse, row.item)
+
+pub record HasOwnStock (items : List Item) (number : ℕ) (tables : Tables) : Type 0 where
+  pub unique : AreUnique (map stock_key tables.stock)
+  pub each : All (λ item. IsTrue (list_any (is_stock number item.id) tables.stock)) items
+
+-- the rows are those of one warehouse, its orders and its stock are complete, and they meet the consistency conditions
 pub record IsSoundWarehouse (items : List Item) (number : ℕ) (tables : Tables) : Type 0 where
   pub rows : IsOneWarehouse number tables
   pub orders : HasOwnOrders items number tables
+  pub stock : HasOwnStock items number tables
   pub conditions : MeetsOwnConditions tables
