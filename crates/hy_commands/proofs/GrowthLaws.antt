@@ -1,5 +1,5 @@
 -- What a command adds to the numbers of a warehouse.
-use Rattle.std.proofs.Common.{◌≡◌, ℕ, zero, suc, ◌+◌, ◌-◌, ◌*◌, ◌/◌, ◌<◌, ◌≤◌, ℤ, pos, neg_ℤ, ◌+ℤ◌, ◌-ℤ◌, ◌≤ℤ◌, ◌==◌, ◌&&◌, Bool, true, false, cond, not, List, [], ◌∷◌, ◌++◌, map, filter, length, Option, Some, None, refl, sym, ap, subst, ◌∙◌, arith, length-append}
+use Rattle.std.proofs.Common.{◌≡◌, ℕ, zero, suc, ◌+◌, ◌-◌, ◌*◌, ◌/◌, ◌≤◌, ℤ, pos, ◌+ℤ◌, ◌-ℤ◌, ◌≤ℤ◌, ◌==◌, Bool, true, false, cond, not, List, [], ◌∷◌, ◌++◌, filter, length, Some, refl, sym, subst, arith, length-append}
 use Rattle.std.specs.Prelude.{All, codes, fold, nat_le, slice_get, unwrap_or}
 use Rattle.std.specs.List.{find, list_all, list_any}
 use Rattle.std.proofs.Math.Nat.{mul-le-mul_left}
@@ -8,14 +8,12 @@ use Rattle.std.proofs.lemmas.Bool.{and_parts, eqb-true, leb-false}
 use Rattle.std.proofs.lemmas.List.Elements.{All-append, All-cons, All-filter, All-head, All-map, All-nil, All-push, All-tail, All-weaker}
 use Rattle.std.proofs.lemmas.List.Sums.{AllPass-from_list_all, count_by-le-length, length-filter}
 use Rattle.hy_rows.specs.Finding.{first_or, is_customer, is_district, is_warehouse, with_changed}
-use Rattle.hy_rows.specs.Ranges.{IsBetween, IsLineAmount}
+use Rattle.hy_rows.specs.Ranges.{IsBetween}
 use Rattle.hy_rows.specs.Rows.{customer_of, district_of, order_of, warehouse_of}
 use Rattle.hy_rows.specs.Tables.{Tables}
 use Rattle.hy_rows.specs.declared.customer.Customer.{Customer}
 use Rattle.hy_rows.specs.declared.district.District.{District}
-use Rattle.hy_rows.specs.declared.history.History.{History}
 use Rattle.hy_rows.specs.declared.item.Item.{Item}
-use Rattle.hy_rows.specs.declared.new_order.NewOrder.{NewOrder}
 use Rattle.hy_rows.specs.declared.order.Order.{Order}
 use Rattle.hy_rows.specs.declared.order_line.OrderLine.{OrderLine}
 use Rattle.hy_rows.specs.declared.stock.Stock.{Stock}
@@ -31,7 +29,7 @@ use Rattle.hy_commands.specs.declared.command.PurchaseLine.{PurchaseLine}
 use Rattle.hy_commands.specs.declared.command.Who.{Who}
 use Rattle.hy_commands.specs.declared.command.Who.TheVariants as who
 use Rattle.hy_commands.specs.Commands.{is_line_in_range}
-use Rattle.hy_commands.specs.Customers.{customer_meant, is_earlier, is_named, middle_of}
+use Rattle.hy_commands.specs.Customers.{customer_meant, is_earlier, is_named}
 use Rattle.hy_commands.specs.Deliveries.{carried, customer_delivered, delivered, delivered_in, delivered_line, oldest, order_cents, with_delivered}
 use Rattle.hy_commands.specs.Growth.{HasGrownBy, IsCustomerUpTo, IsDistrictUpTo, IsLineUpTo, IsMoneyUpTo, IsNewOrderUpTo, IsOrderUpTo, IsPaymentUpTo, IsStockUpTo, IsWarehouseUpTo}
 use Rattle.hy_commands.specs.Invariant.{IsSoundWarehouse}
@@ -39,7 +37,7 @@ use Rattle.hy_commands.specs.NewOrders.{has_item, is_stock, line_cents, line_row
 use Rattle.hy_commands.specs.Payments.{customer_paid, district_paid, history_row, paid_by, paid_in, warehouse_paid}
 use Rattle.hy_commands.specs.Sorting.{inserted, sorted}
 use Rattle.hy_commands.specs.Transactions.{payer}
-use Rattle.hy_commands.proofs.KeptByDelivery.{IsOldest, oldest-there, sound-delivered_in}
+use Rattle.hy_commands.proofs.KeptByDelivery.{oldest-there, sound-delivered_in}
 use Rattle.hy_commands.proofs.ListLaws.{All-find, column_sum-cons, find-any, find-passes}
 use Rattle.hy_commands.proofs.MeetsLaws.{CountsLines, meets-facts}
 use Rattle.hy_commands.proofs.OnceLaws.{tells-three}
@@ -192,6 +190,7 @@ payer-small payment tables n k all = meant payment.who
   where
     small : All (λ (row : Customer). row.id ≤ 3_000) tables.customers
     small = All-weaker (IsCustomerUpTo n k) (λ row. row.id ≤ 3_000) (λ row up. up.id) tables.customers all
+
     meant : (whom : Who)
         → (unwrap_or (customer_meant payment.customer_warehouse payment.customer_district whom tables.customers) (customer_of [])).id ≤ 3_000
     meant (who.Number number) =
@@ -364,8 +363,11 @@ module _ (items : List Item) (fits : ItemsFit items) (number : ℕ) (order : Pur
       (λ line in_range. (bounds 1 10 line.quantity in_range).1) order.lines
       (AllPass-from_list_all is_line_in_range order.lines in_range) in
       let fewer : length supplied_lines ≤ length order.lines =
-      omega (arith, length-filter (λ line. line.supply_warehouse == number) order.lines,
-      count_by-le-length (λ (line : PurchaseLine). line.supply_warehouse == number) order.lines) in
+      omega (
+        arith,
+        length-filter (λ line. line.supply_warehouse == number) order.lines,
+        count_by-le-length (λ (line : PurchaseLine). line.supply_warehouse == number) order.lines,
+      ) in
       record {
         warehouses = later.warehouses;
         districts =

@@ -24,7 +24,7 @@ use Rattle.hy_commands.specs.declared.command.Delivery.{Delivery}
 use Rattle.hy_commands.specs.Deliveries.{carried, customer_delivered, delivered, delivered_in, delivered_line, oldest, order_cents, with_delivered}
 use Rattle.hy_commands.specs.Invariant.{HasOrder, HasOrderAndItem, HasOwnOrders, IsOwnOrder, IsSoundWarehouse, line_key, new_order_key, order_key}
 use Rattle.hy_commands.proofs.ListLaws.{All-changed_once, All-find, any-filter-none, any-filter-same, column_sum-by_values, column_sum-flat_map, column_sum-once, filter-all, filter-map, filter-none, find-any, find-passes, in-any, length-map, list_any-with_changed, map-filter-again, map-filter-with_changed, map-map, map-same, map-same_on, unique-filter}
-use Rattle.hy_commands.proofs.MeetsLaws.{CarriedOrNew, CountsDistrict, CountsLines, DeliveredWithLines, IsBalanced, Meets, NumbersInRow, meets-facts, meets-tests}
+use Rattle.hy_commands.proofs.MeetsLaws.{CarriedOrNew, CountsDistrict, CountsLines, DeliveredWithLines, IsBalanced, Meets, NumbersInRow, behind-orders, meets-facts, meets-tests}
 use Rattle.hy_commands.proofs.NumberLaws.{AreInRow, in_row-taken, least-in, others}
 use Rattle.hy_commands.proofs.OnceLaws.{once-customer, once-order, passes-three, tells-three, tells-two}
 
@@ -302,6 +302,7 @@ module _ (items : List Item) (number : ℕ) (delivery : Delivery) (tables : Tabl
   sound-with_delivered = record {
     rows = delivered-rows;
     orders = delivered-orders;
+    numbers = behind-orders after delivered-orders.next_orders (delivered-meets (meets-facts tables sound.conditions));
     stock = record { unique = sound.stock.unique; each = sound.stock.each };
     conditions = meets-tests after (delivered-meets (meets-facts tables sound.conditions));
   }
@@ -342,7 +343,7 @@ module _ (items : List Item) (number : ℕ) (delivery : Delivery) where
       let waits : list_any (is_new_order o.warehouse o.district o.id) tables.new_orders ≡ true = rw (is.0, is.1, is.2) there in
       let first : o.id ≡ least (map (λ (new : NewOrder). new.order) (new_orders_of o.warehouse o.district tables.new_orders)) =
       rw (is.0, is.1) is.2 in
-      (o, record { chosen = ap (λ one. unwrap_or one (order_of [])) order.1; finds = finds; waits = waits; first = first })
+      (o, record { chosen = ap (λ one. unwrap_or one (order_of [])) {y = Some o} order.1; finds = finds; waits = waits; first = first })
 
   module _ (carrier : (delivery.carrier == 0) ≡ false) (moment : (delivery.at == 0) ≡ false) where
     pub sound-delivered_in : (tables : Tables) (district : ℕ) → IsSoundWarehouse items number tables
@@ -353,9 +354,9 @@ module _ (items : List Item) (number : ℕ) (delivery : Delivery) where
         (first_or (order_of []) (is_order delivery.warehouse district (oldest delivery.warehouse district tables)) tables.orders) tables))) [
           | true ↦ λ none. sound
           | false ↦ λ some.
-                let there = oldest-there tables district sound some in
-                subst (λ order. IsSoundWarehouse items number (with_delivered delivery order tables)) (sym (there.1).chosen)
-                (sound-with_delivered items number delivery tables there.0 carrier moment (there.1).finds (there.1).waits (there.1).first sound)
+              let there = oldest-there tables district sound some in
+              subst (λ order. IsSoundWarehouse items number (with_delivered delivery order tables)) (sym (there.1).chosen)
+              (sound-with_delivered items number delivery tables there.0 carrier moment (there.1).finds (there.1).waits (there.1).first sound)
         ] refl
 
     -- one district after the other

@@ -31,7 +31,7 @@ use Rattle.hy_commands.specs.NewOrders.{has_item, is_stock, sold, sold_line, lin
 use Rattle.hy_commands.proofs.AcceptedLaws.{IsAcceptedPurchase}
 use Rattle.hy_commands.proofs.KeptByPayment.{own-district}
 use Rattle.hy_commands.proofs.ListLaws.{All-changed_once, All-find, All-map_filter, All-of_both, any-none, column_sum-by_values, filter-all, filter-none, find-passes, list_any-with_changed, flat_map-append, flat_map-same_on, map-append, map-filter-push, map-filter-with_changed, unique-append, unique-push}
-use Rattle.hy_commands.proofs.MeetsLaws.{CarriedOrNew, CountsDistrict, CountsLines, DeliveredWithLines, IsBalanced, Meets, NumbersInRow, PaidInDistrict, SumsDistricts, meets-facts, meets-tests}
+use Rattle.hy_commands.proofs.MeetsLaws.{CarriedOrNew, CountsDistrict, CountsLines, DeliveredWithLines, IsBalanced, Meets, NumbersInRow, PaidInDistrict, SumsDistricts, behind-orders, meets-facts, meets-tests}
 use Rattle.hy_commands.proofs.NumberLaws.{AreInRow, in_row-below, in_row-push}
 use Rattle.hy_commands.proofs.OnceLaws.{once-district, passes-three, tells-three, tells-two}
 
@@ -455,6 +455,7 @@ module _ (items : List Item) (number : ℕ) (order : Purchase) (tables : Tables)
   sound-ordered = record {
     rows = ordered-rows;
     orders = ordered-orders;
+    numbers = behind-orders after ordered-orders.next_orders (ordered-meets (meets-facts tables sound.conditions));
     stock = record {
       unique = subst AreUnique (sym (sold-keys number order supplied_lines tables.stock)) sound.stock.unique;
       each =

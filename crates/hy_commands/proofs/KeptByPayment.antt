@@ -24,7 +24,7 @@ use Rattle.hy_commands.specs.Invariant.{HasOwnOrders, IsOwnOrder, IsSoundWarehou
 use Rattle.hy_commands.specs.Payments.{customer_paid, district_paid, history_row, paid_by, paid_in, warehouse_paid}
 use Rattle.hy_commands.proofs.AcceptedLaws.{IsAcceptedPayment}
 use Rattle.hy_commands.proofs.ListLaws.{All-changed_once, All-of_both, column_sum-append, list_any-with_changed}
-use Rattle.hy_commands.proofs.MeetsLaws.{CountsDistrict, IsBalanced, Meets, NumbersInRow, PaidIn, PaidInDistrict, SumsDistricts, meets-facts, meets-tests}
+use Rattle.hy_commands.proofs.MeetsLaws.{CountsDistrict, IsBalanced, Meets, NumbersInRow, PaidIn, PaidInDistrict, SumsDistricts, behind-orders, meets-facts, meets-tests}
 use Rattle.hy_commands.proofs.OnceLaws.{All-keys, once-district, once-warehouse, tells-two}
 
 -- the row of the one warehouse has its number
@@ -179,6 +179,7 @@ module _ (items : List Item) (number : ℕ) (payment : Payment) (customer : ℕ)
   sound-paid = record {
     rows = paid-rows;
     orders = paid-orders;
+    numbers = behind-orders after paid-orders.next_orders (paid-meets (meets-facts tables sound.conditions));
     stock = record { unique = sound.stock.unique; each = sound.stock.each };
     conditions = meets-tests after (paid-meets (meets-facts tables sound.conditions));
   }

@@ -1,12 +1,12 @@
-mod ListLaws
-mod NumberLaws
-mod MeetsLaws
-mod AcceptedLaws
-mod OnceLaws
-mod KeptByPayment
-mod KeptByNewOrder
-mod KeptByDelivery
+pub mod ListLaws
+pub mod NumberLaws
+pub mod MeetsLaws
+pub mod AcceptedLaws
+pub mod OnceLaws
+pub mod KeptByPayment
+pub mod KeptByNewOrder
+pub mod KeptByDelivery
 pub mod Kept
 pub mod SoundLoad
-mod GrowthLaws
+pub mod GrowthLaws
 pub mod Grown

@@ -15,9 +15,10 @@ use Rattle.hy_rows.specs.declared.order_line.OrderLine.{OrderLine}
 use Rattle.hy_rows.specs.declared.warehouse.Warehouse.{Warehouse}
 use Rattle.hy_schema.specs.Conditions.{agree, counts_its_lines, delivered_amount, greatest, has_all_lines, has_new_orders_in_row, is_balanced, is_behind_orders, is_carried_or_new, is_delivered_with_lines, is_paid_in, is_paid_in_district, is_sum_of_districts, least, new_order_numbers, order_numbers, paid_amount, ytd_of_districts}
 use Rattle.hy_schema.specs.Related.{is_undelivered, lines_of, lines_of_district, orders_of, payments_in, payments_in_district}
-use Rattle.hy_commands.specs.Invariant.{MeetsOwnConditions}
+use Rattle.hy_commands.specs.Invariant.{IsBehindOrders, MeetsOwnConditions}
 use Rattle.hy_commands.proofs.ListLaws.{All-of_both}
-use Rattle.hy_commands.proofs.NumberLaws.{AreInRow}
+use Rattle.hy_commands.proofs.NumberLaws.{AreInRow, in_row-below}
+use Rattle.hy_commands.proofs.OnceLaws.{All-keys}
 
 -- each condition as a fact on one row
 abbrev pub SumsDistricts : List District → Warehouse → Type 0
@@ -188,3 +189,14 @@ meets-tests tables meets = record {
   condition_9 = (condition_9-decides tables.history tables.districts).1 meets.district_paid;
   condition_12 = (condition_12-decides tables.orders tables.order_lines tables.customers).1 meets.balances;
 }
+
+-- where condition 2 holds, and no next number is 0, the numbers of orders are below
+pub behind-orders : (tables : Tables) → All (λ row. 0 < row.next_order) tables.districts → Meets tables
+    → All (IsBehindOrders tables.orders) tables.districts
+behind-orders tables some meets =
+    All-of_both (λ row. 0 < row.next_order) (NumbersInRow tables.orders tables.new_orders) (IsBehindOrders tables.orders)
+    tables.districts
+    (λ row above in_row.
+    All-keys (λ id. id < row.next_order) (λ (order : Order). order.id) (orders_of row.warehouse row.id tables.orders)
+    (in_row-below row.next_order (order_numbers tables.orders row) (new_order_numbers tables.new_orders row) above in_row))
+    some meets.numbers

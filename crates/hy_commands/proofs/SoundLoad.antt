@@ -1,5 +1,5 @@
 -- The rows of each warehouse of a load are sound.
-use Rattle.std.proofs.Common.{◌≡◌, ◌≢◌, ℕ, zero, suc, ◌+◌, ◌-◌, ◌*◌, ◌/◌, ◌%◌, ◌<◌, ◌≤◌, ◌==◌, ◌&&◌, Bool, true, false, List, [], ◌∷◌, map, length, take, get_or, slice_get, IfSome, Option, Some, None, refl, sym, ap, subst, ◌∙◌, arith}
+use Rattle.std.proofs.Common.{◌≡◌, ◌≢◌, ℕ, zero, suc, ◌+◌, ◌-◌, ◌*◌, ◌/◌, ◌<◌, ◌≤◌, ◌==◌, ◌&&◌, Bool, true, false, List, [], ◌∷◌, map, length, take, get_or, slice_get, IfSome, Option, Some, None, refl, sym, ap, subst, ◌∙◌, arith}
 use Rattle.std.specs.Prelude.{All}
 use Rattle.std.specs.List.{list_all, list_any, sum}
 use Rattle.std.proofs.lemmas.Bool.{and_parts, both_ways, eq-eqb, eqb-true, or_parts}
@@ -30,7 +30,7 @@ use Rattle.hy_schema.proofs.ConditionLaws.{consistent-unbroken, delivered-own, f
 use Rattle.hy_schema.proofs.KeyLaws.{IsOneWarehouse-load}
 use Rattle.hy_commands.specs.Invariant.{HasOrder, HasOrderAndItem, HasOwnOrders, IsOwnOrder, IsSoundWarehouse, MeetsOwnConditions, line_key, new_order_key, order_key, stock_key}
 use Rattle.hy_commands.proofs.ListLaws.{any-filter-same, unique-filter}
-use Rattle.hy_commands.proofs.MeetsLaws.{CarriedOrNew, CountsDistrict, CountsLines, DeliveredWithLines, IsBalanced, Meets, NumbersInRow, PaidIn, PaidInDistrict, SumsDistricts, meets-facts, meets-tests}
+use Rattle.hy_commands.proofs.MeetsLaws.{CarriedOrNew, CountsDistrict, CountsLines, DeliveredWithLines, IsBalanced, Meets, NumbersInRow, PaidIn, PaidInDistrict, SumsDistricts, behind-orders, meets-facts, meets-tests}
 use Rattle.hy_commands.proofs.NumberLaws.{AreInRow}
 use Rattle.hy_commands.proofs.OnceLaws.{passes-three}
 
@@ -340,6 +340,7 @@ module _ (number : ℕ) (load : Lists) (is_load : IsLoad load) where
   sound-load between = record {
     rows = IsOneWarehouse-load load number is_load between;
     orders = orders-load;
+    numbers = behind-orders own orders-load.next_orders (own-meets number t (meets-facts t (own-conditions t is_load.conditions)));
     stock = record {
       unique =
           unique-filter stock_key stock_key (λ row. row.warehouse == number) (λ one two kept also equal. equal) t.stock unique-stock;

@@ -1,6 +1,6 @@
 -- How far the numbers of a warehouse can have grown after so many commits. After 100,000,000 commits each still fits its
 -- column: money in 64 signed bits, counts in 64 bits, and the number of an order in 32.
-use Rattle.std.specs.Prelude.{ℕ, ℤ, pos, neg_ℤ, ◌+◌, ◌*◌, ◌≤◌, ◌≤ℤ◌, List, length, All}
+use Rattle.std.specs.Prelude.{◌≡◌, ℕ, ℤ, pos, neg_ℤ, ◌+◌, ◌*◌, ◌^◌, ◌≤◌, ◌≤ℤ◌, nat_lt, true, length, All, refl}
 use Rattle.hy_rows.specs.declared.customer.Customer.{Customer}
 use Rattle.hy_rows.specs.declared.district.District.{District}
 use Rattle.hy_rows.specs.declared.history.History.{History}
@@ -82,3 +82,17 @@ pub record HasGrownBy (commits : ℕ) (tables : Tables) : Type 0 where
   pub new_orders : All (IsNewOrderUpTo commits) tables.new_orders
   pub order_lines : All (IsLineUpTo commits) tables.order_lines
   pub stock : All (IsStockUpTo (max_lines * commits)) tables.stock
+
+-- what is reached after 100,000,000 commits: a balance, S_YTD and the number of an order fit their columns
+abbrev most_commits : ℕ
+most_commits = 100_000_000
+
+abbrev balance_fits : nat_lt
+    (max_cents + max_payment * most_commits + max_order_cents * (districts_per_warehouse * most_commits)) (2 ^ 63) ≡ true
+balance_fits = refl
+
+abbrev stock_fits : nat_lt (max_count + max_quantity * (max_lines * most_commits)) (2 ^ 64) ≡ true
+stock_fits = refl
+
+abbrev number_fits : nat_lt (max_order + most_commits) (2 ^ 32) ≡ true
+number_fits = refl

@@ -2,6 +2,7 @@
 use Rattle.std.specs.Prelude.{◌≡◌, ◌<◌, ℕ, IsTrue, List, map, All}
 use Rattle.std.specs.List.{list_any}
 use Rattle.hy_rows.specs.declared.customer.Customer.{Customer}
+use Rattle.hy_rows.specs.declared.district.District.{District}
 use Rattle.hy_rows.specs.declared.item.Item.{Item}
 use Rattle.hy_rows.specs.declared.new_order.NewOrder.{NewOrder}
 use Rattle.hy_rows.specs.declared.order.Order.{Order}
@@ -13,7 +14,7 @@ use Rattle.hy_rows.specs.Ranges.{IsBetween}
 use Rattle.hy_rows.specs.Tables.{Tables}
 use Rattle.hy_schema.specs.Conditions.{condition_1, condition_12, condition_2, condition_3, condition_4, condition_5, condition_6, condition_7, condition_8, condition_9}
 use Rattle.hy_schema.specs.Keys.{AreUnique, IsOneWarehouse}
-use Rattle.hy_schema.specs.Related.{is_item, is_order}
+use Rattle.hy_schema.specs.Related.{is_item, is_order, orders_of}
 use Rattle.hy_commands.specs.NewOrders.{is_stock}
 
 -- the keys (O_W_ID, O_D_ID, O_ID), (NO_W_ID, NO_D_ID, NO_O_ID) and (OL_W_ID, OL_D_ID, OL_O_ID, OL_NUMBER)
@@ -72,9 +73,14 @@ pub record HasOwnStock (items : List Item) (number : ℕ) (tables : Tables) : Ty
   pub unique : AreUnique (map stock_key tables.stock)
   pub each : All (λ item. IsTrue (list_any (is_stock number item.id) tables.stock)) items
 
+-- the numbers of a district's orders are below its next one
+abbrev pub IsBehindOrders : List Order → District → Type 0
+IsBehindOrders orders row = All (λ order. order.id < row.next_order) (orders_of row.warehouse row.id orders)
+
 -- the rows are those of one warehouse, its orders and its stock are complete, and they meet the consistency conditions
 pub record IsSoundWarehouse (items : List Item) (number : ℕ) (tables : Tables) : Type 0 where
   pub rows : IsOneWarehouse number tables
   pub orders : HasOwnOrders items number tables
+  pub numbers : All (IsBehindOrders tables.orders) tables.districts
   pub stock : HasOwnStock items number tables
   pub conditions : MeetsOwnConditions tables
