@@ -1,0 +1,212 @@
+-- The numbers of each warehouse of a load stay small, whatever is committed.
+use Rattle.std.proofs.Common.{◌≡◌, ℕ, suc, ◌+◌, ◌*◌, ◌≤◌, ◌==◌, List, [], ◌∷◌, map, length, slice_get, Option, Some, None, refl, sym, subst, ◌∙◌, arith}
+use Rattle.std.specs.Prelude.{All}
+use Rattle.std.proofs.lemmas.List.Elements.{All-filter, All-head, All-map, All-weaker}
+use Rattle.std.proofs.lemmas.Option.{IfSome_then}
+use Rattle.hy_rows.specs.Finding.{is_customer}
+use Rattle.hy_rows.specs.Ranges.{IsBetween}
+use Rattle.hy_rows.specs.Tables.{Lists, Tables, of_warehouse}
+use Rattle.hy_rows.specs.declared.item.Item.{Item}
+use Rattle.hy_rows.specs.declared.warehouse.Warehouse.{Warehouse}
+use Rattle.hy_rows.proofs.BetweenLaws.{bounds}
+use Rattle.hy_schema.specs.declared.refusal.Refusal.{Refusal}
+use Rattle.hy_schema.specs.Loads.{IsCustomerAt, IsDistrictAt, IsHistoryAt, IsItemAt, IsLoad, IsNewOrderAt, IsOrderAt, IsOrderLineAt, IsStockAt, IsWarehouseAt}
+use Rattle.hy_commands.specs.declared.command.Command.{Command}
+use Rattle.hy_commands.specs.declared.command.Command.TheVariants as commands
+use Rattle.hy_commands.specs.declared.command.Commit.{Commit}
+use Rattle.hy_commands.specs.declared.command.Commit.TheVariants as commits
+use Rattle.hy_commands.specs.declared.command.PurchaseLine.{PurchaseLine}
+use Rattle.hy_commands.specs.Growth.{HasGrownBy, IsCustomerUpTo, IsDistrictUpTo, IsLineUpTo, IsNewOrderUpTo, IsOrderUpTo, IsPaymentUpTo, IsStockUpTo, IsWarehouseUpTo}
+use Rattle.hy_commands.specs.Invariant.{IsSoundWarehouse}
+use Rattle.hy_commands.specs.Replay.{committed, replay}
+use Rattle.hy_commands.specs.Transactions.{accepted, act, outcome_of, payer, refusal_of}
+use Rattle.hy_commands.proofs.AcceptedLaws.{IsAccepted, accepted-delivery, accepted-not_refused, accepted-payment, accepted-purchase}
+use Rattle.hy_commands.proofs.GrowthLaws.{ItemsFit, grown-delivered, grown-later, grown-ordered, grown-paid, payer-small}
+use Rattle.hy_commands.proofs.Kept.{not_0, sound-committed}
+use Rattle.hy_commands.proofs.ListLaws.{found-any}
+use Rattle.hy_commands.proofs.SoundLoad.{all-by_place, sound-load}
+
+-- ---- commands
+
+module _ (items : List Item) (fits : ItemsFit items) (number : ℕ) (small : number ≤ 16) where
+  grown-accepted : (command : Command) (tables : Tables) (n : ℕ) → IsAccepted items number command tables
+      → IsSoundWarehouse items number tables → HasGrownBy n tables
+      → HasGrownBy (n + 1) (accepted items number command tables).tables
+  grown-accepted (commands.NewOrder order) tables n passed sound grown =
+      let purchase = accepted-purchase items number order tables passed in
+      grown-ordered items fits number order tables n purchase.count purchase.in_range purchase.moment passed.known
+      (All-weaker (λ (line : PurchaseLine). line.supply_warehouse ≡ number) (λ line. line.supply_warehouse ≤ 16)
+      (λ line own. omega (arith, own, small)) order.lines purchase.suppliers)
+      (sym (found-any (is_customer order.warehouse order.district order.customer) tables.customers) ∙ passed.customer) grown
+  grown-accepted (commands.Payment payment) tables n passed sound grown =
+      let paid = accepted-payment items number payment tables passed in
+      grown-paid payment (payer payment tables).id tables n paid.amount paid.moment
+      (payer-small payment tables n (10 * n) grown.customers) grown
+  grown-accepted (commands.OrderStatus status) tables n passed sound grown = grown-later n tables grown
+  grown-accepted (commands.Delivery delivery) tables n passed sound grown =
+      let done = accepted-delivery items number delivery tables passed in
+      grown-delivered items number delivery done.carrier done.moment (not_0 10 delivery.carrier done.carrier)
+      (not_0 1_000_000_000_000_000 delivery.at done.moment) n tables sound grown
+  grown-accepted (commands.StockLevel level) tables n passed sound grown = grown-later n tables grown
+
+  grown-outcome : (command : Command) (tables : Tables) (n : ℕ) (refusal : Option Refusal)
+      → refusal_of items number command tables ≡ refusal → IsSoundWarehouse items number tables → HasGrownBy n tables
+      → HasGrownBy (n + 1) (outcome_of refusal items number command tables).tables
+  grown-outcome command tables n (Some refusal) is sound grown = grown-later n tables grown
+  grown-outcome command tables n None is sound grown =
+      grown-accepted command tables n (accepted-not_refused items number command tables is) sound grown
+
+  pub grown-act : (command : Command) (tables : Tables) (n : ℕ) → IsSoundWarehouse items number tables
+      → HasGrownBy n tables → HasGrownBy (n + 1) (act items number command tables).tables
+  grown-act command tables n sound grown =
+      grown-outcome command tables n (refusal_of items number command tables) refl sound grown
+
+  pub grown-committed : (tables : Tables) (commit : Commit) (n : ℕ) → IsSoundWarehouse items number tables
+      → HasGrownBy n tables → HasGrownBy (n + 1) (committed items number tables commit)
+  grown-committed tables (commits.Local command) n sound grown = grown-act command tables n sound grown
+
+  pub grown-replay : (loaded : Tables) (commits : List Commit) (n : ℕ) → IsSoundWarehouse items number loaded
+      → HasGrownBy n loaded → HasGrownBy (n + length commits) (replay items number loaded commits)
+  grown-replay loaded [] n sound grown = subst (λ n. HasGrownBy n loaded) (omega arith) grown
+  grown-replay loaded (commit ∷ commits) n sound grown =
+      let after : Tables = committed items number loaded commit in
+      let same : n + 1 + length commits ≡ n + suc (length commits) = omega arith in
+      subst (λ n. HasGrownBy n (replay items number after commits)) same
+      (grown-replay after commits (n + 1) (sound-committed items number loaded commit sound)
+      (grown-committed loaded commit n sound grown))
+
+-- ---- loads
+
+module _ (load : Lists) (is_load : IsLoad load) where
+  abbrev t : Tables
+  t = load.tables
+
+  items-fit : ItemsFit load.items
+  items-fit =
+      all-by_place (λ row. (row.id ≤ 100_000) × (row.price ≤ 1_000_000)) load.items
+      (λ place. IfSome_then (slice_get load.items place) {P = IsItemAt place}
+      {Q = λ row. (row.id ≤ 100_000) × (row.price ≤ 1_000_000)} (is_load.items.each place)
+      (λ row right. ((bounds 1 100_000 row.id (right.0).id).1, (bounds 1 1_000_000 row.price (right.0).price).1)))
+
+  warehouses-fit : All (λ row. IsWarehouseUpTo 0 row × (row.id ≤ 16)) t.warehouses
+  warehouses-fit =
+      all-by_place (λ row. IsWarehouseUpTo 0 row × (row.id ≤ 16)) t.warehouses
+      (λ place. IfSome_then (slice_get t.warehouses place) {P = IsWarehouseAt place}
+      {Q = λ row. IsWarehouseUpTo 0 row × (row.id ≤ 16)} (is_load.warehouses.each place)
+      (λ row right. (record { name = (right.0).name.0; ytd = (right.0).ytd }, (bounds 1 16 row.id (right.0).id).1)))
+
+  districts-fit : All (IsDistrictUpTo 0) t.districts
+  districts-fit =
+      all-by_place (IsDistrictUpTo 0) t.districts
+      (λ place. IfSome_then (slice_get t.districts place) {P = IsDistrictAt (length t.warehouses) place} {Q = IsDistrictUpTo 0}
+      (is_load.districts.each place)
+      (λ row right. record {
+        name = (right.0).name.0;
+        ytd = (right.0).ytd;
+        next_order = omega (arith, (bounds 1 1_000_000_000 row.next_order (right.0).next_order).1);
+      }))
+
+  customers-fit : All (IsCustomerUpTo 0 0) t.customers
+  customers-fit =
+      all-by_place (IsCustomerUpTo 0 0) t.customers
+      (λ place. IfSome_then (slice_get t.customers place) {P = IsCustomerAt (length t.warehouses) t.customers place}
+      {Q = IsCustomerUpTo 0 0} (is_load.customers.each place)
+      (λ row right. record {
+        id = (bounds 1 3_000 row.id (right.0).id).1;
+        balance = (right.0).balance;
+        ytd_payment = (right.0).ytd_payment;
+        payment_count = omega (arith, (right.0).payment_count);
+        delivery_count = omega (arith, (right.0).delivery_count);
+      }))
+
+  history-fit : All IsPaymentUpTo t.history
+  history-fit =
+      all-by_place IsPaymentUpTo t.history
+      (λ place. IfSome_then (slice_get t.history place) {P = IsHistoryAt t.districts t.customers place} {Q = IsPaymentUpTo}
+      (is_load.history.each place)
+      (λ row right. record {
+        customer = (bounds 1 3_000 row.customer (right.0).customer).1;
+        date = (bounds 1 1_000_000_000_000_000 row.date (right.0).date).1;
+        amount = (right.0).amount;
+        information = (right.0).information.0;
+      }))
+
+  orders-fit : All (IsOrderUpTo 0) t.orders
+  orders-fit =
+      all-by_place (IsOrderUpTo 0) t.orders
+      (λ place. IfSome_then (slice_get t.orders place) {P = IsOrderAt t.districts t.customers t.orders place} {Q = IsOrderUpTo 0}
+      (is_load.orders.each place)
+      (λ row right. record {
+        id = omega (arith, (bounds 1 1_000_000_000 row.id (right.0).id).1);
+        customer = (bounds 1 3_000 row.customer (right.0).customer).1;
+        entry_date = (bounds 1 1_000_000_000_000_000 row.entry_date (right.0).entry_date).1;
+        carrier = (right.0).carrier;
+        line_count = (bounds 5 15 row.line_count (right.0).line_count).1;
+        all_local = (right.0).all_local;
+      }))
+
+  new_orders-fit : All (IsNewOrderUpTo 0) t.new_orders
+  new_orders-fit =
+      all-by_place (IsNewOrderUpTo 0) t.new_orders
+      (λ place. IfSome_then (slice_get t.new_orders place) {P = IsNewOrderAt t.orders t.new_orders place} {Q = IsNewOrderUpTo 0}
+      (is_load.new_orders.each place)
+      (λ row right. omega (arith, (bounds 1 1_000_000_000 row.order (right.0).order).1)))
+
+  lines-fit : All (IsLineUpTo 0) t.order_lines
+  lines-fit =
+      all-by_place (IsLineUpTo 0) t.order_lines
+      (λ place. IfSome_then (slice_get t.order_lines place) {P = IsOrderLineAt t.warehouses load.items t.orders t.order_lines place}
+      {Q = IsLineUpTo 0} (is_load.order_lines.each place)
+      (λ row right. record {
+        order = omega (arith, (bounds 1 1_000_000_000 row.order (right.0).order).1);
+        number = (bounds 1 15 row.number (right.0).number).1;
+        item = (bounds 1 100_000 row.item (right.0).item).1;
+        supply_warehouse = (bounds 1 16 row.supply_warehouse (right.0).supply_warehouse).1;
+        delivery_date = (right.0).delivery_date;
+        quantity = (bounds 1 10 row.quantity (right.0).quantity).1;
+        amount = (right.0).amount;
+      }))
+
+  stock-fit : All (IsStockUpTo 0) t.stock
+  stock-fit =
+      all-by_place (IsStockUpTo 0) t.stock
+      (λ place. IfSome_then (slice_get t.stock place) {P = IsStockAt (length t.warehouses) (length load.items) place} {Q = IsStockUpTo 0}
+      (is_load.stock.each place)
+      (λ row right. record {
+        quantity = (right.0).quantity;
+        ytd = omega (arith, (right.0).ytd);
+        order_count = omega (arith, (right.0).order_count);
+        remote_count = omega (arith, (right.0).remote_count);
+      }))
+
+  grown-load : (number : ℕ) → HasGrownBy 0 (of_warehouse number t)
+  grown-load number = record {
+    warehouses =
+        All-filter (λ row. row.id == number) (IsWarehouseUpTo 0) t.warehouses
+        (All-weaker (λ row. IsWarehouseUpTo 0 row × (row.id ≤ 16)) (IsWarehouseUpTo 0) (λ row both. both.0) t.warehouses warehouses-fit);
+    districts = All-filter (λ row. row.warehouse == number) (IsDistrictUpTo 0) t.districts districts-fit;
+    customers = All-filter (λ row. row.warehouse == number) (IsCustomerUpTo 0 0) t.customers customers-fit;
+    history = All-filter (λ row. row.warehouse == number) IsPaymentUpTo t.history history-fit;
+    orders = All-filter (λ row. row.warehouse == number) (IsOrderUpTo 0) t.orders orders-fit;
+    new_orders = All-filter (λ row. row.warehouse == number) (IsNewOrderUpTo 0) t.new_orders new_orders-fit;
+    order_lines = All-filter (λ row. row.warehouse == number) (IsLineUpTo 0) t.order_lines lines-fit;
+    stock = All-filter (λ row. row.warehouse == number) (IsStockUpTo 0) t.stock stock-fit;
+  }
+
+  -- the number of a warehouse of the load
+  number-small : (number : ℕ) → IsBetween 1 (length t.warehouses) number → number ≤ 16
+  number-small number between =
+      let sound = sound-load number load is_load between in
+      let ids : All (λ id. id ≤ 16) (map (λ (row : Warehouse). row.id) (of_warehouse number t).warehouses) =
+      All-map (λ id. id ≤ 16) (λ (row : Warehouse). row.id) (of_warehouse number t).warehouses
+      (All-filter (λ row. row.id == number) (λ row. row.id ≤ 16) t.warehouses
+      (All-weaker (λ row. IsWarehouseUpTo 0 row × (row.id ≤ 16)) (λ row. row.id ≤ 16) (λ row both. both.1) t.warehouses warehouses-fit)) in
+      All-head (λ id. id ≤ 16) number [] (subst (All (λ id. id ≤ 16)) sound.rows.warehouse ids)
+
+  pub grown-commits : (number : ℕ) (commits : List Commit) → IsBetween 1 (length t.warehouses) number
+      → HasGrownBy (length commits) (replay load.items number (of_warehouse number t) commits)
+  grown-commits number commits between =
+      let same : 0 + length commits ≡ length commits = omega arith in
+      subst (λ n. HasGrownBy n (replay load.items number (of_warehouse number t) commits)) same
+      (grown-replay load.items items-fit number (number-small number between) (of_warehouse number t) commits 0
+      (sound-load number load is_load between) (grown-load number))

@@ -1,0 +1,12 @@
+pub mod ListLaws
+pub mod NumberLaws
+pub mod MeetsLaws
+pub mod AcceptedLaws
+pub mod OnceLaws
+pub mod KeptByPayment
+pub mod KeptByNewOrder
+pub mod KeptByDelivery
+pub mod Kept
+pub mod SoundLoad
+pub mod GrowthLaws
+pub mod Grown

@@ -1,0 +1,81 @@
+-- Commands: the ranges of their values, the warehouses that they name, and what an accepted one adds to the kept list.
+use Rattle.std.specs.Prelude.{ℕ, Bool, true, false, nat_le, ◌==◌, ◌&&◌, if◌then◌else◌, List, [], ◌∷◌, ◌++◌, length, fold}
+use Rattle.std.specs.List.{list_all, list_any}
+use Rattle.hy_rows.specs.Limits.{max_carriers, max_lines, max_moment, max_payment, max_quantity, min_lines, min_payment}
+use Rattle.hy_rows.specs.Ranges.{is_between}
+use Rattle.hy_commands.specs.declared.command.Command.{Command}
+use Rattle.hy_commands.specs.declared.command.Command.TheVariants as commands
+use Rattle.hy_commands.specs.declared.command.Commit.{Commit}
+use Rattle.hy_commands.specs.declared.command.Commit.TheVariants as commits
+use Rattle.hy_commands.specs.declared.command.PurchaseLine.{PurchaseLine}
+use Rattle.hy_commands.specs.declared.command.Who.{Who}
+use Rattle.hy_commands.specs.declared.command.Who.TheVariants as who
+
+-- ---- ranges
+
+abbrev pub is_moment : ℕ → Bool
+is_moment moment = is_between 1 max_moment moment
+
+-- a last name: at most 16 characters, each printable
+abbrev pub max_name : ℕ
+max_name = 16
+
+abbrev pub is_name : List ℕ → Bool
+is_name bytes = nat_le (length bytes) max_name && list_all (is_between 32 126) bytes
+
+abbrev pub is_who : Who → Bool
+is_who (who.Number number) = true
+is_who (who.Last name) = is_name name
+
+-- clause 2.4.1: 5 to 15 lines, each of 1 to 10
+abbrev pub is_line_in_range : PurchaseLine → Bool
+is_line_in_range line = is_between 1 max_quantity line.quantity
+
+-- clause 2.8.1.2
+abbrev pub min_threshold : ℕ
+min_threshold = 10
+
+abbrev pub max_threshold : ℕ
+max_threshold = 20
+
+abbrev pub is_in_range : Command → Bool
+is_in_range (commands.NewOrder order) =
+    is_between min_lines max_lines (length order.lines) && list_all is_line_in_range order.lines && is_moment order.at
+is_in_range (commands.Payment payment) =
+    is_between min_payment max_payment payment.amount && is_moment payment.at && is_who payment.who
+is_in_range (commands.OrderStatus status) = is_who status.who
+is_in_range (commands.Delivery delivery) = is_between 1 max_carriers delivery.carrier && is_moment delivery.at
+is_in_range (commands.StockLevel level) = is_between min_threshold max_threshold level.threshold
+
+-- ---- the warehouses that a command names
+
+-- the home warehouse
+abbrev pub home_of : Command → ℕ
+home_of (commands.NewOrder order) = order.warehouse
+home_of (commands.Payment payment) = payment.warehouse
+home_of (commands.OrderStatus status) = status.warehouse
+home_of (commands.Delivery delivery) = delivery.warehouse
+home_of (commands.StockLevel level) = level.warehouse
+
+-- the list with a number behind it that it doesn't have
+abbrev pub with_named : List ℕ → ℕ → List ℕ
+with_named named number = if list_any (λ other. other == number) named then named else named ++ number ∷ []
+
+-- the warehouses that a command names, its home first, each once
+abbrev pub warehouses_of : Command → List ℕ
+warehouses_of (commands.NewOrder order) =
+    fold (λ named line. with_named named line.supply_warehouse) (order.warehouse ∷ []) order.lines
+warehouses_of (commands.Payment payment) = with_named (payment.warehouse ∷ []) payment.customer_warehouse
+warehouses_of command = home_of command ∷ []
+
+-- ---- the kept list
+
+-- whether a command only reads
+abbrev pub is_reader : Command → Bool
+is_reader (commands.OrderStatus status) = true
+is_reader (commands.StockLevel level) = true
+is_reader command = false
+
+-- what an accepted command of one warehouse adds to the kept list: one that only reads adds nothing
+abbrev pub kept_of : Command → List Commit
+kept_of command = if is_reader command then [] else commits.Local command ∷ []

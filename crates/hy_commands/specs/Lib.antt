@@ -1,0 +1,15 @@
+pub mod Commands
+pub mod Customers
+pub mod Sorting
+pub mod NewOrders
+pub mod Payments
+pub mod OrderStatus
+pub mod Deliveries
+pub mod StockLevels
+pub mod Transactions
+pub mod Replay
+pub mod Invariant
+pub mod Growth
+pub mod WorkedSample
+pub mod WorkedTransactions
+pub mod WorkedDeliveries

@@ -1,0 +1,15 @@
+-- A warehouse after a list of commits, one after the other.
+use Rattle.std.specs.Prelude.{ℕ, List, fold}
+use Rattle.hy_rows.specs.declared.item.Item.{Item}
+use Rattle.hy_rows.specs.Tables.{Tables}
+use Rattle.hy_commands.specs.declared.command.Commit.{Commit}
+use Rattle.hy_commands.specs.declared.command.Commit.TheVariants as commits
+use Rattle.hy_commands.specs.Transactions.{act}
+
+-- the rows of a warehouse after one commit
+abbrev pub committed : List Item → ℕ → Tables → Commit → Tables
+committed items warehouse tables (commits.Local command) = (act items warehouse command tables).tables
+
+-- the rows of a warehouse after the commits, from the loaded rows on
+abbrev pub replay : List Item → ℕ → Tables → List Commit → Tables
+replay items warehouse loaded commits = fold (committed items warehouse) loaded commits

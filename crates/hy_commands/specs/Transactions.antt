@@ -1,0 +1,122 @@
+-- What a command that names one warehouse does to it, and its reply (TPC-C clause 2). Nothing here knows of slices of a
+-- transaction, of memory or of pages.
+use Rattle.std.specs.Prelude.{ℕ, Bool, true, ◌==◌, ◌&&◌, not, if◌then◌else◌, is_some, Option, Some, None, List, [], find, unwrap_or}
+use Rattle.std.specs.List.{list_all}
+use Rattle.std.specs.Option.{option_or}
+use Rattle.hy_rows.specs.declared.customer.Customer.{Customer}
+use Rattle.hy_rows.specs.declared.item.Item.{Item}
+use Rattle.hy_rows.specs.Finding.{is_customer}
+use Rattle.hy_rows.specs.Limits.{districts_per_warehouse}
+use Rattle.hy_rows.specs.Ranges.{is_between}
+use Rattle.hy_rows.specs.Rows.{customer_of}
+use Rattle.hy_rows.specs.Tables.{Tables}
+use Rattle.hy_schema.specs.declared.refusal.Refusal.{Refusal}
+use Rattle.hy_schema.specs.declared.refusal.Refusal.TheVariants as refusals
+use Rattle.hy_commands.specs.declared.command.Command.{Command}
+use Rattle.hy_commands.specs.declared.command.Command.TheVariants as commands
+use Rattle.hy_commands.specs.declared.command.OrderStatus.{OrderStatus}
+use Rattle.hy_commands.specs.declared.command.Payment.{Payment}
+use Rattle.hy_commands.specs.declared.reply.Reply.{Reply}
+use Rattle.hy_commands.specs.declared.reply.Reply.TheVariants as replies
+use Rattle.hy_commands.specs.Commands.{is_in_range, warehouses_of}
+use Rattle.hy_commands.specs.Customers.{customer_meant}
+use Rattle.hy_commands.specs.Deliveries.{delivered, deliveries}
+use Rattle.hy_commands.specs.NewOrders.{has_item, order_number, ordered, purchase_total, supplied}
+use Rattle.hy_commands.specs.OrderStatus.{last_placed}
+use Rattle.hy_commands.specs.Payments.{customer_paid, paid_by, paid_in}
+use Rattle.hy_commands.specs.StockLevels.{low_items}
+
+-- ---- refusals
+
+-- whether the districts that a command names are there
+abbrev pub is_district_number : ℕ → Bool
+is_district_number number = is_between 1 districts_per_warehouse number
+
+abbrev pub has_districts : Command → Bool
+has_districts (commands.NewOrder order) = is_district_number order.district
+has_districts (commands.Payment payment) =
+    is_district_number payment.district && is_district_number payment.customer_district
+has_districts (commands.OrderStatus status) = is_district_number status.district
+has_districts (commands.Delivery delivery) = true
+has_districts (commands.StockLevel level) = is_district_number level.district
+
+-- whether the customer whom a command names is there
+abbrev pub has_customer : Command → Tables → Bool
+has_customer (commands.NewOrder order) tables =
+    is_some (find (is_customer order.warehouse order.district order.customer) tables.customers)
+has_customer (commands.Payment payment) tables =
+    is_some (customer_meant payment.customer_warehouse payment.customer_district payment.who tables.customers)
+has_customer (commands.OrderStatus status) tables =
+    is_some (customer_meant status.warehouse status.district status.who tables.customers)
+has_customer command tables = true
+
+-- whether the items that a command names are there
+abbrev pub has_items : List Item → Command → Bool
+has_items items (commands.NewOrder order) = list_all (has_item items) order.lines
+has_items items command = true
+
+-- why a warehouse doesn't begin a command: the first of these that holds
+abbrev pub begin_refusal_of : ℕ → Command → Tables → Option Refusal
+begin_refusal_of warehouse command tables =
+    if not (is_in_range command) then Some refusals.OutOfRange
+    else if not (list_all (λ named. named == warehouse) (warehouses_of command)) then Some refusals.NoSuchWarehouse
+    else if not (has_districts command) then Some refusals.NoSuchDistrict
+    else if not (has_customer command tables) then Some refusals.NoSuchCustomer
+    else None
+
+-- why it refuses a command: it doesn't begin it, or an item isn't there, which the line that names it finds
+abbrev pub refusal_of : List Item → ℕ → Command → Tables → Option Refusal
+refusal_of items warehouse command tables =
+    option_or (begin_refusal_of warehouse command tables)
+    (if has_items items command then None else Some refusals.NoSuchItem)
+
+-- ---- what an accepted command does
+
+-- what is left of a command: the rows after it, and the reply
+pub record Outcome : Type 0 where
+  pub tables : Tables
+  pub reply : Reply
+
+-- the customer who is meant; a command is accepted only where there is one
+abbrev pub payer : Payment → Tables → Customer
+payer payment tables =
+    unwrap_or (customer_meant payment.customer_warehouse payment.customer_district payment.who tables.customers)
+    (customer_of [])
+
+abbrev pub asker : OrderStatus → Tables → Customer
+asker status tables =
+    unwrap_or (customer_meant status.warehouse status.district status.who tables.customers) (customer_of [])
+
+-- the reply to Order-Status
+abbrev pub status_reply : Customer → Tables → Reply
+status_reply row tables =
+    replies.OrderStatus row.id row.first row.middle row.last row.balance (last_placed row tables)
+
+abbrev pub accepted : List Item → ℕ → Command → Tables → Outcome
+accepted items warehouse (commands.NewOrder order) tables = record {
+  tables = supplied warehouse order (ordered items order tables);
+  reply = replies.NewOrder (order_number order tables) (purchase_total items order tables);
+}
+accepted items warehouse (commands.Payment payment) tables =
+    let row : Customer = payer payment tables in
+    record {
+      tables = paid_by payment row.id (paid_in payment row.id tables);
+      reply = replies.Payment row.id (customer_paid payment.amount row).balance;
+    }
+accepted items warehouse (commands.OrderStatus status) tables =
+    record { tables = tables; reply = status_reply (asker status tables) tables }
+accepted items warehouse (commands.Delivery delivery) tables =
+    record { tables = delivered delivery tables; reply = replies.Delivery (deliveries delivery tables) }
+accepted items warehouse (commands.StockLevel level) tables =
+    record { tables = tables; reply = replies.StockLevel (low_items level tables) }
+
+-- a refused command changes nothing
+abbrev pub outcome_of : Option Refusal → List Item → ℕ → Command → Tables → Outcome
+outcome_of (Some refusal) items warehouse command tables =
+    record { tables = tables; reply = replies.Refused refusal }
+outcome_of None items warehouse command tables = accepted items warehouse command tables
+
+-- what a command does to a warehouse with this number and these rows
+abbrev pub act : List Item → ℕ → Command → Tables → Outcome
+act items warehouse command tables =
+    outcome_of (refusal_of items warehouse command tables) items warehouse command tables

@@ -1,0 +1,380 @@
+//! Commands and commits.
+
+ghost use Rattle.std.specs.Prelude.{◌≡◌, ◌<◌, ◌≤◌, ◌+◌, ◌↔◌, IsTrue, IsOk, IsErrOf, fold, length};
+ghost use Rattle.std.specs.List.{list_all};
+ghost use Rattle.hy_rows.specs.Ranges.{is_between};
+ghost use Rattle.hy_commands.specs.declared.command.Command.TheVariants as commands;
+ghost use Rattle.hy_commands.specs.Commands.{home_of, is_in_range, is_line_in_range, is_moment, is_name, is_reader, is_who, warehouses_of, with_named};
+
+use arrayvec::ArrayVec;
+use hy_rows::{MAX_MOMENT, MAX_WAREHOUSES};
+use hy_schema::Refusal;
+use std::marker::Model;
+
+/// How many warehouses a command can name.
+pub const MAX_NAMED: usize = MAX_WAREHOUSES as usize;
+
+/// How many characters a last name may have.
+pub const MAX_NAME: usize = 16;
+
+/// The least and the greatest number of lines of a purchase (TPC-C clause 2.4.1.3).
+pub const MIN_PURCHASE_LINES: usize = 5;
+
+/// See `MIN_PURCHASE_LINES`.
+pub const MAX_PURCHASE_LINES: usize = 15;
+
+/// The greatest quantity of a line (TPC-C clause 2.4.1.5).
+pub const MAX_LINE_QUANTITY: u64 = 10;
+
+/// The least amount in cents that is paid at once (TPC-C clause 2.5.1.3).
+pub const MIN_PAYMENT: u64 = 100;
+
+/// The greatest such amount.
+pub const MAX_PAYMENT: u64 = 500_000;
+
+/// The greatest number of a carrier (TPC-C clause 2.7.1.2).
+pub const MAX_CARRIER: u64 = 10;
+
+/// The least threshold of Stock-Level (TPC-C clause 2.8.1.2).
+pub const MIN_THRESHOLD: u64 = 10;
+
+/// The greatest threshold of Stock-Level.
+pub const MAX_THRESHOLD: u64 = 20;
+
+/// A last name, as a command gives it: any bytes.
+#[derive(Debug, Drop)]
+pub struct Name {
+    bytes: Vec<u8>,
+}
+
+impl Model for Name {
+    ghost use Rattle.std.specs.Prelude.{ℕ, List};
+
+    ghost Value = { List ℕ };
+
+    ghost view = { λ name. name.bytes.items };
+}
+
+impl Name {
+    ghost use Rattle.std.specs.Prelude.{◌≡◌};
+
+    /// The name with these bytes.
+    pub fn new(bytes: Vec<u8>) -> Name
+        ensures { result ≡ bytes.items }
+    {
+        Name { bytes }
+    }
+
+    /// Its bytes.
+    pub fn as_bytes(&self) -> &[u8]
+        ensures { result.now ≡ self.now }
+    {
+        &self.bytes
+    }
+}
+
+/// Which customer of a district is meant (TPC-C clauses 2.5.1.2 and 2.6.1.2).
+#[derive(Debug, Drop)]
+pub enum Who {
+    /// The customer with this number.
+    Number(u64),
+    /// The one in the middle of those with this last name.
+    Last(Name),
+}
+
+/// A line of a purchase (TPC-C clause 2.4.1.5).
+#[derive(Clone, Copy, Debug, PartialEq, Eq)]
+pub struct PurchaseLine {
+    /// The item.
+    pub item: u64,
+    /// The warehouse that supplies it.
+    pub supply_warehouse: u64,
+    /// How many, from 1 to 10.
+    pub quantity: u64,
+}
+
+/// The lines of a purchase, in their order.
+#[derive(Debug, Drop)]
+pub struct PurchaseLines {
+    lines: Vec<PurchaseLine>,
+}
+
+impl Model for PurchaseLines {
+    ghost use Rattle.std.specs.Prelude.{List};
+    ghost use Rattle.hy_commands.specs.declared.command.PurchaseLine.{PurchaseLine};
+
+    ghost Value = { List PurchaseLine };
+
+    ghost view = { λ lines. lines.lines.items };
+}
+
+impl PurchaseLines {
+    ghost use Rattle.std.specs.Prelude.{◌≡◌};
+
+    /// These lines.
+    pub fn new(lines: Vec<PurchaseLine>) -> PurchaseLines
+        ensures { result ≡ lines.items }
+    {
+        PurchaseLines { lines }
+    }
+
+    /// The lines in their order.
+    pub fn as_slice(&self) -> &[PurchaseLine]
+        ensures { result.now ≡ self.now }
+    {
+        &self.lines
+    }
+}
+
+/// A New-Order transaction (TPC-C clause 2.4): a customer orders items.
+#[derive(Debug, Drop)]
+pub struct Purchase {
+    /// The home warehouse.
+    pub warehouse: u64,
+    /// The district of the customer.
+    pub district: u64,
+    /// The customer.
+    pub customer: u64,
+    /// The moment, from 1 to `MAX_MOMENT`.
+    pub at: u64,
+    /// The 5 to 15 lines.
+    pub lines: PurchaseLines,
+}
+
+/// A Payment transaction (TPC-C clause 2.5): a customer pays an amount at a district of the home warehouse.
+#[derive(Debug, Drop)]
+pub struct Payment {
+    /// The home warehouse.
+    pub warehouse: u64,
+    /// The district of the home warehouse that takes the payment.
+    pub district: u64,
+    /// The warehouse of the customer.
+    pub customer_warehouse: u64,
+    /// The district of the customer.
+    pub customer_district: u64,
+    /// The customer.
+    pub who: Who,
+    /// The amount in cents, from 100 to 500,000.
+    pub amount: u64,
+    /// The moment, from 1 to `MAX_MOMENT`.
+    pub at: u64,
+}
+
+/// An Order-Status transaction (TPC-C clause 2.6): what became of a customer's last order.
+#[derive(Debug, Drop)]
+pub struct OrderStatus {
+    /// The home warehouse.
+    pub warehouse: u64,
+    /// The district of the customer.
+    pub district: u64,
+    /// The customer.
+    pub who: Who,
+}
+
+/// A Delivery transaction (TPC-C clause 2.7): in each district the oldest undelivered order is delivered.
+#[derive(Clone, Copy, Debug, PartialEq, Eq)]
+pub struct Delivery {
+    /// The home warehouse.
+    pub warehouse: u64,
+    /// The carrier, from 1 to 10.
+    pub carrier: u64,
+    /// The moment, from 1 to `MAX_MOMENT`.
+    pub at: u64,
+}
+
+/// A Stock-Level transaction (TPC-C clause 2.8): how many items of a district's last orders are nearly sold out.
+#[derive(Clone, Copy, Debug, PartialEq, Eq)]
+pub struct StockLevel {
+    /// The home warehouse.
+    pub warehouse: u64,
+    /// The district.
+    pub district: u64,
+    /// The threshold of the quantity in stock, from 10 to 20.
+    pub threshold: u64,
+}
+
+/// A transaction with its parameters, before anything is known of them.
+#[derive(Debug, Drop)]
+pub enum Command {
+    /// A customer orders items.
+    NewOrder(Purchase),
+    /// A customer pays.
+    Payment(Payment),
+    /// What became of a customer's last order.
+    OrderStatus(OrderStatus),
+    /// The oldest undelivered order of each district is delivered.
+    Delivery(Delivery),
+    /// How many items of a district's last orders are nearly sold out.
+    StockLevel(StockLevel),
+}
+
+/// A transaction that was accepted, as the kept list has it.
+#[derive(Debug, Drop)]
+pub enum Commit {
+    /// A command that names one warehouse.
+    Local(Command),
+}
+
+/// Whether a byte is a printable character.
+fn is_printable(byte: u8) -> bool
+    ensures { result ≡ is_between 32 126 byte }
+{
+    (32..=126).contains(&byte)
+}
+
+/// Whether all bytes are printable characters.
+fn are_printable(bytes: &[u8]) -> bool
+    ensures { result ≡ list_all (is_between 32 126) bytes.now }
+{
+    bytes.iter().all(|byte| is_printable(*byte))
+}
+
+impl Name {
+    /// Whether it is at most `MAX_NAME` printable characters.
+    fn is_name(&self) -> bool
+        ensures { result ≡ is_name self.now }
+    {
+        self.bytes.len() <= MAX_NAME && are_printable(&self.bytes)
+    }
+}
+
+impl Who {
+    /// Whether a last name is in range.
+    fn is_in_range(&self) -> bool
+        ensures { result ≡ is_who self.now }
+    {
+        match self {
+            Who::Number(_) => true,
+            Who::Last(name) => name.is_name(),
+        }
+    }
+}
+
+/// Whether a moment is in range.
+fn is_moment(moment: u64) -> bool
+    ensures { result ≡ is_moment moment }
+{
+    (1..=MAX_MOMENT).contains(&moment)
+}
+
+impl PurchaseLine {
+    /// Whether the quantity is in range.
+    fn is_in_range(&self) -> bool
+        ensures { result ≡ is_line_in_range self.now }
+    {
+        (1..=MAX_LINE_QUANTITY).contains(&self.quantity)
+    }
+}
+
+/// Whether the quantities of all lines are in range.
+fn are_in_range(lines: &[PurchaseLine]) -> bool
+    ensures { result ≡ list_all is_line_in_range lines.now }
+{
+    lines.iter().all(|line| line.is_in_range())
+}
+
+impl Purchase {
+    /// Whether the lines and the moment are in range.
+    fn is_in_range(&self) -> bool
+        ensures { result ≡ is_in_range (commands.NewOrder self.now) }
+    {
+        let lines = self.lines.as_slice();
+        (MIN_PURCHASE_LINES..=MAX_PURCHASE_LINES).contains(&lines.len())
+            && are_in_range(lines)
+            && is_moment(self.at)
+    }
+}
+
+impl Payment {
+    /// Whether the amount, the moment and a last name are in range.
+    fn is_in_range(&self) -> bool
+        ensures { result ≡ is_in_range (commands.Payment self.now) }
+    {
+        (MIN_PAYMENT..=MAX_PAYMENT).contains(&self.amount)
+            && is_moment(self.at)
+            && self.who.is_in_range()
+    }
+}
+
+impl Command {
+    /// E8 exactly where a value of the command is outside its range: lines 5 to 15, a quantity 1 to 10, an amount 100 to
+    /// 500,000 cents, a carrier 1 to 10, a threshold 10 to 20, a moment 1 to 10^15, a last name at most 16 printable
+    /// characters (TPC-C clauses 2.4.1, 2.5.1, 2.7.1, 2.8.1). Takes no memory.
+    pub fn check(&self) -> Result<(), Refusal>
+        ensures ok { IsOk result ↔ IsTrue (is_in_range self.now) }
+        ensures out_of_range { IsErrOf result Refusal.OutOfRange ↔ ¬ (IsTrue (is_in_range self.now)) }
+    {
+        let in_range = match self {
+            Command::NewOrder(order) => order.is_in_range(),
+            Command::Payment(payment) => payment.is_in_range(),
+            Command::OrderStatus(status) => status.who.is_in_range(),
+            Command::Delivery(delivery) => {
+                (1..=MAX_CARRIER).contains(&delivery.carrier) && is_moment(delivery.at)
+            }
+            Command::StockLevel(level) => (MIN_THRESHOLD..=MAX_THRESHOLD).contains(
+                &level.threshold,
+            ),
+        };
+        if in_range {
+            Ok(())
+        } else {
+            Err(Refusal::OutOfRange)
+        }
+    }
+
+    /// Whether the command only reads.
+    pub fn is_reader(&self) -> bool
+        ensures { result ≡ is_reader self.now }
+    {
+        matches!(self, Command::OrderStatus(_) | Command::StockLevel(_))
+    }
+
+    /// The home warehouse.
+    pub fn home(&self) -> u64
+        ensures { result ≡ home_of self.now }
+    {
+        match self {
+            Command::NewOrder(order) => order.warehouse,
+            Command::Payment(payment) => payment.warehouse,
+            Command::OrderStatus(status) => status.warehouse,
+            Command::Delivery(delivery) => delivery.warehouse,
+            Command::StockLevel(level) => level.warehouse,
+        }
+    }
+
+    /// The warehouses that the command names, its home first, each once. Takes no memory. At most `MAX_NAMED` are named,
+    /// since a command in range has at most 15 lines.
+    pub fn warehouses(&self) -> ArrayVec<u64, MAX_NAMED>
+        requires { IsTrue (is_in_range self.now) }
+        ensures { result.items ≡ warehouses_of self.now }
+    {
+        let mut named = ArrayVec::new();
+        named.push(self.home());
+        match self {
+            Command::NewOrder(order) => name_suppliers(&mut named, order.lines.as_slice()),
+            Command::Payment(payment) => name_warehouse(&mut named, payment.customer_warehouse),
+            _ => {}
+        }
+        named
+    }
+}
+
+/// Names a warehouse, where it isn't named yet.
+fn name_warehouse(named: &mut ArrayVec<u64, MAX_NAMED>, warehouse: u64)
+    requires { length named.old.items < 16 }
+    ensures { named.new.items ≡ with_named named.old.items warehouse }
+{
+    if !named.contains(&warehouse) {
+        named.push(warehouse);
+    }
+}
+
+/// Names the warehouses that supply lines.
+fn name_suppliers(named: &mut ArrayVec<u64, MAX_NAMED>, lines: &[PurchaseLine])
+    requires { length named.old.items + length lines.now ≤ 16 }
+    ensures { named.new.items ≡ fold (λ named line. with_named named line.supply_warehouse) named.old.items lines.now }
+{
+    for line in lines {
+        name_warehouse(named, line.supply_warehouse);
+    }
+}

@@ -1,0 +1,17 @@
+//! Commands of the five transactions, and what they mean.
+#![tactic(auto)]
+
+mod command;
+mod reply;
+mod theorem;
+
+pub use command::{
+    Command, Commit, Delivery, MAX_CARRIER, MAX_LINE_QUANTITY, MAX_NAME, MAX_NAMED, MAX_PAYMENT,
+    MAX_PURCHASE_LINES, MAX_THRESHOLD, MIN_PAYMENT, MIN_PURCHASE_LINES, MIN_THRESHOLD, Name,
+    OrderStatus, Payment, Purchase, PurchaseLine, PurchaseLines, StockLevel, Who,
+};
+pub use reply::{PlacedOrder, Reply, StatusLines};
+pub use theorem::{conditions_are_kept, numbers_stay_small};
+
+#[cfg(test)]
+mod tests;
