@@ -4,3 +4,4 @@ mod Steps
 mod Totals
 mod SerialLaws
 mod AgreementLaws
+mod Telling

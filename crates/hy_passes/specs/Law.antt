@@ -1,5 +1,5 @@
 -- What the seats know, and the rule that ties it to the word.
-use Rattle.std.specs.Prelude.{ℕ, suc, ◌+◌, ◌==◌, ◌≤◌, ◌≡◌, Bool, true, false, not, List, [], ◌∷◌, ◌++◌, filter, length, Option, Some, None}
+use Rattle.std.specs.Prelude.{ℕ, zero, suc, ◌+◌, ◌==◌, ◌≤◌, ◌≡◌, Bool, true, false, not, List, [], ◌∷◌, ◌++◌, filter, length, Option, Some, None}
 use Rattle.std.specs.List.{list_any}
 use mathlib.Core.List.{IsPrefix}
 use mathlib.Core.Option.{some, none}
@@ -19,6 +19,11 @@ is_served None warehouse = false
 abbrev pub is_told : List ℕ → ℕ → Bool
 is_told behind warehouse = not (list_any (λ named. named == warehouse) behind)
 
+-- who has still to be told when the partitions of warehouses 1 to the last have been told, one after the other
+abbrev pub after_telling : ℕ → List ℕ → List ℕ
+after_telling zero behind = behind
+after_telling (suc last) behind = filter (λ w. not (w == suc last)) (after_telling last behind)
+
 module _ {C : Type 0} where
   -- who knows nothing
   abbrev pub nothing : Knowledge C
@@ -31,6 +36,7 @@ module _ {C : Type 0} where
   abbrev pub dealer : ℕ → View C
   dealer dealt = record { mine = nothing; guest = nothing; behind = []; dealt = dealt }
 
+  -- a seat that isn't the journal's
   abbrev pub holder : Knowledge C → View C
   holder k = record { mine = k; guest = nothing; behind = []; dealt = 0 }
 

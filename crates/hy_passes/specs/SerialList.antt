@@ -31,10 +31,18 @@ is_number None = false
 abbrev pub are_warehouses : ℕ → List ℕ → Bool
 are_warehouses last named = nat_lt 0 (length named) && list_all (λ w. nat_le 1 w && nat_le w last) named
 
+abbrev pub first_of : List ℕ → Option ℕ
+first_of [] = None
+first_of (number ∷ numbers) = Some number
+
 module _ {C : Type 0} (warehouses : C → List ℕ) where
   -- whether a commit names the warehouse
   abbrev pub names : ℕ → C → Bool
   names warehouse commit = list_any (λ named. named == warehouse) (warehouses commit)
+
+  -- the home of a commit: the first warehouse that it names
+  abbrev pub home_of : C → Option ℕ
+  home_of commit = first_of (warehouses commit)
 
   -- the projection of a list of commits on a warehouse: the commits that name it, in their order
   abbrev pub projection : ℕ → List C → List C

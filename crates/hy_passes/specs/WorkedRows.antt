@@ -1,7 +1,7 @@
 -- Worked rows, which the checker computes: three commits of two warehouses, one of them crossing.
 use Rattle.std.specs.Prelude.{◌≡◌, ℕ, true, false, List, [], ◌∷◌, Option, Some, None, refl}
 use Rattle.hy_passes.specs.declared.entry.Entry.{Entry}
-use Rattle.hy_passes.specs.SerialList.{are_warehouses, kept_of, number_after, numbers_of, respects_stamps}
+use Rattle.hy_passes.specs.SerialList.{are_warehouses, home_of, kept_of, number_after, numbers_of, respects_stamps}
 
 -- a commit of these rows: its warehouses, its number if it is crossing, and what it does
 record Note : Type 0 where
@@ -40,6 +40,10 @@ kept-2 = refl
 
 kept-3 : kept_of warehouses_of 3 log ≡ []
 kept-3 = refl
+
+-- the home of the crossing commit is the first warehouse that it names
+home : home_of warehouses_of crossing ≡ Some 2
+home = refl
 
 -- the stamps are respected; a commit whose client knew three can't be the third
 respected : respects_stamps log ≡ true

@@ -16,6 +16,9 @@ use std::alloc::Global;
 use std::marker::Model;
 use std::sync::Arc;
 
+/// Fewer commits than these must lie in the kept list of a warehouse that a commit enters.
+pub const MAX_COMMITS: u64 = 4_294_967_296;
+
 /// All of the serial list, and which warehouses have still to be told of a commit. The commits themselves lie in the
 /// partitions; here they are counted.
 #[derive(Drop)]

@@ -19,6 +19,12 @@ use std::alloc::{AllocError, Global};
 use std::marker::{Model, PhantomData};
 use std::sync::Arc;
 
+/// How many partitions a kit can have.
+pub const MAX_PARTITIONS: u8 = 16;
+
+/// How many clients a kit can have.
+pub const MAX_CLIENTS: u32 = 1024;
+
 /// A shared word with an empty list, which belongs to no world yet.
 #[derive(Drop)]
 pub struct Kit<C: Commits> {

@@ -1,10 +1,11 @@
 //! What the definitions mean for whoever holds all of the kept lists, or a pass.
 
-ghost use Rattle.std.specs.Prelude.{ℕ, List};
+ghost use Rattle.std.specs.Prelude.{◌≡◌, ℕ, true, List, []};
 ghost use mathlib.Core.List.{IsPrefix};
 ghost use Rattle.hy_passes.specs.declared.entry.Entry.{Entry};
 ghost use Rattle.hy_passes.specs.Agreement.{Agree, AreProjections};
-ghost use Rattle.hy_passes.specs.SerialList.{kept_of, IsSerial};
+ghost use Rattle.hy_passes.specs.SerialList.{are_warehouses, kept_of, IsSerial};
+ghost use Rattle.hy_passes.specs.Law.{after_telling};
 
 use crate::entry::Commits;
 
@@ -16,4 +17,9 @@ pub fn projections_agree<C: Commits>(_commit: &C)
 /// A beginning of the serial list has a beginning of each kept list.
 pub fn beginnings_of_kept_lists<C: Commits>(_commit: &C)
     ensures { (seen log : List (Entry C)) (warehouse : ℕ) → IsPrefix seen log → IsPrefix (kept_of C.warehouses warehouse seen) (kept_of C.warehouses warehouse log) }
+{}
+
+/// A commit names warehouses of the kit alone, so that nobody is behind once all partitions have been told.
+pub fn telling_all_leaves_none_behind()
+    ensures { (partitions : ℕ) (named : List ℕ) → are_warehouses partitions named ≡ true → after_telling partitions named ≡ [] }
 {}

@@ -14,10 +14,10 @@ mod view;
 mod world;
 
 pub use entry::{Commits, Entry};
-pub use journal::{Journal, SerialList};
+pub use journal::{Journal, MAX_COMMITS, SerialList};
 pub use kept::KeptList;
-pub use kit::{Kit, make};
-pub use laws::{beginnings_of_kept_lists, projections_agree};
+pub use kit::{Kit, MAX_CLIENTS, MAX_PARTITIONS, make};
+pub use laws::{beginnings_of_kept_lists, projections_agree, telling_all_leaves_none_behind};
 pub use pass::Pass;
 pub use passes::Passes;
 pub use seat::PartitionSeat;

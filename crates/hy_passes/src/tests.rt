@@ -3,7 +3,7 @@
 ghost use Rattle.std.specs.Prelude.{◌≡◌, ℕ, ◌==◌, ◌≢◌, suc, ◌+◌, ◌<◌, ◌≤◌, if◌then◌else◌, [], ◌∷◌, ◌++◌, length, true, Some, None};
 ghost use Rattle.hy_passes.specs.SerialList.{are_warehouses, kept_of, max_commits, numbers_of};
 
-use crate::{Commits, Entry, Journal, KeptList, Kit, Pass, Passes, World, make};
+use crate::{Commits, Entry, Journal, KeptList, Kit, MAX_COMMITS, Pass, Passes, World, make};
 use std::alloc::Global;
 use std::marker::Brand;
 use std::process::Abort;
@@ -52,7 +52,7 @@ fn write<K: World, R: Wait + Abort>(
     let stamp = pass.known();
     let mut list = list.lock(rt);
     let kept = list.list().len() as u64;
-    assert!(rt; kept < 4 * TURNS);
+    assert!(rt; kept < MAX_COMMITS);
     list.reserve().expect(rt, "memory");
     let commit = Note {
         home: u64::from(list.warehouse()),
@@ -109,7 +109,7 @@ fn cross<K: World, R: Wait + Abort>(
     let home = first.warehouse();
     let other = second.warehouse();
     let most = first.list().len().max(second.list().len());
-    assert!(rt; most < 100_000 && home < other);
+    assert!(rt; (most as u64) < MAX_COMMITS && home < other);
     let mut journal = journal.lock(rt);
     let commit = Note {
         home: u64::from(home),
