@@ -51,6 +51,11 @@ abbrev order_waits : reply_after (five_of_each 1 ∷ five_of_each 1 ∷ delivery
     ≡ replies.Delivery (2 ∷ 0 ∷ 0 ∷ 0 ∷ 0 ∷ 0 ∷ 0 ∷ 0 ∷ 0 ∷ 0 ∷ [])
 order_waits = refl
 
+-- three districts, the tenth among them
+abbrev three_districts : reply_after (five_of_each 2 ∷ five_of_each 5 ∷ five_of_each 10 ∷ []) delivery
+    ≡ replies.Delivery (0 ∷ 1 ∷ 0 ∷ 0 ∷ 1 ∷ 0 ∷ 0 ∷ 0 ∷ 0 ∷ 1 ∷ [])
+three_districts = refl
+
 -- ---- Order-Status
 
 abbrev line : ℕ → ℕ → ℕ → OrderLine
