@@ -55,14 +55,14 @@ fn count<C: Commits>(counts: &mut Vec<u64>, commit: &C)
 }
 
 // How many crossing commits there are with this one.
-fn crossings_with<C: Commits>(crossings: u64, commit: &C) -> u64
-    requires room { crossings < 2 ^ 63 }
-    ensures { result ≡ cond (is_number (C.number commit.now)) (suc crossings) crossings }
+fn crossings_with<C: Commits>(drawn: u64, commit: &C) -> u64
+    requires room { drawn < 2 ^ 63 }
+    ensures { result ≡ cond (is_number (C.number commit.now)) (suc drawn) drawn }
 {
     if commit.number().is_some() {
-        crossings + 1
+        drawn + 1
     } else {
-        crossings
+        drawn
     }
 }
 
