@@ -337,10 +337,11 @@ least-some [] differs = absurd (cc)
 least-some (n ∷ numbers) differs = omega arith
 
 -- the order that is delivered in a district
-pub record IsOldest (delivery : Delivery) (tables : Tables) (district : ℕ) (order : Order) : Type 0 where
+pub record IsOldest (delivery : Delivery) (tables : Tables) (place : ℕ) (order : Order) : Type 0 where
   pub chosen :
-      first_or (order_of []) (is_order delivery.warehouse district (oldest delivery.warehouse district tables))
+      first_or (order_of []) (is_order delivery.warehouse place (oldest delivery.warehouse place tables))
       tables.orders ≡ order
+  pub district : order.district ≡ place
   pub finds : find (is_order order.warehouse order.district order.id) tables.orders ≡ Some order
   pub waits : is_undelivered tables.new_orders order ≡ true
   pub first : order.id ≡ least (map (λ row. row.order) (new_orders_of order.warehouse order.district tables.new_orders))
@@ -377,12 +378,41 @@ module _ (items : List Item) (number : ℕ) (delivery : Delivery) where
         o,
         record {
           chosen = ap (λ one. unwrap_or one (order_of [])) {y = Some o} order.1;
+          district = is.1;
           finds = finds;
           waits =
               waits;
           first = first;
         },
       )
+
+  -- a delivery in one district leaves the undelivered orders of the others, so that which orders are delivered is seen
+  -- before the first
+  pub oldest-other : (tables : Tables) (district other : ℕ) → IsSoundWarehouse items number tables
+      → (district == other) ≡ false
+      → oldest delivery.warehouse other (delivered_in delivery tables district) ≡ oldest delivery.warehouse other tables
+  oldest-other tables district other sound apart =
+      elim (oldest delivery.warehouse district tables == 0) as (λ b. (oldest delivery.warehouse district tables == 0) ≡ b
+      → oldest delivery.warehouse other (cond b tables (with_delivered delivery
+      (first_or (order_of [])
+      (is_order delivery.warehouse district (oldest delivery.warehouse district tables)) tables.orders) tables))
+      ≡ oldest delivery.warehouse other tables) [
+        | true ↦ λ none. refl
+        | false ↦ λ some.
+            let there = oldest-there tables district sound some in
+            subst (λ order. oldest delivery.warehouse other (with_delivered delivery order tables)
+            ≡ oldest delivery.warehouse other tables) (sym (there.1).chosen)
+            (ap (λ rows. least (map (λ (new : NewOrder). new.order) rows))
+            (filter-implied (λ new. (new.warehouse == delivery.warehouse) && (new.district == other))
+            (λ new. not (is_new_order (there.0).warehouse (there.0).district (there.0).id new))
+            (λ new passes. keeps (there.0).district (there.0).warehouse (there.0).id new (there.1).district
+            passes) tables.new_orders))
+      ] refl
+    where
+      keeps : (d w n : ℕ) (new : NewOrder) → d ≡ district
+          → ((new.warehouse == delivery.warehouse) && (new.district == other)) ≡ true
+          → not (is_new_order w d n new) ≡ true
+      keeps d w n new is passes = grind (arith, nat_tests, is, passes, apart)
 
   module _ (carrier : (delivery.carrier == 0) ≡ false) (moment : (delivery.at == 0) ≡ false) where
     pub sound-delivered_in : (tables : Tables) (district : ℕ) → IsSoundWarehouse items number tables

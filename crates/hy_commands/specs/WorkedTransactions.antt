@@ -1,5 +1,5 @@
 -- Examples of New-Order and Payment, each with values from hand calculation; the checker computes them.
-use Rattle.std.specs.Prelude.{◌≡◌, ℕ, ℤ, pos, negsuc, List, [], ◌∷◌, ◌++◌, None, true, false, map, codes, replicate, refl}
+use Rattle.std.specs.Prelude.{◌≡◌, ℕ, ℤ, pos, negsuc, List, [], ◌∷◌, ◌++◌, None, map, codes, refl}
 use Rattle.hy_rows.specs.declared.warehouse.Warehouse.{Warehouse}
 use Rattle.hy_rows.specs.declared.customer.Customer.{Customer}
 use Rattle.hy_rows.specs.declared.order_line.OrderLine.{OrderLine}
@@ -8,16 +8,14 @@ use Rattle.hy_schema.specs.Conditions.{first_broken}
 use Rattle.hy_schema.specs.declared.refusal.Refusal.TheVariants as refusals
 use Rattle.hy_commands.specs.declared.command.Command.{Command}
 use Rattle.hy_commands.specs.declared.command.Command.TheVariants as commands
-use Rattle.hy_commands.specs.declared.command.Commit.TheVariants as commits
 use Rattle.hy_commands.specs.declared.command.PurchaseLine.{PurchaseLine}
 use Rattle.hy_commands.specs.declared.command.Who.{Who}
 use Rattle.hy_commands.specs.declared.command.Who.TheVariants as who
 use Rattle.hy_commands.specs.declared.reply.Reply.{Reply}
 use Rattle.hy_commands.specs.declared.reply.Reply.TheVariants as replies
-use Rattle.hy_commands.specs.Commands.{is_in_range, is_line_in_range, is_moment, is_name, kept_of, warehouses_of}
 use Rattle.hy_commands.specs.NewOrders.{order_row, supplied}
 use Rattle.hy_commands.specs.Transactions.{act}
-use Rattle.hy_commands.specs.WorkedSample.{after, bought, customer, customer_after, customers, first_of, five_of_each, items, level, next_order_after, payment, purchase, reply_after, sample, stock_columns}
+use Rattle.hy_commands.specs.WorkedSample.{after, bought, customer, customer_after, customers, first_of, five_of_each, items, next_order_after, payment, purchase, reply_after, sample, stock_columns}
 
 -- ---- New-Order
 
@@ -255,70 +253,7 @@ refused_for_the_number = refl
 abbrev not_refused_payment : refused_payment 1 10 (who.Number 3) ≡ replies.Payment 3 (negsuc 1_099)
 not_refused_payment = refl
 
--- ---- ranges, at both ends
-
-abbrev lines_in_range : map (λ lines. is_in_range (purchase 1 (replicate lines (bought 1 1)))) (4 ∷ 5 ∷ 15 ∷ 16 ∷ [])
-    ≡ false ∷ true ∷ true ∷ false ∷ []
-lines_in_range = refl
-
-abbrev quantity_in_range : map (λ quantity. is_line_in_range (bought 1 quantity)) (0 ∷ 1 ∷ 10 ∷ 11 ∷ [])
-    ≡ false ∷ true ∷ true ∷ false ∷ []
-quantity_in_range = refl
-
-abbrev carrier_in_range : map (λ carrier. is_in_range (commands.Delivery record {
-  warehouse = 1;
-  carrier = carrier;
-  at
-      = 1;
-})) (0 ∷ 1 ∷ 10 ∷ 11 ∷ [])
-    ≡ false ∷ true ∷ true ∷ false ∷ []
-carrier_in_range = refl
-
-abbrev threshold_in_range : map (λ threshold. is_in_range (commands.StockLevel record {
-  warehouse = 1;
-  district = 1;
-  threshold = threshold;
-})) (9 ∷ 10 ∷ 20 ∷ 21 ∷ [])
-    ≡ false ∷ true ∷ true ∷ false ∷ []
-threshold_in_range = refl
-
-abbrev moment_in_range : map is_moment (0 ∷ 1 ∷ 1_000_000_000_000_000 ∷ 1_000_000_000_000_001 ∷ [])
-    ≡ false ∷ true ∷ true ∷ false ∷ []
-moment_in_range = refl
-
-abbrev length_in_range : map (λ length. is_name (replicate length 32)) (0 ∷ 16 ∷ 17 ∷ []) ≡ true ∷ true ∷ false ∷ []
-length_in_range = refl
-
-abbrev character_in_range : map (λ character. is_name (character ∷ [])) (31 ∷ 32 ∷ 126 ∷ 127 ∷ []) ≡ false ∷ true ∷
-    true ∷ false ∷ []
-character_in_range = refl
-
--- ---- warehouses and kept lists
-
-abbrev remote_purchase : Command
-remote_purchase = commands.NewOrder record {
-  warehouse = 3;
-  district = 1;
-  customer = 1;
-  at = 1;
-  lines =
-      record { item = 1; supply_warehouse = 2; quantity = 1 } ∷ bought 2 1 ∷ bought 3 1
-      ∷ record { item = 4; supply_warehouse = 3; quantity = 1 } ∷ record {
-        item = 5;
-        supply_warehouse = 2;
-        quantity =
-            1;
-      } ∷ [];
-}
-
-abbrev named_warehouses : warehouses_of remote_purchase ≡ 3 ∷ 2 ∷ 1 ∷ []
-named_warehouses = refl
-
-abbrev kept_payment : kept_of (payment (who.Number 1) 100) ≡ commits.Local (payment (who.Number 1) 100) ∷ []
-kept_payment = refl
-
-abbrev kept_reader : kept_of level ≡ []
-kept_reader = refl
+-- ---- lines of other warehouses
 
 -- O_ALL_LOCAL where two lines come from another warehouse
 abbrev remote_order : ℕ
