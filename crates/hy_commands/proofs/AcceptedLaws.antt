@@ -58,12 +58,14 @@ named-last number named one all =
     → list_all (λ named. named == number) (cond b named (named ++ one ∷ [])) ≡ true → one ≡ number) [
       | true ↦ λ there all. among named there all
       | false ↦ λ new all.
-          let last = (and_parts (list_all (λ named. named == number) named) (list_all (λ named. named == number) (one ∷ []))
+          let last = (and_parts (list_all (λ named. named == number) named) (list_all (λ named. named == number) (one
+          ∷ []))
           (sym (list_all-append (λ named. named == number) named (one ∷ [])) ∙ all)).1 in
           eqb-true one number (and_parts (one == number) true last).0
     ] refl all
   where
-    among : (named : List ℕ) → list_any (λ other. other == one) named ≡ true → list_all (λ named. named == number) named ≡ true
+    among : (named : List ℕ) → list_any (λ other. other == one) named ≡ true → list_all (λ named. named == number)
+        named ≡ true
         → one ≡ number
     among [] there all = absurd (cc)
     among (other ∷ named) there all =
@@ -74,7 +76,8 @@ named-last number named one all =
         ]
 
 named-suppliers : (number : ℕ) (lines : List PurchaseLine) (named : List ℕ)
-    → list_all (λ named. named == number) (fold (λ named (line : PurchaseLine). with_named named line.supply_warehouse) named lines) ≡ true
+    → list_all (λ named. named == number) (fold (λ named (line : PurchaseLine). with_named named
+    line.supply_warehouse) named lines) ≡ true
     → All (λ line. line.supply_warehouse ≡ number) lines
 named-suppliers number [] named all = All-nil (λ line. line.supply_warehouse ≡ number)
 named-suppliers number (line ∷ lines) named all =
@@ -95,14 +98,19 @@ home-payment : (number : ℕ) (payment : Payment)
     → (payment.warehouse ≡ number) × (payment.customer_warehouse ≡ number)
 home-payment number payment all =
     let home : payment.warehouse ≡ number = eqb-true payment.warehouse number
-    (and_parts _ _ (named-before (λ named. named == number) (payment.warehouse ∷ []) payment.customer_warehouse all)).0 in
-    elim (payment.warehouse == payment.customer_warehouse) as (λ b. (payment.warehouse == payment.customer_warehouse) ≡ b
+    (and_parts _ _ (named-before (λ named. named == number) (payment.warehouse ∷ []) payment.customer_warehouse
+    all)).0 in
+    elim (payment.warehouse == payment.customer_warehouse) as (λ b. (payment.warehouse == payment.customer_warehouse)
+    ≡ b
     → list_all (λ named. named == number)
     (cond (b || false) (payment.warehouse ∷ []) ((payment.warehouse ∷ []) ++ payment.customer_warehouse ∷ [])) ≡ true
     → (payment.warehouse ≡ number) × (payment.customer_warehouse ≡ number)) [
       | true ↦ λ same named. (home, sym (eqb-true payment.warehouse payment.customer_warehouse same) ∙ home)
-      | false ↦ λ other named.
-          (home, eqb-true payment.customer_warehouse number (and_parts _ _ (and_parts (payment.warehouse == number) _ named).1).0)
+      | false ↦ λ other named. (
+        home,
+        eqb-true payment.customer_warehouse number (and_parts _ _ (and_parts (payment.warehouse == number) _
+            named).1).0,
+      )
     ] refl all
 
 -- what a command that isn't refused has passed
@@ -144,7 +152,8 @@ pub record IsAcceptedPurchase (number : ℕ) (order : Purchase) : Type 0 where
 pub accepted-purchase : (items : List Item) (number : ℕ) (order : Purchase) (tables : Tables)
     → IsAccepted items number (commands.NewOrder order) tables → IsAcceptedPurchase number order
 accepted-purchase items number order tables accepted =
-    let parts = and_parts (is_between 5 15 (length order.lines) && list_all is_line_in_range order.lines) (is_moment order.at) accepted.in_range in
+    let parts = and_parts (is_between 5 15 (length order.lines) && list_all is_line_in_range order.lines) (is_moment
+    order.at) accepted.in_range in
     let lines = and_parts (is_between 5 15 (length order.lines)) (list_all is_line_in_range order.lines) parts.0 in
     record {
       home = home-purchase number order accepted.named;
@@ -166,7 +175,8 @@ pub accepted-payment : (items : List Item) (number : ℕ) (payment : Payment) (t
     → IsAccepted items number (commands.Payment payment) tables → IsAcceptedPayment number payment
 accepted-payment items number payment tables accepted =
     let homes = home-payment number payment accepted.named in
-    let parts = and_parts (is_between 100 500_000 payment.amount && is_moment payment.at) (is_who payment.who) accepted.in_range in
+    let parts = and_parts (is_between 100 500_000 payment.amount && is_moment payment.at) (is_who payment.who)
+    accepted.in_range in
     let numbers = and_parts (is_between 100 500_000 payment.amount) (is_moment payment.at) parts.0 in
     record {
       amount = numbers.0;

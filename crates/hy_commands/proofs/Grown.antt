@@ -37,7 +37,8 @@ module _ (items : List Item) (fits : ItemsFit items) (number : ℕ) (small : num
       grown-ordered items fits number order tables n purchase.count purchase.in_range purchase.moment passed.known
       (All-weaker (λ (line : PurchaseLine). line.supply_warehouse ≡ number) (λ line. line.supply_warehouse ≤ 16)
       (λ line own. omega (arith, own, small)) order.lines purchase.suppliers)
-      (sym (found-any (is_customer order.warehouse order.district order.customer) tables.customers) ∙ passed.customer) grown
+      (sym (found-any (is_customer order.warehouse order.district order.customer) tables.customers) ∙ passed.customer)
+      grown
   grown-accepted (commands.Payment payment) tables n passed sound grown =
       let paid = accepted-payment items number payment tables passed in
       grown-paid payment (payer payment tables).id tables n paid.amount paid.moment
@@ -98,7 +99,8 @@ module _ (load : Lists) (is_load : IsLoad load) where
   districts-fit : All (IsDistrictUpTo 0) t.districts
   districts-fit =
       all-by_place (IsDistrictUpTo 0) t.districts
-      (λ place. IfSome_then (slice_get t.districts place) {P = IsDistrictAt (length t.warehouses) place} {Q = IsDistrictUpTo 0}
+      (λ place. IfSome_then (slice_get t.districts place) {P = IsDistrictAt (length t.warehouses) place} {Q =
+      IsDistrictUpTo 0}
       (is_load.districts.each place)
       (λ row right. record {
         name = (right.0).name.0;
@@ -122,7 +124,8 @@ module _ (load : Lists) (is_load : IsLoad load) where
   history-fit : All IsPaymentUpTo t.history
   history-fit =
       all-by_place IsPaymentUpTo t.history
-      (λ place. IfSome_then (slice_get t.history place) {P = IsHistoryAt t.districts t.customers place} {Q = IsPaymentUpTo}
+      (λ place. IfSome_then (slice_get t.history place) {P = IsHistoryAt t.districts t.customers place} {Q =
+      IsPaymentUpTo}
       (is_load.history.each place)
       (λ row right. record {
         customer = (bounds 1 3_000 row.customer (right.0).customer).1;
@@ -134,7 +137,8 @@ module _ (load : Lists) (is_load : IsLoad load) where
   orders-fit : All (IsOrderUpTo 0) t.orders
   orders-fit =
       all-by_place (IsOrderUpTo 0) t.orders
-      (λ place. IfSome_then (slice_get t.orders place) {P = IsOrderAt t.districts t.customers t.orders place} {Q = IsOrderUpTo 0}
+      (λ place. IfSome_then (slice_get t.orders place) {P = IsOrderAt t.districts t.customers t.orders place} {Q =
+      IsOrderUpTo 0}
       (is_load.orders.each place)
       (λ row right. record {
         id = omega (arith, (bounds 1 1_000_000_000 row.id (right.0).id).1);
@@ -148,14 +152,16 @@ module _ (load : Lists) (is_load : IsLoad load) where
   new_orders-fit : All (IsNewOrderUpTo 0) t.new_orders
   new_orders-fit =
       all-by_place (IsNewOrderUpTo 0) t.new_orders
-      (λ place. IfSome_then (slice_get t.new_orders place) {P = IsNewOrderAt t.orders t.new_orders place} {Q = IsNewOrderUpTo 0}
+      (λ place. IfSome_then (slice_get t.new_orders place) {P = IsNewOrderAt t.orders t.new_orders place} {Q =
+      IsNewOrderUpTo 0}
       (is_load.new_orders.each place)
       (λ row right. omega (arith, (bounds 1 1_000_000_000 row.order (right.0).order).1)))
 
   lines-fit : All (IsLineUpTo 0) t.order_lines
   lines-fit =
       all-by_place (IsLineUpTo 0) t.order_lines
-      (λ place. IfSome_then (slice_get t.order_lines place) {P = IsOrderLineAt t.warehouses load.items t.orders t.order_lines place}
+      (λ place. IfSome_then (slice_get t.order_lines place) {P = IsOrderLineAt t.warehouses load.items t.orders
+      t.order_lines place}
       {Q = IsLineUpTo 0} (is_load.order_lines.each place)
       (λ row right. record {
         order = omega (arith, (bounds 1 1_000_000_000 row.order (right.0).order).1);
@@ -170,7 +176,8 @@ module _ (load : Lists) (is_load : IsLoad load) where
   stock-fit : All (IsStockUpTo 0) t.stock
   stock-fit =
       all-by_place (IsStockUpTo 0) t.stock
-      (λ place. IfSome_then (slice_get t.stock place) {P = IsStockAt (length t.warehouses) (length load.items) place} {Q = IsStockUpTo 0}
+      (λ place. IfSome_then (slice_get t.stock place) {P = IsStockAt (length t.warehouses) (length load.items) place}
+      {Q = IsStockUpTo 0}
       (is_load.stock.each place)
       (λ row right. record {
         quantity = (right.0).quantity;
@@ -183,7 +190,8 @@ module _ (load : Lists) (is_load : IsLoad load) where
   grown-load number = record {
     warehouses =
         All-filter (λ row. row.id == number) (IsWarehouseUpTo 0) t.warehouses
-        (All-weaker (λ row. IsWarehouseUpTo 0 row × (row.id ≤ 16)) (IsWarehouseUpTo 0) (λ row both. both.0) t.warehouses warehouses-fit);
+        (All-weaker (λ row. IsWarehouseUpTo 0 row × (row.id ≤ 16)) (IsWarehouseUpTo 0) (λ row both. both.0)
+        t.warehouses warehouses-fit);
     districts = All-filter (λ row. row.warehouse == number) (IsDistrictUpTo 0) t.districts districts-fit;
     customers = All-filter (λ row. row.warehouse == number) (IsCustomerUpTo 0 0) t.customers customers-fit;
     history = All-filter (λ row. row.warehouse == number) IsPaymentUpTo t.history history-fit;
@@ -200,7 +208,8 @@ module _ (load : Lists) (is_load : IsLoad load) where
       let ids : All (λ id. id ≤ 16) (map (λ (row : Warehouse). row.id) (of_warehouse number t).warehouses) =
       All-map (λ id. id ≤ 16) (λ (row : Warehouse). row.id) (of_warehouse number t).warehouses
       (All-filter (λ row. row.id == number) (λ row. row.id ≤ 16) t.warehouses
-      (All-weaker (λ row. IsWarehouseUpTo 0 row × (row.id ≤ 16)) (λ row. row.id ≤ 16) (λ row both. both.1) t.warehouses warehouses-fit)) in
+      (All-weaker (λ row. IsWarehouseUpTo 0 row × (row.id ≤ 16)) (λ row. row.id ≤ 16) (λ row both. both.1)
+      t.warehouses warehouses-fit)) in
       All-head (λ id. id ≤ 16) number [] (subst (All (λ id. id ≤ 16)) sound.rows.warehouse ids)
 
   pub grown-commits : (number : ℕ) (commits : List Commit) → IsBetween 1 (length t.warehouses) number

@@ -51,13 +51,15 @@ All-with_changed_to : {Row : Type 0} (P Q : Row → Type 0) (test : Row → Bool
 All-with_changed_to P Q test change changed same [] all = All-nil Q
 All-with_changed_to P Q test change changed same (row ∷ rows) all =
     elim (test row) as (λ b. All Q (cond b (change row ∷ rows) (row ∷ with_changed test change rows))) [
-      | true ↦ All-cons Q (change row) rows (changed row (All-head P row rows all)) (All-weaker P Q same rows (All-tail P row rows all))
+      | true ↦ All-cons Q (change row) rows (changed row (All-head P row rows all)) (All-weaker P Q same rows
+          (All-tail P row rows all))
       | false ↦ All-cons Q row (with_changed test change rows) (same row (All-head P row rows all))
           (All-with_changed_to P Q test change changed same rows (All-tail P row rows all))
     ]
 
 -- the first row that passes, or another that does as well
-first_or-all : {Row : Type 0} (P : Row → Type 0) (none : Row) (test : Row → Bool) → P none → (rows : List Row) → All P rows
+first_or-all : {Row : Type 0} (P : Row → Type 0) (none : Row) (test : Row → Bool) → P none → (rows : List Row) → All P
+    rows
     → P (first_or none test rows)
 first_or-all P none test fits [] all = fits
 first_or-all P none test fits (row ∷ rows) all =
@@ -67,7 +69,8 @@ first_or-all P none test fits (row ∷ rows) all =
     ]
 
 -- rows in order are rows
-All-sorted : {Row : Type 0} (P : Row → Type 0) (less : Row → Row → Bool) (rows : List Row) → All P rows → All P (sorted less rows)
+All-sorted : {Row : Type 0} (P : Row → Type 0) (less : Row → Row → Bool) (rows : List Row) → All P rows → All P
+    (sorted less rows)
 All-sorted P less [] all = All-nil P
 All-sorted {Row = Row} P less (row ∷ rows) all =
     put row (sorted less rows) (All-head P row rows all) (All-sorted P less rows (All-tail P row rows all))
@@ -77,7 +80,8 @@ All-sorted {Row = Row} P less (row ∷ rows) all =
     put new (row ∷ rows) fits all =
         elim (less new row) as (λ b. All P (cond b (new ∷ row ∷ rows) (row ∷ inserted less new rows))) [
           | true ↦ All-cons P new (row ∷ rows) fits all
-          | false ↦ All-cons P row (inserted less new rows) (All-head P row rows all) (put new rows fits (All-tail P row rows all))
+          | false ↦ All-cons P row (inserted less new rows) (All-head P row rows all) (put new rows fits (All-tail P
+              row rows all))
         ]
 
 -- a row at a place is a row
@@ -94,9 +98,20 @@ sum-between : {Row : Type 0} (column : Row → ℤ) (rows : List Row)
 sum-between column [] all = (omega (arith, ints), omega (arith, ints))
 sum-between column (row ∷ rows) all =
     let here = All-head (λ row. (pos 0 ≤ℤ column row) × (column row ≤ℤ pos 10_000_000)) row rows all in
-    let later = sum-between column rows (All-tail (λ row. (pos 0 ≤ℤ column row) × (column row ≤ℤ pos 10_000_000)) row rows all) in
-    let split = column_sum-cons column row rows in
-    (omega (arith, ints, here.0, here.1, later.0, later.1, split), omega (arith, ints, here.0, here.1, later.0, later.1, split))
+    let later = sum-between column rows (All-tail (λ row. (pos 0 ≤ℤ column row) × (column row ≤ℤ pos 10_000_000)) row
+    rows all) in
+    let split = column_sum-cons column row rows in (
+      omega (arith, ints, here.0, here.1, later.0, later.1, split),
+      omega (
+        arith,
+        ints,
+        here.0,
+        here.1,
+        later.0,
+        later.1,
+        split,
+      ),
+    )
 
 -- ---- money
 
@@ -132,7 +147,8 @@ module _ (n : ℕ) where
   customer-later : (k j : ℕ) → k ≤ j → (row : Customer) → IsCustomerUpTo n k row → IsCustomerUpTo (n + 1) j row
   customer-later k j below row up = record {
     id = up.id;
-    balance = money-later (500_000 * n + 150_000_000 * k) (500_000 * (n + 1) + 150_000_000 * j) row.balance (omega (arith, below)) up.balance;
+    balance = money-later (500_000 * n + 150_000_000 * k) (500_000 * (n + 1) + 150_000_000 * j) row.balance (omega
+        (arith, below)) up.balance;
     ytd_payment = money-later (500_000 * n) (500_000 * (n + 1)) row.ytd_payment (omega arith) up.ytd_payment;
     payment_count = omega (arith, up.payment_count);
     delivery_count = omega (arith, up.delivery_count, below);
@@ -169,16 +185,21 @@ stock-later k j below row up = record {
 
 pub grown-later : (n : ℕ) (tables : Tables) → HasGrownBy n tables → HasGrownBy (n + 1) tables
 grown-later n tables grown = record {
-  warehouses = All-weaker (IsWarehouseUpTo n) (IsWarehouseUpTo (n + 1)) (warehouse-later n) tables.warehouses grown.warehouses;
-  districts = All-weaker (IsDistrictUpTo n) (IsDistrictUpTo (n + 1)) (district-later n) tables.districts grown.districts;
+  warehouses = All-weaker (IsWarehouseUpTo n) (IsWarehouseUpTo (n + 1)) (warehouse-later n) tables.warehouses
+      grown.warehouses;
+  districts = All-weaker (IsDistrictUpTo n) (IsDistrictUpTo (n + 1)) (district-later n) tables.districts
+      grown.districts;
   customers =
-      All-weaker (IsCustomerUpTo n (10 * n)) (IsCustomerUpTo (n + 1) (10 * (n + 1))) (customer-later n (10 * n) (10 * (n + 1)) (omega arith))
+      All-weaker (IsCustomerUpTo n (10 * n)) (IsCustomerUpTo (n + 1) (10 * (n + 1))) (customer-later n (10 * n) (10 *
+      (n + 1)) (omega arith))
       tables.customers grown.customers;
   history = grown.history;
   orders = All-weaker (IsOrderUpTo n) (IsOrderUpTo (n + 1)) (order-later n) tables.orders grown.orders;
-  new_orders = All-weaker (IsNewOrderUpTo n) (IsNewOrderUpTo (n + 1)) (λ row up. omega (arith, up)) tables.new_orders grown.new_orders;
+  new_orders = All-weaker (IsNewOrderUpTo n) (IsNewOrderUpTo (n + 1)) (λ row up. omega (arith, up)) tables.new_orders
+      grown.new_orders;
   order_lines = All-weaker (IsLineUpTo n) (IsLineUpTo (n + 1)) (line-later n) tables.order_lines grown.order_lines;
-  stock = All-weaker (IsStockUpTo (15 * n)) (IsStockUpTo (15 * (n + 1))) (stock-later (15 * n) (15 * (n + 1)) (omega arith)) tables.stock grown.stock;
+  stock = All-weaker (IsStockUpTo (15 * n)) (IsStockUpTo (15 * (n + 1))) (stock-later (15 * n) (15 * (n + 1)) (omega
+      arith)) tables.stock grown.stock;
 }
 
 -- ---- Payment
@@ -192,7 +213,8 @@ payer-small payment tables n k all = meant payment.who
     small = All-weaker (IsCustomerUpTo n k) (λ row. row.id ≤ 3_000) (λ row up. up.id) tables.customers all
 
     meant : (whom : Who)
-        → (unwrap_or (customer_meant payment.customer_warehouse payment.customer_district whom tables.customers) (customer_of [])).id ≤ 3_000
+        → (unwrap_or (customer_meant payment.customer_warehouse payment.customer_district whom tables.customers)
+        (customer_of [])).id ≤ 3_000
     meant (who.Number number) =
         first_or-all (λ (row : Customer). row.id ≤ 3_000) (customer_of [])
         (is_customer payment.customer_warehouse payment.customer_district number) (omega arith) tables.customers small
@@ -202,7 +224,8 @@ payer-small payment tables n k all = meant payment.who
         All-at (λ (row : Customer). row.id ≤ 3_000) (customer_of []) (omega arith) rows ((length rows + 1) / 2 - 1)
         (All-sorted (λ (row : Customer). row.id ≤ 3_000) is_earlier
         (filter (is_named payment.customer_warehouse payment.customer_district name) tables.customers)
-        (All-filter (is_named payment.customer_warehouse payment.customer_district name) (λ row. row.id ≤ 3_000) tables.customers small))
+        (All-filter (is_named payment.customer_warehouse payment.customer_district name) (λ row. row.id ≤ 3_000)
+        tables.customers small))
 
 pub grown-paid : (payment : Payment) (customer : ℕ) (tables : Tables) (n : ℕ) → IsBetween 100 500_000 payment.amount
     → IsBetween 1 1_000_000_000_000_000 payment.at → customer ≤ 3_000 → HasGrownBy n tables
@@ -211,22 +234,31 @@ grown-paid payment customer tables n amount moment small grown =
     let high = (bounds 100 500_000 payment.amount amount).1 in
     let late = (bounds 1 1_000_000_000_000_000 payment.at moment).1 in
     let later = grown-later n tables grown in
-    let more : (cents : ℤ) → IsMoneyUpTo (500_000 * n) cents → IsMoneyUpTo (500_000 * (n + 1)) (cents +ℤ pos payment.amount) =
+    let more : (cents : ℤ) → IsMoneyUpTo (500_000 * n) cents → IsMoneyUpTo (500_000 * (n + 1)) (cents +ℤ pos
+    payment.amount) =
     λ cents up. money-more (500_000 * n) 500_000 (500_000 * (n + 1)) cents (pos payment.amount) (omega arith)
     (omega (arith, ints)) (omega (arith, ints, high)) up in
-    let warehouse_name : length (first_or (warehouse_of []) (is_warehouse payment.warehouse) tables.warehouses).name ≤ 10 =
-    first_or-all (λ (row : Warehouse). length row.name ≤ 10) (warehouse_of []) (is_warehouse payment.warehouse) (omega arith)
-    tables.warehouses (All-weaker (IsWarehouseUpTo n) (λ row. length row.name ≤ 10) (λ row up. up.name) tables.warehouses grown.warehouses) in
-    let district_name : length (first_or (district_of []) (is_district payment.warehouse payment.district) tables.districts).name ≤ 10 =
-    first_or-all (λ (row : District). length row.name ≤ 10) (district_of []) (is_district payment.warehouse payment.district) (omega arith)
-    tables.districts (All-weaker (IsDistrictUpTo n) (λ row. length row.name ≤ 10) (λ row up. up.name) tables.districts grown.districts) in
+    let warehouse_name : length (first_or (warehouse_of []) (is_warehouse payment.warehouse) tables.warehouses).name ≤
+    10 =
+    first_or-all (λ (row : Warehouse). length row.name ≤ 10) (warehouse_of []) (is_warehouse payment.warehouse) (omega
+    arith)
+    tables.warehouses (All-weaker (IsWarehouseUpTo n) (λ row. length row.name ≤ 10) (λ row up. up.name)
+    tables.warehouses grown.warehouses) in
+    let district_name : length (first_or (district_of []) (is_district payment.warehouse payment.district)
+    tables.districts).name ≤ 10 =
+    first_or-all (λ (row : District). length row.name ≤ 10) (district_of []) (is_district payment.warehouse
+    payment.district) (omega arith)
+    tables.districts (All-weaker (IsDistrictUpTo n) (λ row. length row.name ≤ 10) (λ row up. up.name) tables.districts
+    grown.districts) in
     record {
       warehouses =
           All-with_changed_to (IsWarehouseUpTo n) (IsWarehouseUpTo (n + 1)) (is_warehouse payment.warehouse)
-          (warehouse_paid payment.amount) (λ row up. record { name = up.name; ytd = more row.ytd up.ytd }) (warehouse-later n)
+          (warehouse_paid payment.amount) (λ row up. record { name = up.name; ytd = more row.ytd up.ytd })
+          (warehouse-later n)
           tables.warehouses grown.warehouses;
       districts =
-          All-with_changed_to (IsDistrictUpTo n) (IsDistrictUpTo (n + 1)) (is_district payment.warehouse payment.district)
+          All-with_changed_to (IsDistrictUpTo n) (IsDistrictUpTo (n + 1)) (is_district payment.warehouse
+          payment.district)
           (district_paid payment.amount)
           (λ row up. record { name = up.name; ytd = more row.ytd up.ytd; next_order = omega (arith, up.next_order) })
           (district-later n) tables.districts grown.districts;
@@ -236,8 +268,10 @@ grown-paid payment customer tables n amount moment small grown =
           (λ row up. record {
             id = up.id;
             balance =
-                money-less (500_000 * n + 150_000_000 * (10 * n)) 500_000 (500_000 * (n + 1) + 150_000_000 * (10 * (n + 1)))
-                row.balance (pos payment.amount) (omega arith) (omega (arith, ints)) (omega (arith, ints, high)) up.balance;
+                money-less (500_000 * n + 150_000_000 * (10 * n)) 500_000 (500_000 * (n + 1) + 150_000_000 * (10 * (n
+                + 1)))
+                row.balance (pos payment.amount) (omega arith) (omega (arith, ints)) (omega (arith, ints, high))
+                up.balance;
             ytd_payment = more row.ytd_payment up.ytd_payment;
             payment_count = omega (arith, up.payment_count);
             delivery_count = omega (arith, up.delivery_count);
@@ -255,7 +289,8 @@ grown-paid payment customer tables n amount moment small grown =
       stock = later.stock;
     }
   where
-    name_length : (one other : List ℕ) → length one ≤ 10 → length other ≤ 10 → length (one ++ codes "    " ++ other) ≤ 24
+    name_length : (one other : List ℕ) → length one ≤ 10 → length other ≤ 10 → length (one ++ codes "    " ++ other) ≤
+        24
     name_length one other short also =
         omega (arith, short, also, length-append (one ++ codes "    ") other, length-append one (codes "    "))
 
@@ -271,12 +306,14 @@ line-small items fits line few =
     let price : ℕ = (first_or no_item (is_item line.item) items).price in
     let small : price ≤ 1_000_000 =
     first_or-all (λ (row : Item). row.price ≤ 1_000_000) no_item (is_item line.item) (omega arith) items
-    (All-weaker (λ row. (row.id ≤ 100_000) × (row.price ≤ 1_000_000)) (λ row. row.price ≤ 1_000_000) (λ row both. both.1) items fits) in
+    (All-weaker (λ row. (row.id ≤ 100_000) × (row.price ≤ 1_000_000)) (λ row. row.price ≤ 1_000_000) (λ row both.
+    both.1) items fits) in
     let product : line.quantity * price ≤ line.quantity * 1_000_000 = mul-le-mul_left line.quantity small in
     omega (arith, product, few)
 
 module _ (items : List Item) (fits : ItemsFit items) (order : Purchase) (number : ℕ) (n : ℕ) (below : number ≤ 1_000_000_000 + n) where
-  lines-small : (place : ℕ) (lines : List PurchaseLine) → place + length lines ≤ 16 → list_all is_line_in_range lines ≡ true
+  lines-small : (place : ℕ) (lines : List PurchaseLine) → place + length lines ≤ 16 → list_all is_line_in_range lines
+      ≡ true
       → list_all (has_item items) lines ≡ true → All (λ line. line.supply_warehouse ≤ 16) lines
       → All (IsLineUpTo (n + 1)) (line_rows items order number place lines)
   lines-small place [] few in_range known near = All-nil (IsLineUpTo (n + 1))
@@ -286,9 +323,11 @@ module _ (items : List Item) (fits : ItemsFit items) (order : Purchase) (number 
       let quantity = (bounds 1 10 line.quantity ranges.0).1 in
       let found = find-any (is_item line.item) items knowns.0 in
       let same = eqb-true (found.0).id line.item (find-passes (is_item line.item) items found.0 found.1) in
-      let small = (All-find (λ row. (row.id ≤ 100_000) × (row.price ≤ 1_000_000)) (is_item line.item) items found.0 fits found.1).0 in
+      let small = (All-find (λ row. (row.id ≤ 100_000) × (row.price ≤ 1_000_000)) (is_item line.item) items found.0
+      fits found.1).0 in
       let cents = line-small items fits line quantity in
-      All-cons (IsLineUpTo (n + 1)) (line_row items order number place line) (line_rows items order number (place + 1) lines)
+      All-cons (IsLineUpTo (n + 1)) (line_row items order number place line) (line_rows items order number (place + 1)
+      lines)
       record {
         order = omega (arith, below);
         number = omega (arith, few);
@@ -313,7 +352,8 @@ left-small stock quantity small =
 stock-sold : (supplier : ℕ) (order : Purchase) (lines : List PurchaseLine) (k : ℕ) (rows : List Stock)
     → All (λ line. line.quantity ≤ 10) lines → All (IsStockUpTo k) rows
     → All (IsStockUpTo (k + length lines)) (fold (sold_line supplier order) rows lines)
-stock-sold supplier order [] k rows few all = All-weaker (IsStockUpTo k) (IsStockUpTo (k + 0)) (stock-later k (k + 0) (omega arith)) rows all
+stock-sold supplier order [] k rows few all = All-weaker (IsStockUpTo k) (IsStockUpTo (k + 0)) (stock-later k (k + 0)
+    (omega arith)) rows all
 stock-sold supplier order (line ∷ lines) k rows few all =
     let quantity = All-head (λ line. line.quantity ≤ 10) line lines few in
     let remote : Bool = not (order.warehouse == supplier) in
@@ -338,17 +378,22 @@ stock-sold supplier order (line ∷ lines) k rows few all =
 module _ (items : List Item) (fits : ItemsFit items) (number : ℕ) (order : Purchase) (tables : Tables) (n : ℕ) (count : IsBetween 5 15 (length order.lines)) (in_range : list_all is_line_in_range order.lines ≡ true) (moment : IsBetween 1 1_000_000_000_000_000 order.at) (known : list_all (has_item items) order.lines ≡ true) (near : All (λ line. line.supply_warehouse ≤ 16) order.lines) (buyer : list_any (is_customer order.warehouse order.district order.customer) tables.customers ≡ true) (grown : HasGrownBy n tables) where
   number-small : order_number order tables ≤ 1_000_000_000 + n
   number-small =
-      first_or-all (λ (row : District). row.next_order ≤ 1_000_000_000 + n) (district_of []) (is_district order.warehouse order.district)
+      first_or-all (λ (row : District). row.next_order ≤ 1_000_000_000 + n) (district_of []) (is_district
+      order.warehouse order.district)
       (omega arith) tables.districts
-      (All-weaker (IsDistrictUpTo n) (λ row. row.next_order ≤ 1_000_000_000 + n) (λ row up. up.next_order) tables.districts grown.districts)
+      (All-weaker (IsDistrictUpTo n) (λ row. row.next_order ≤ 1_000_000_000 + n) (λ row up. up.next_order)
+      tables.districts grown.districts)
 
   customer-small : order.customer ≤ 3_000
   customer-small =
       let found = find-any (is_customer order.warehouse order.district order.customer) tables.customers buyer in
-      let passes = find-passes (is_customer order.warehouse order.district order.customer) tables.customers found.0 found.1 in
+      let passes = find-passes (is_customer order.warehouse order.district order.customer) tables.customers found.0
+      found.1 in
       let same : (found.0).id ≡ order.customer =
-      (tells-three (found.0).warehouse (found.0).district (found.0).id order.warehouse order.district order.customer passes).2 in
-      let small = (All-find (IsCustomerUpTo n (10 * n)) (is_customer order.warehouse order.district order.customer) tables.customers
+      (tells-three (found.0).warehouse (found.0).district (found.0).id order.warehouse order.district order.customer
+      passes).2 in
+      let small = (All-find (IsCustomerUpTo n (10 * n)) (is_customer order.warehouse order.district order.customer)
+      tables.customers
       found.0 grown.customers found.1).id in
       omega (arith, same, small)
 
@@ -371,7 +416,8 @@ module _ (items : List Item) (fits : ItemsFit items) (number : ℕ) (order : Pur
       record {
         warehouses = later.warehouses;
         districts =
-            All-with_changed_to (IsDistrictUpTo n) (IsDistrictUpTo (n + 1)) (is_district order.warehouse order.district) with_next_order
+            All-with_changed_to (IsDistrictUpTo n) (IsDistrictUpTo (n + 1)) (is_district order.warehouse
+            order.district) with_next_order
             (λ row up. record {
               name = up.name;
               ytd = (district-later n row up).ytd;
@@ -380,27 +426,35 @@ module _ (items : List Item) (fits : ItemsFit items) (number : ℕ) (order : Pur
         customers = later.customers;
         history = later.history;
         orders =
-            All-push (IsOrderUpTo (n + 1)) tables.orders (order_row order (order_number order tables)) later.orders record {
+            All-push (IsOrderUpTo (n + 1)) tables.orders (order_row order (order_number order tables)) later.orders
+            record {
               id = omega (arith, number-small);
               customer = customer-small;
               entry_date = late;
               carrier = omega arith;
               line_count = few;
-              all_local = all_local_small (list_all (λ (line : PurchaseLine). line.supply_warehouse == order.warehouse) order.lines);
+              all_local = all_local_small (list_all (λ (line : PurchaseLine). line.supply_warehouse ==
+                  order.warehouse) order.lines);
             };
         new_orders =
-            All-push (IsNewOrderUpTo (n + 1)) tables.new_orders (new_order_row order (order_number order tables)) later.new_orders
+            All-push (IsNewOrderUpTo (n + 1)) tables.new_orders (new_order_row order (order_number order tables))
+            later.new_orders
             (omega (arith, number-small));
         order_lines =
-            All-append (IsLineUpTo (n + 1)) tables.order_lines (line_rows items order (order_number order tables) 1 order.lines)
+            All-append (IsLineUpTo (n + 1)) tables.order_lines (line_rows items order (order_number order tables) 1
+            order.lines)
             later.order_lines
-            (lines-small items fits order (order_number order tables) n number-small 1 order.lines (omega (arith, few)) in_range known near);
+            (lines-small items fits order (order_number order tables) n number-small 1 order.lines (omega (
+              arith,
+              few,
+            )) in_range known near);
         stock =
             All-weaker (IsStockUpTo (15 * n + length supplied_lines)) (IsStockUpTo (15 * (n + 1)))
             (stock-later (15 * n + length supplied_lines) (15 * (n + 1)) (omega (arith, fewer, few)))
             (fold (sold_line number order) tables.stock supplied_lines)
             (stock-sold number order supplied_lines (15 * n) tables.stock
-            (All-filter (λ line. line.supply_warehouse == number) (λ line. line.quantity ≤ 10) order.lines quantities) grown.stock);
+            (All-filter (λ line. line.supply_warehouse == number) (λ line. line.quantity ≤ 10) order.lines quantities)
+            grown.stock);
       }
     where
       all_local_small : (b : Bool) → cond b 1 0 ≤ 1
@@ -423,7 +477,8 @@ record Growing (n k : ℕ) (tables : Tables) : Type 0 where
 delivered-later : (n k : ℕ) (row : Customer) → IsCustomerUpTo n k row → IsCustomerUpTo n (k + 1) row
 delivered-later n k row up = record {
   id = up.id;
-  balance = money-later (500_000 * n + 150_000_000 * k) (500_000 * n + 150_000_000 * (k + 1)) row.balance (omega arith) up.balance;
+  balance = money-later (500_000 * n + 150_000_000 * k) (500_000 * n + 150_000_000 * (k + 1)) row.balance (omega
+      arith) up.balance;
   ytd_payment = up.ytd_payment;
   payment_count = up.payment_count;
   delivery_count = omega (arith, up.delivery_count);
@@ -437,12 +492,16 @@ module _ (items : List Item) (number : ℕ) (delivery : Delivery) (few : IsBetwe
       → (pos 0 ≤ℤ order_cents order tables.order_lines) × (order_cents order tables.order_lines ≤ℤ pos 150_000_000)
   cents-small tables order sound finds orders lines =
       let test = is_order order.warehouse order.district order.id in
-      let counts = All-find (CountsLines tables.order_lines) (is_order order.warehouse order.district order.id) tables.orders order
+      let counts = All-find (CountsLines tables.order_lines) (is_order order.warehouse order.district order.id)
+      tables.orders order
       (meets-facts tables sound.conditions).lines finds in
-      let short = (All-find (IsOrderUpTo n) (is_order order.warehouse order.district order.id) tables.orders order orders finds).line_count in
+      let short = (All-find (IsOrderUpTo n) (is_order order.warehouse order.district order.id) tables.orders order
+      orders finds).line_count in
       let sum = sum-between (λ (line : OrderLine). line.amount) (lines_of order tables.order_lines)
-      (All-filter (is_line_of order) (λ line. (pos 0 ≤ℤ line.amount) × (line.amount ≤ℤ pos 10_000_000)) tables.order_lines
-      (All-weaker (IsLineUpTo n) (λ line. (pos 0 ≤ℤ line.amount) × (line.amount ≤ℤ pos 10_000_000)) (λ line up. up.amount)
+      (All-filter (is_line_of order) (λ line. (pos 0 ≤ℤ line.amount) × (line.amount ≤ℤ pos 10_000_000))
+      tables.order_lines
+      (All-weaker (IsLineUpTo n) (λ line. (pos 0 ≤ℤ line.amount) × (line.amount ≤ℤ pos 10_000_000)) (λ line up.
+      up.amount)
       tables.order_lines lines)) in
       (sum.0, omega (arith, ints, sum.1, counts, short))
 
@@ -455,12 +514,14 @@ module _ (items : List Item) (number : ℕ) (delivery : Delivery) (few : IsBetwe
         warehouses = growing.warehouses;
         districts = growing.districts;
         customers =
-            All-with_changed_to (IsCustomerUpTo n k) (IsCustomerUpTo n (k + 1)) (is_customer order.warehouse order.district order.customer)
+            All-with_changed_to (IsCustomerUpTo n k) (IsCustomerUpTo n (k + 1)) (is_customer order.warehouse
+            order.district order.customer)
             (customer_delivered (order_cents order tables.order_lines))
             (λ row up. record {
               id = up.id;
               balance =
-                  money-more (500_000 * n + 150_000_000 * k) 150_000_000 (500_000 * n + 150_000_000 * (k + 1)) row.balance
+                  money-more (500_000 * n + 150_000_000 * k) 150_000_000 (500_000 * n + 150_000_000 * (k + 1))
+                  row.balance
                   (order_cents order tables.order_lines) (omega arith) cents.0 cents.1 up.balance;
               ytd_payment = up.ytd_payment;
               payment_count = up.payment_count;
@@ -468,7 +529,8 @@ module _ (items : List Item) (number : ℕ) (delivery : Delivery) (few : IsBetwe
             }) (delivered-later n k) tables.customers growing.customers;
         history = growing.history;
         orders =
-            All-with_changed_to (IsOrderUpTo n) (IsOrderUpTo n) (is_order order.warehouse order.district order.id) (carried delivery.carrier)
+            All-with_changed_to (IsOrderUpTo n) (IsOrderUpTo n) (is_order order.warehouse order.district order.id)
+            (carried delivery.carrier)
             (λ row up. record {
               id = up.id;
               customer = up.customer;
@@ -478,12 +540,16 @@ module _ (items : List Item) (number : ℕ) (delivery : Delivery) (few : IsBetwe
               all_local = up.all_local;
             }) (λ row up. up) tables.orders growing.orders;
         new_orders =
-            All-filter (λ row. not (is_new_order order.warehouse order.district order.id row)) (IsNewOrderUpTo n) tables.new_orders
+            All-filter (λ row. not (is_new_order order.warehouse order.district order.id row)) (IsNewOrderUpTo n)
+            tables.new_orders
             growing.new_orders;
         order_lines =
-            All-map (IsLineUpTo n) (λ row. cond (is_line_of order row) (delivered_line delivery.at row) row) tables.order_lines
-            (All-weaker (IsLineUpTo n) (λ row. IsLineUpTo n (cond (is_line_of order row) (delivered_line delivery.at row) row))
-            (λ row up. elim (is_line_of order row) as (λ b. IsLineUpTo n (cond b (delivered_line delivery.at row) row)) [
+            All-map (IsLineUpTo n) (λ row. cond (is_line_of order row) (delivered_line delivery.at row) row)
+            tables.order_lines
+            (All-weaker (IsLineUpTo n) (λ row. IsLineUpTo n (cond (is_line_of order row) (delivered_line delivery.at
+            row) row))
+            (λ row up. elim (is_line_of order row) as (λ b. IsLineUpTo n (cond b (delivered_line delivery.at row)
+            row)) [
               | true ↦ record {
                 order = up.order;
                 number = up.number;
@@ -501,13 +567,16 @@ module _ (items : List Item) (number : ℕ) (delivery : Delivery) (few : IsBetwe
   grown-in : (k : ℕ) (tables : Tables) (district : ℕ) → IsSoundWarehouse items number tables → Growing n k tables
       → Growing n (k + 1) (delivered_in delivery tables district)
   grown-in k tables district sound growing =
-      elim (oldest delivery.warehouse district tables == 0) as (λ b. (oldest delivery.warehouse district tables == 0) ≡ b
+      elim (oldest delivery.warehouse district tables == 0) as (λ b. (oldest delivery.warehouse district tables == 0)
+      ≡ b
       → Growing n (k + 1) (cond b tables (with_delivered delivery
-      (first_or (order_of []) (is_order delivery.warehouse district (oldest delivery.warehouse district tables)) tables.orders) tables))) [
+      (first_or (order_of []) (is_order delivery.warehouse district (oldest delivery.warehouse district tables))
+      tables.orders) tables))) [
         | true ↦ λ none. record {
           warehouses = growing.warehouses;
           districts = growing.districts;
-          customers = All-weaker (IsCustomerUpTo n k) (IsCustomerUpTo n (k + 1)) (delivered-later n k) tables.customers growing.customers;
+          customers = All-weaker (IsCustomerUpTo n k) (IsCustomerUpTo n (k + 1)) (delivered-later n k)
+              tables.customers growing.customers;
           history = growing.history;
           orders = growing.orders;
           new_orders = growing.new_orders;
@@ -520,7 +589,8 @@ module _ (items : List Item) (number : ℕ) (delivery : Delivery) (few : IsBetwe
             (grown-with_delivered k tables there.0 sound (there.1).finds growing)
       ] refl
 
-  grown-districts : (districts : List ℕ) (k : ℕ) (tables : Tables) → IsSoundWarehouse items number tables → Growing n k tables
+  grown-districts : (districts : List ℕ) (k : ℕ) (tables : Tables) → IsSoundWarehouse items number tables → Growing n
+      k tables
       → Growing n (k + length districts) (fold (delivered_in delivery) tables districts)
   grown-districts [] k tables sound growing = subst (λ j. Growing n j tables) (omega arith) growing
   grown-districts (district ∷ districts) k tables sound growing =
@@ -528,7 +598,8 @@ module _ (items : List Item) (number : ℕ) (delivery : Delivery) (few : IsBetwe
       let one : Growing n (k + 1) after = grown-in k tables district sound growing in
       let same : k + 1 + length districts ≡ k + suc (length districts) = omega arith in
       subst (λ j. Growing n j (fold (delivered_in delivery) after districts)) same
-      (grown-districts districts (k + 1) after (sound-delivered_in items number delivery carrier dated tables district sound) one)
+      (grown-districts districts (k + 1) after (sound-delivered_in items number delivery carrier dated tables district
+      sound) one)
 
 pub grown-delivered : (items : List Item) (number : ℕ) (delivery : Delivery) → IsBetween 1 10 delivery.carrier
     → IsBetween 1 1_000_000_000_000_000 delivery.at → (delivery.carrier == 0) ≡ false → (delivery.at == 0) ≡ false
@@ -540,7 +611,8 @@ grown-delivered items number delivery few moment carrier dated n tables sound gr
       warehouses = later.warehouses;
       districts = later.districts;
       customers =
-          All-weaker (IsCustomerUpTo n (10 * n)) (IsCustomerUpTo (n + 1) (10 * n)) (customer-later n (10 * n) (10 * n) (omega arith))
+          All-weaker (IsCustomerUpTo n (10 * n)) (IsCustomerUpTo (n + 1) (10 * n)) (customer-later n (10 * n) (10 * n)
+          (omega arith))
           tables.customers grown.customers;
       history = later.history;
       orders = later.orders;
@@ -548,7 +620,8 @@ grown-delivered items number delivery few moment carrier dated n tables sound gr
       order_lines = later.order_lines;
       stock = later.stock;
     } in
-    let end = grown-districts items number delivery few moment carrier dated (n + 1) district_numbers (10 * n) tables sound start in
+    let end = grown-districts items number delivery few moment carrier dated (n + 1) district_numbers (10 * n) tables
+    sound start in
     let ten : 10 * n + 10 ≡ 10 * (n + 1) = omega arith in
     record {
       warehouses = end.warehouses;

@@ -35,7 +35,8 @@ sound-accepted items number (commands.NewOrder order) tables passed sound =
     (sym (found-any (is_customer order.warehouse order.district order.customer) tables.customers) ∙ passed.customer)
     passed.known sound
 sound-accepted items number (commands.Payment payment) tables passed sound =
-    sound-paid items number payment (payer payment tables).id tables (accepted-payment items number payment tables passed) sound
+    sound-paid items number payment (payer payment tables).id tables (accepted-payment items number payment tables
+    passed) sound
 sound-accepted items number (commands.OrderStatus status) tables passed sound = sound
 sound-accepted items number (commands.Delivery delivery) tables passed sound =
     let delivered = accepted-delivery items number delivery tables passed in

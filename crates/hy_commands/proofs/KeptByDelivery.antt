@@ -54,16 +54,19 @@ module _ (items : List Item) (number : ℕ) (delivery : Delivery) (tables : Tabl
   marked-column : {Column : Type 0} (column : OrderLine → Column)
       → ((row : OrderLine) → column (delivered_line delivery.at row) ≡ column row)
       → (row : OrderLine) → column (marked row) ≡ column row
-  marked-column column same row = elim (is_line_of o row) as (λ b. column (cond b (delivered_line delivery.at row) row) ≡ column row) [
-    | true ↦ same row
-    | false ↦ refl
-  ]
+  marked-column column same row = elim (is_line_of o row) as (λ b. column (cond b (delivered_line delivery.at row)
+      row) ≡ column row) [
+        | true ↦ same row
+        | false ↦ refl
+      ]
 
   -- the lines of an order afterwards
   lines-after : (row : Order) → lines_of row after.order_lines ≡ map marked (lines_of row tables.order_lines)
-  lines-after row = filter-map (is_line_of row) marked (marked-column (is_line_of row) (λ line. refl)) tables.order_lines
+  lines-after row = filter-map (is_line_of row) marked (marked-column (is_line_of row) (λ line. refl))
+      tables.order_lines
 
-  lines-other : (row : Order) → is_order a b c row ≡ false → lines_of row after.order_lines ≡ lines_of row tables.order_lines
+  lines-other : (row : Order) → is_order a b c row ≡ false → lines_of row after.order_lines ≡ lines_of row
+      tables.order_lines
   lines-other row other =
       lines-after row
       ∙ map-same_on marked (λ line. line) (lines_of row tables.order_lines)
@@ -73,7 +76,8 @@ module _ (items : List Item) (number : ℕ) (delivery : Delivery) (tables : Tabl
       let one = tells-three line.warehouse line.district line.order row.warehouse row.district row.id passes in
       let two = tells-three line.warehouse line.district line.order a b c also in
       both_ways (is_order a b c row) other
-      (passes-three row.warehouse row.district row.id a b c (sym one.0 ∙ two.0) (sym one.1 ∙ two.1) (sym one.2 ∙ two.2)))))
+      (passes-three row.warehouse row.district row.id a b c (sym one.0 ∙ two.0) (sym one.1 ∙ two.1) (sym one.2 ∙
+      two.2)))))
       (lines_of row tables.order_lines) (filter_passes (is_line_of row) tables.order_lines))
       ∙ map-itself (lines_of row tables.order_lines)
     where
@@ -89,19 +93,23 @@ module _ (items : List Item) (number : ℕ) (delivery : Delivery) (tables : Tabl
         All-with_changed (λ (row : Customer). row.warehouse ≡ number) the_customer (customer_delivered cents)
         (λ row own. own) tables.customers sound.rows.customers;
     unique =
-        subst AreUnique (sym (map-with_changed customer_key the_customer (customer_delivered cents) (λ row. refl) tables.customers))
+        subst AreUnique (sym (map-with_changed customer_key the_customer (customer_delivered cents) (λ row. refl)
+        tables.customers))
         sound.rows.unique;
   }
 
   -- an order that is there is there afterwards
-  there-after : (x y z : ℕ) → list_any (is_order x y z) tables.orders ≡ true → list_any (is_order x y z) after.orders ≡ true
+  there-after : (x y z : ℕ) → list_any (is_order x y z) tables.orders ≡ true → list_any (is_order x y z) after.orders
+      ≡ true
   there-after x y z there =
-      list_any-with_changed (is_order x y z) (is_order a b c) (carried delivery.carrier) (λ row. refl) tables.orders ∙ there
+      list_any-with_changed (is_order x y z) (is_order a b c) (carried delivery.carrier) (λ row. refl) tables.orders ∙
+      there
 
   delivered-orders : HasOwnOrders items number after
   delivered-orders = record {
     unique_orders =
-        subst AreUnique (sym (map-with_changed order_key (is_order a b c) (carried delivery.carrier) (λ row. refl) tables.orders))
+        subst AreUnique (sym (map-with_changed order_key (is_order a b c) (carried delivery.carrier) (λ row. refl)
+        tables.orders))
         sound.orders.unique_orders;
     unique_new_orders =
         unique-filter new_order_key new_order_key (λ row. not (is_new_order a b c row)) (λ one two kept also same. same)
@@ -131,13 +139,15 @@ module _ (items : List Item) (number : ℕ) (delivery : Delivery) (tables : Tabl
     new_orders =
         All-filter (λ row. not (is_new_order a b c row)) (HasOrder after.orders) tables.new_orders
         (All-weaker (HasOrder tables.orders) (HasOrder after.orders)
-        (λ row there. there-after row.warehouse row.district row.order there) tables.new_orders sound.orders.new_orders);
+        (λ row there. there-after row.warehouse row.district row.order there) tables.new_orders
+        sound.orders.new_orders);
     order_lines =
         All-map (HasOrderAndItem items after.orders) marked tables.order_lines
         (All-weaker (HasOrderAndItem items tables.orders) (λ row. HasOrderAndItem items after.orders (marked row))
         (λ row there.
         let here = there-after row.warehouse row.district row.order there.0 in
-        elim (is_line_of o row) as (λ t. HasOrderAndItem items after.orders (cond t (delivered_line delivery.at row) row)) [
+        elim (is_line_of o row) as (λ t. HasOrderAndItem items after.orders (cond t (delivered_line delivery.at row)
+        row)) [
           | true ↦ (here, there.1)
           | false ↦ (here, there.1)
         ]) tables.order_lines sound.orders.order_lines);
@@ -151,7 +161,8 @@ module _ (items : List Item) (number : ℕ) (delivery : Delivery) (tables : Tabl
       let O : List ℕ = order_numbers tables.orders row in
       let N : List ℕ = new_order_numbers tables.new_orders row in
       let orders : order_numbers after.orders row ≡ O =
-      map-filter-with_changed (λ (order : Order). order.id) (λ order. (order.warehouse == row.warehouse) && (order.district == row.id))
+      map-filter-with_changed (λ (order : Order). order.id) (λ order. (order.warehouse == row.warehouse) &&
+      (order.district == row.id))
       (is_order a b c) (carried delivery.carrier) (λ order. refl) (λ order. refl) tables.orders in
       let unique : AreUnique N = unique-filter new_order_key (λ (new : NewOrder). new.order) Own
       (λ one two own also same.
@@ -166,9 +177,11 @@ module _ (items : List Item) (number : ℕ) (delivery : Delivery) (tables : Tabl
         | true ↦ λ own.
             let is = tells-two a b row.warehouse row.id own in
             let is_least : c ≡ least N = first
-            ∙ ap₂ (λ w d. least (map (λ (new : NewOrder). new.order) (new_orders_of w d tables.new_orders))) is.0 is.1 in
+            ∙ ap₂ (λ w d. least (map (λ (new : NewOrder). new.order) (new_orders_of w d tables.new_orders))) is.0 is.1
+            in
             let taken : new_order_numbers after.new_orders row ≡ others c N =
-            map-filter-again (λ (new : NewOrder). new.order) Own (λ new. not (is_new_order a b c new)) (λ n. not (n == c))
+            map-filter-again (λ (new : NewOrder). new.order) Own (λ new. not (is_new_order a b c new)) (λ n. not (n ==
+            c))
             (λ new passes. grind (arith, nat_tests, passes, own)) tables.new_orders in
             subst (AreInRow row.next_order O) (sym (taken ∙ ap (λ n. others n N) is_least))
             (in_row-taken row.next_order O N unique in_row)
@@ -189,7 +202,8 @@ module _ (items : List Item) (number : ℕ) (delivery : Delivery) (tables : Tabl
   delivered-before meets =
       let is_new : (o.carrier == 0) ≡ true =
       All-find (CarriedOrNew tables.new_orders) (is_order a b c) tables.orders o meets.carried finds ∙ waits in
-      let all = All-find (DeliveredWithLines tables.order_lines) (is_order a b c) tables.orders o meets.delivered finds in
+      let all = All-find (DeliveredWithLines tables.order_lines) (is_order a b c) tables.orders o meets.delivered
+      finds in
       ap (column_sum (λ (line : OrderLine). line.amount))
       (filter-none is_delivered (lines_of o tables.order_lines)
       (All-weaker (λ line. (line.delivery_date == 0) ≡ (o.carrier == 0)) (λ line. is_delivered line ≡ false)
@@ -207,7 +221,8 @@ module _ (items : List Item) (number : ℕ) (delivery : Delivery) (tables : Tabl
       ∙ column_sum-by_values (λ (line : OrderLine). line.amount) (λ (line : OrderLine). line.amount)
       (map marked (lines_of o tables.order_lines)) (lines_of o tables.order_lines)
       (map-map marked (λ (line : OrderLine). line.amount) (lines_of o tables.order_lines)
-      ∙ map-same (λ line. (marked line).amount) (λ line. line.amount) (marked-column (λ line. line.amount) (λ line. refl))
+      ∙ map-same (λ line. (marked line).amount) (λ line. line.amount) (marked-column (λ line. line.amount) (λ line.
+      refl))
       (lines_of o tables.order_lines))
 
   -- what was delivered to a customer grows by the order, if it is the customer's
@@ -219,16 +234,19 @@ module _ (items : List Item) (number : ℕ) (delivery : Delivery) (tables : Tabl
       let Mine : Order → Bool = is_order_by customer in
       column_sum-flat_map (λ (line : OrderLine). line.amount) is_delivered (λ order. lines_of order after.order_lines)
       (orders_by customer after.orders)
-      ∙ column_sum-by_values (delivered_of after.order_lines) (delivered_of after.order_lines) (orders_by customer after.orders)
+      ∙ column_sum-by_values (delivered_of after.order_lines) (delivered_of after.order_lines) (orders_by customer
+      after.orders)
       (orders_by customer tables.orders)
       (map-filter-with_changed (delivered_of after.order_lines) (is_order_by customer) (is_order a b c)
       (carried delivery.carrier) (λ row. refl) (λ row. refl) tables.orders)
       ∙ column_sum-once (delivered_of after.order_lines) (delivered_of tables.order_lines) (is_order a b c)
       (is_order_by customer) cents tables.orders (once-order a b c tables.orders sound.orders.unique_orders)
-      (λ row other. ap (λ lines. column_sum (λ (line : OrderLine). line.amount) (filter is_delivered lines)) (lines-other row other))
+      (λ row other. ap (λ lines. column_sum (λ (line : OrderLine). line.amount) (filter is_delivered lines))
+      (lines-other row other))
       o finds (omega (arith, ints, delivered-before meets, delivered-now))
       ∙ ap (λ sum. sum +ℤ cond (is_order_by customer o) cents (pos 0))
-      (sym (column_sum-flat_map (λ (line : OrderLine). line.amount) is_delivered (λ order. lines_of order tables.order_lines)
+      (sym (column_sum-flat_map (λ (line : OrderLine). line.amount) is_delivered (λ order. lines_of order
+      tables.order_lines)
       (orders_by customer tables.orders)))
 
   delivered-meets : Meets tables → Meets after
@@ -244,8 +262,10 @@ module _ (items : List Item) (number : ℕ) (delivery : Delivery) (tables : Tabl
         (λ order. (order.warehouse == row.warehouse) && (order.district == row.id)) (is_order a b c)
         (carried delivery.carrier) (λ order. refl) (λ order. refl) tables.orders)
         ∙ counts
-        ∙ sym (ap length (filter-map (λ (line : OrderLine). (line.warehouse == row.warehouse) && (line.district == row.id)) marked
-        (marked-column (λ line. (line.warehouse == row.warehouse) && (line.district == row.id)) (λ line. refl)) tables.order_lines)
+        ∙ sym (ap length (filter-map (λ (line : OrderLine). (line.warehouse == row.warehouse) && (line.district ==
+        row.id)) marked
+        (marked-column (λ line. (line.warehouse == row.warehouse) && (line.district == row.id)) (λ line. refl))
+        tables.order_lines)
         ∙ length-map marked (lines_of_district row.warehouse row.id tables.order_lines)))
         tables.districts meets.district_lines;
     carried =
@@ -258,7 +278,8 @@ module _ (items : List Item) (number : ℕ) (delivery : Delivery) (tables : Tabl
         is ∙ sym (any-filter-same (is_new_order_of row) (λ new. not (is_new_order a b c new))
         (λ new left. grind (arith, nat_tests, fails, left)) tables.new_orders)) meets.carried;
     lines =
-        All-with_changed (CountsLines after.order_lines) (is_order a b c) (carried delivery.carrier) (λ row counts. counts)
+        All-with_changed (CountsLines after.order_lines) (is_order a b c) (carried delivery.carrier) (λ row counts.
+        counts)
         tables.orders
         (All-weaker (CountsLines tables.order_lines) (CountsLines after.order_lines)
         (λ row counts. counts ∙ sym (ap length (lines-after row) ∙ length-map marked (lines_of row tables.order_lines)))
@@ -280,7 +301,8 @@ module _ (items : List Item) (number : ℕ) (delivery : Delivery) (tables : Tabl
         ap (λ t. (cond t (delivered_line delivery.at line) line).delivery_date == 0) mine ∙ moment ∙ sym carrier)
         (lines_of row tables.order_lines) (filter_passes (is_line_of row) tables.order_lines))))
         (λ row fails all.
-        subst (All (λ (line : OrderLine). (line.delivery_date == 0) ≡ (row.carrier == 0))) (sym (lines-other row fails)) all)
+        subst (All (λ (line : OrderLine). (line.delivery_date == 0) ≡ (row.carrier == 0))) (sym (lines-other row
+        fails)) all)
         meets.delivered;
     paid = meets.paid;
     district_paid = meets.district_paid;
@@ -290,11 +312,13 @@ module _ (items : List Item) (number : ℕ) (delivery : Delivery) (tables : Tabl
         (once-customer a b o.customer tables.customers sound.rows.unique)
         (λ row passes found settled.
         let mine : is_order_by row o ≡ true = grind (arith, nat_tests, passes) in
-        let more = delivered-more meets row ∙ ap (λ t. delivered_amount tables.orders tables.order_lines row +ℤ cond t cents (pos 0)) mine in
+        let more = delivered-more meets row ∙ ap (λ t. delivered_amount tables.orders tables.order_lines row +ℤ cond t
+        cents (pos 0)) mine in
         omega (arith, ints, settled, more))
         (λ row fails settled.
         let other : is_order_by row o ≡ false = grind (arith, nat_tests, fails) in
-        let same = delivered-more meets row ∙ ap (λ t. delivered_amount tables.orders tables.order_lines row +ℤ cond t cents (pos 0)) other in
+        let same = delivered-more meets row ∙ ap (λ t. delivered_amount tables.orders tables.order_lines row +ℤ cond t
+        cents (pos 0)) other in
         omega (arith, ints, settled, same)) meets.balances;
   }
 
@@ -313,9 +337,11 @@ least-some [] differs = absurd (cc)
 least-some (n ∷ numbers) differs = omega arith
 
 -- the order that is delivered in a district
-pub record IsOldest (delivery : Delivery) (tables : Tables) (district : ℕ) (order : Order) : Type 0 where
+pub record IsOldest (delivery : Delivery) (tables : Tables) (place : ℕ) (order : Order) : Type 0 where
   pub chosen :
-      first_or (order_of []) (is_order delivery.warehouse district (oldest delivery.warehouse district tables)) tables.orders ≡ order
+      first_or (order_of []) (is_order delivery.warehouse place (oldest delivery.warehouse place tables))
+      tables.orders ≡ order
+  pub district : order.district ≡ place
   pub finds : find (is_order order.warehouse order.district order.id) tables.orders ≡ Some order
   pub waits : is_undelivered tables.new_orders order ≡ true
   pub first : order.id ≡ least (map (λ row. row.order) (new_orders_of order.warehouse order.district tables.new_orders))
@@ -323,40 +349,87 @@ pub record IsOldest (delivery : Delivery) (tables : Tables) (district : ℕ) (or
 module _ (items : List Item) (number : ℕ) (delivery : Delivery) where
   -- it is there
   pub oldest-there : (tables : Tables) (district : ℕ) → IsSoundWarehouse items number tables
-      → (oldest delivery.warehouse district tables == 0) ≡ false → (order : Order) × IsOldest delivery tables district order
+      → (oldest delivery.warehouse district tables == 0) ≡ false → (order : Order) × IsOldest delivery tables district
+      order
   oldest-there tables district sound some =
       let w : ℕ = delivery.warehouse in
       let m : ℕ = oldest w district tables in
       let N : List ℕ = map (λ (new : NewOrder). new.order) (new_orders_of w district tables.new_orders) in
       let there : list_any (is_new_order w district m) tables.new_orders ≡ true =
-      in-any (λ (new : NewOrder). new.order) (λ new. (new.warehouse == w) && (new.district == district)) m tables.new_orders
+      in-any (λ (new : NewOrder). new.order) (λ new. (new.warehouse == w) && (new.district == district)) m
+      tables.new_orders
       (least-in N (least-some N some)) in
       let new = find-any (is_new_order w district m) tables.new_orders there in
-      let has = All-find (HasOrder tables.orders) (is_new_order w district m) tables.new_orders new.0 sound.orders.new_orders new.1 in
+      let has = All-find (HasOrder tables.orders) (is_new_order w district m) tables.new_orders new.0
+      sound.orders.new_orders new.1 in
       let is_new = tells-three (new.0).warehouse (new.0).district (new.0).order w district m
       (find-passes (is_new_order w district m) tables.new_orders new.0 new.1) in
       let ordered : list_any (is_order w district m) tables.orders ≡ true = rw (is_new.0, is_new.1, is_new.2) at has in
       let order = find-any (is_order w district m) tables.orders ordered in
       let o : Order = order.0 in
-      let is = tells-three o.warehouse o.district o.id w district m (find-passes (is_order w district m) tables.orders o order.1) in
+      let is = tells-three o.warehouse o.district o.id w district m (find-passes (is_order w district m) tables.orders
+      o order.1) in
       let finds : find (is_order o.warehouse o.district o.id) tables.orders ≡ Some o = rw (is.0, is.1, is.2) order.1 in
-      let waits : list_any (is_new_order o.warehouse o.district o.id) tables.new_orders ≡ true = rw (is.0, is.1, is.2) there in
-      let first : o.id ≡ least (map (λ (new : NewOrder). new.order) (new_orders_of o.warehouse o.district tables.new_orders)) =
-      rw (is.0, is.1) is.2 in
-      (o, record { chosen = ap (λ one. unwrap_or one (order_of [])) {y = Some o} order.1; finds = finds; waits = waits; first = first })
+      let waits : list_any (is_new_order o.warehouse o.district o.id) tables.new_orders ≡ true = rw (is.0, is.1, is.2)
+      there in
+      let first : o.id ≡ least (map (λ (new : NewOrder). new.order) (new_orders_of o.warehouse o.district
+      tables.new_orders)) =
+      rw (is.0, is.1) is.2 in (
+        o,
+        record {
+          chosen = ap (λ one. unwrap_or one (order_of [])) {y = Some o} order.1;
+          district = is.1;
+          finds = finds;
+          waits =
+              waits;
+          first = first;
+        },
+      )
+
+  -- a delivery in one district leaves the undelivered orders of the others, so that which orders are delivered is seen
+  -- before the first
+  pub oldest-other : (tables : Tables) (district other : ℕ) → IsSoundWarehouse items number tables
+      → (district == other) ≡ false
+      → oldest delivery.warehouse other (delivered_in delivery tables district) ≡ oldest delivery.warehouse other tables
+  oldest-other tables district other sound apart =
+      elim (oldest delivery.warehouse district tables == 0) as (λ b. (oldest delivery.warehouse district tables == 0) ≡ b
+      → oldest delivery.warehouse other (cond b tables (with_delivered delivery
+      (first_or (order_of [])
+      (is_order delivery.warehouse district (oldest delivery.warehouse district tables)) tables.orders) tables))
+      ≡ oldest delivery.warehouse other tables) [
+        | true ↦ λ none. refl
+        | false ↦ λ some.
+            let there = oldest-there tables district sound some in
+            subst (λ order. oldest delivery.warehouse other (with_delivered delivery order tables)
+            ≡ oldest delivery.warehouse other tables) (sym (there.1).chosen)
+            (ap (λ rows. least (map (λ (new : NewOrder). new.order) rows))
+            (filter-implied (λ new. (new.warehouse == delivery.warehouse) && (new.district == other))
+            (λ new. not (is_new_order (there.0).warehouse (there.0).district (there.0).id new))
+            (λ new passes. keeps (there.0).district (there.0).warehouse (there.0).id new (there.1).district
+            passes) tables.new_orders))
+      ] refl
+    where
+      keeps : (d w n : ℕ) (new : NewOrder) → d ≡ district
+          → ((new.warehouse == delivery.warehouse) && (new.district == other)) ≡ true
+          → not (is_new_order w d n new) ≡ true
+      keeps d w n new is passes = grind (arith, nat_tests, is, passes, apart)
 
   module _ (carrier : (delivery.carrier == 0) ≡ false) (moment : (delivery.at == 0) ≡ false) where
     pub sound-delivered_in : (tables : Tables) (district : ℕ) → IsSoundWarehouse items number tables
         → IsSoundWarehouse items number (delivered_in delivery tables district)
     sound-delivered_in tables district sound =
-        elim (oldest delivery.warehouse district tables == 0) as (λ b. (oldest delivery.warehouse district tables == 0) ≡ b
+        elim (oldest delivery.warehouse district tables == 0) as (λ b. (oldest delivery.warehouse district tables ==
+        0) ≡ b
         → IsSoundWarehouse items number (cond b tables (with_delivered delivery
-        (first_or (order_of []) (is_order delivery.warehouse district (oldest delivery.warehouse district tables)) tables.orders) tables))) [
+        (first_or (order_of []) (is_order delivery.warehouse district (oldest delivery.warehouse district tables))
+        tables.orders) tables))) [
           | true ↦ λ none. sound
           | false ↦ λ some.
               let there = oldest-there tables district sound some in
-              subst (λ order. IsSoundWarehouse items number (with_delivered delivery order tables)) (sym (there.1).chosen)
-              (sound-with_delivered items number delivery tables there.0 carrier moment (there.1).finds (there.1).waits (there.1).first sound)
+              subst (λ order. IsSoundWarehouse items number (with_delivered delivery order tables)) (sym
+              (there.1).chosen)
+              (sound-with_delivered items number delivery tables there.0 carrier moment (there.1).finds
+              (there.1).waits (there.1).first sound)
         ] refl
 
     -- one district after the other

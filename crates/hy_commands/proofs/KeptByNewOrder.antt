@@ -39,28 +39,37 @@ use Rattle.hy_commands.proofs.OnceLaws.{once-district, passes-three, tells-three
 
 module _ (items : List Item) (order : Purchase) (number : ℕ) where
   -- what holds of the row of each line
-  all-lines : (P : OrderLine → Type 0) → ((place : ℕ) (line : PurchaseLine) → P (line_row items order number place line))
+  all-lines : (P : OrderLine → Type 0) → ((place : ℕ) (line : PurchaseLine) → P (line_row items order number place
+      line))
       → (place : ℕ) (lines : List PurchaseLine) → All P (line_rows items order number place lines)
   all-lines P each place [] = All-nil P
   all-lines P each place (line ∷ lines) =
       All-cons P (line_row items order number place line) (line_rows items order number (place + 1) lines)
       (each place line) (all-lines P each (place + 1) lines)
 
-  length-lines : (place : ℕ) (lines : List PurchaseLine) → length (line_rows items order number place lines) ≡ length lines
+  length-lines : (place : ℕ) (lines : List PurchaseLine) → length (line_rows items order number place lines) ≡ length
+      lines
   length-lines place [] = refl
   length-lines place (line ∷ lines) = ap suc (length-lines (place + 1) lines)
 
   -- their numbers rise, so that their keys differ
   numbers-above : (low place : ℕ) (lines : List PurchaseLine) → low < place
-      → All (λ key. (order.warehouse, order.district, number, low) ≢ key) (map line_key (line_rows items order number place lines))
+      → All (λ key. (order.warehouse, order.district, number, low) ≢ key) (map line_key (line_rows items order number
+      place lines))
   numbers-above low place [] below = All-nil (λ key. (order.warehouse, order.district, number, low) ≢ key)
   numbers-above low place (line ∷ lines) below =
-      All-cons (λ key. (order.warehouse, order.district, number, low) ≢ key) (order.warehouse, order.district, number, place)
+      All-cons (λ key. (order.warehouse, order.district, number, low) ≢ key) (
+        order.warehouse,
+        order.district,
+        number,
+        place,
+      )
       (map line_key (line_rows items order number (place + 1) lines))
       (λ same. let equal : low ≡ place = ap (λ (key : ℕ × ℕ × ℕ × ℕ). key.3) same in omega (arith, equal, below))
       (numbers-above low (place + 1) lines (omega (arith, below)))
 
-  unique-lines : (place : ℕ) (lines : List PurchaseLine) → AreUnique (map line_key (line_rows items order number place lines))
+  unique-lines : (place : ℕ) (lines : List PurchaseLine) → AreUnique (map line_key (line_rows items order number place
+      lines))
   unique-lines place [] = λ i j d before within. absurd (omega arith)
   unique-lines place (line ∷ lines) =
       AllPairs-cons (λ one other. one ≢ other) (order.warehouse, order.district, number, place)
@@ -90,7 +99,8 @@ sold-keys supplier order (line ∷ lines) rows =
     (λ row. refl) rows
 
 sold-any : (supplier : ℕ) (order : Purchase) (warehouse item : ℕ) (lines : List PurchaseLine) (rows : List Stock)
-    → list_any (is_stock warehouse item) (fold (sold_line supplier order) rows lines) ≡ list_any (is_stock warehouse item) rows
+    → list_any (is_stock warehouse item) (fold (sold_line supplier order) rows lines) ≡ list_any (is_stock warehouse
+    item) rows
 sold-any supplier order warehouse item [] rows = refl
 sold-any supplier order warehouse item (line ∷ lines) rows =
     sold-any supplier order warehouse item lines (sold_line supplier order rows line)
@@ -110,12 +120,15 @@ orders-below items number warehouse district tables row sound found =
     let meets : Meets tables = meets-facts tables sound.conditions in
     let some = All-find (λ (row : District). 0 < row.next_order) (is_district warehouse district) tables.districts row
     sound.orders.next_orders found in
-    let in_row = All-find (NumbersInRow tables.orders tables.new_orders) (is_district warehouse district) tables.districts row
+    let in_row = All-find (NumbersInRow tables.orders tables.new_orders) (is_district warehouse district)
+    tables.districts row
     meets.numbers found in
     let is = tells-two row.warehouse row.id warehouse district
     (find-passes (is_district warehouse district) tables.districts row found) in
-    let below = in_row-below row.next_order (order_numbers tables.orders row) (new_order_numbers tables.new_orders row) some in_row in
-    let each = All-map_filter (λ id. id < row.next_order) (λ (order : Order). order.id) (In row.warehouse row.id) tables.orders below in (
+    let below = in_row-below row.next_order (order_numbers tables.orders row) (new_order_numbers tables.new_orders
+    row) some in_row in
+    let each = All-map_filter (λ id. id < row.next_order) (λ (order : Order). order.id) (In row.warehouse row.id)
+    tables.orders below in (
       some,
       subst (λ d. All (λ order. In warehouse d order ≡ true → order.id < row.next_order) tables.orders) is.1
           (subst (λ w. All (λ order. In w row.id order ≡ true → order.id < row.next_order) tables.orders) is.0 each),
@@ -171,9 +184,11 @@ module _ (items : List Item) (number : ℕ) (order : Purchase) (tables : Tables)
       let here = rw (same.0, same.1, same.2) at there in
       both_ways (list_any (is_order w d n) tables.orders) no-order here)
 
-  new-new_order : All (λ row. ((row.warehouse == w) && (row.district == d) && (row.order == n)) ≡ false) tables.new_orders
+  new-new_order : All (λ row. ((row.warehouse == w) && (row.district == d) && (row.order == n)) ≡ false)
+      tables.new_orders
   new-new_order =
-      All-weaker (HasOrder tables.orders) (λ row. ((row.warehouse == w) && (row.district == d) && (row.order == n)) ≡ false)
+      All-weaker (HasOrder tables.orders) (λ row. ((row.warehouse == w) && (row.district == d) && (row.order == n)) ≡
+      false)
       (λ row there. other-key row.warehouse row.district row.order there) tables.new_orders sound.orders.new_orders
 
   new-line : All (λ row. ((row.warehouse == w) && (row.district == d) && (row.order == n)) ≡ false) tables.order_lines
@@ -243,7 +258,8 @@ module _ (items : List Item) (number : ℕ) (order : Purchase) (tables : Tables)
         (λ row. All (λ other. line_key row ≢ other) (map line_key L))
         (λ row other. All-map (λ key. line_key row ≢ key) line_key L
         (all-lines items order n (λ line. line_key row ≢ line_key line)
-        (λ place line same. differ_line row.warehouse row.district row.order row.number place other same) 1 order.lines))
+        (λ place line same. differ_line row.warehouse row.district row.order row.number place other same) 1
+        order.lines))
         tables.order_lines new-line)));
     next_orders =
         All-with_changed (λ (row : District). 0 < row.next_order) (is_district w d) with_next_order
@@ -258,7 +274,8 @@ module _ (items : List Item) (number : ℕ) (order : Purchase) (tables : Tables)
     new_orders =
         All-push (HasOrder after.orders) tables.new_orders x
         (All-weaker (HasOrder tables.orders) (HasOrder after.orders)
-        (λ row there. there-behind row.warehouse row.district row.order there) tables.new_orders sound.orders.new_orders)
+        (λ row there. there-behind row.warehouse row.district row.order there) tables.new_orders
+        sound.orders.new_orders)
         there-itself;
     order_lines =
         All-append (HasOrderAndItem items after.orders) tables.order_lines L
@@ -279,11 +296,13 @@ module _ (items : List Item) (number : ℕ) (order : Purchase) (tables : Tables)
           → ◌≡◌ {A = ℕ × ℕ × ℕ × ℕ} (a, b, c, place) (w, d, n, other) → ⊥
       differ_line a b c place other apart same =
           both_ways ((a == w) && (b == d) && (c == n)) apart
-          (passes-three a b c w d n (ap (λ (key : ℕ × ℕ × ℕ × ℕ). key.0) same) (ap (λ (key : ℕ × ℕ × ℕ × ℕ). key.1) same)
+          (passes-three a b c w d n (ap (λ (key : ℕ × ℕ × ℕ × ℕ). key.0) same) (ap (λ (key : ℕ × ℕ × ℕ × ℕ). key.1)
+          same)
           (ap (λ (key : ℕ × ℕ × ℕ × ℕ). key.2) same))
 
   -- the lines of the other orders, and those of the order
-  old-lines : (row : Order) → is_order w d n row ≡ false → lines_of row after.order_lines ≡ lines_of row tables.order_lines
+  old-lines : (row : Order) → is_order w d n row ≡ false → lines_of row after.order_lines ≡ lines_of row
+      tables.order_lines
   old-lines row other =
       filter-append (is_line_of row) tables.order_lines L
       ∙ ap (λ rest. lines_of row tables.order_lines ++ rest)
@@ -306,29 +325,37 @@ module _ (items : List Item) (number : ℕ) (order : Purchase) (tables : Tables)
   district-lines row counts =
       let In_row : Order → Bool = In row.warehouse row.id in
       let orders = map-filter-push (λ (order : Order). order.line_count) (In row.warehouse row.id) tables.orders o in
-      let lines = filter-append (λ (line : OrderLine). (line.warehouse == row.warehouse) && (line.district == row.id)) tables.order_lines L in
+      let lines = filter-append (λ (line : OrderLine). (line.warehouse == row.warehouse) && (line.district == row.id))
+      tables.order_lines L in
       elim ((w == row.warehouse) && (d == row.id)) as (λ b. ((w == row.warehouse) && (d == row.id)) ≡ b
       → CountsDistrict after.orders after.order_lines row) [
         | true ↦ λ own.
-            let all = filter-all (λ (line : OrderLine). (line.warehouse == row.warehouse) && (line.district == row.id)) L
+            let all = filter-all (λ (line : OrderLine). (line.warehouse == row.warehouse) && (line.district ==
+            row.id)) L
             (all-lines items order n (λ line. ((line.warehouse == row.warehouse) && (line.district == row.id)) ≡ true)
             (λ place line. own) 1 order.lines) in
-            ap sum (orders ∙ ap (λ b. map (λ (order : Order). order.line_count) (orders_of row.warehouse row.id tables.orders)
+            ap sum (orders ∙ ap (λ b. map (λ (order : Order). order.line_count) (orders_of row.warehouse row.id
+            tables.orders)
             ++ cond b (length order.lines ∷ []) []) own)
-            ∙ sum_by_push (λ k. k) (map (λ (order : Order). order.line_count) (orders_of row.warehouse row.id tables.orders))
+            ∙ sum_by_push (λ k. k) (map (λ (order : Order). order.line_count) (orders_of row.warehouse row.id
+            tables.orders))
             (length order.lines)
             ∙ ap₂ (λ a b. a + b) counts (sym (length-lines items order n 1 order.lines))
             ∙ sym (length-append (lines_of_district row.warehouse row.id tables.order_lines) L)
-            ∙ sym (ap length (lines ∙ ap (λ rest. lines_of_district row.warehouse row.id tables.order_lines ++ rest) all))
+            ∙ sym (ap length (lines ∙ ap (λ rest. lines_of_district row.warehouse row.id tables.order_lines ++ rest)
+            all))
         | false ↦ λ other.
-            let none = filter-none (λ (line : OrderLine). (line.warehouse == row.warehouse) && (line.district == row.id)) L
+            let none = filter-none (λ (line : OrderLine). (line.warehouse == row.warehouse) && (line.district ==
+            row.id)) L
             (all-lines items order n (λ line. ((line.warehouse == row.warehouse) && (line.district == row.id)) ≡ false)
             (λ place line. other) 1 order.lines) in
-            ap sum (orders ∙ ap (λ b. map (λ (order : Order). order.line_count) (orders_of row.warehouse row.id tables.orders)
+            ap sum (orders ∙ ap (λ b. map (λ (order : Order). order.line_count) (orders_of row.warehouse row.id
+            tables.orders)
             ++ cond b (length order.lines ∷ []) []) other
             ∙ append-nil (map (λ (order : Order). order.line_count) (orders_of row.warehouse row.id tables.orders)))
             ∙ counts
-            ∙ sym (ap length (lines ∙ ap (λ rest. lines_of_district row.warehouse row.id tables.order_lines ++ rest) none
+            ∙ sym (ap length (lines ∙ ap (λ rest. lines_of_district row.warehouse row.id tables.order_lines ++ rest)
+            none
             ∙ append-nil (lines_of_district row.warehouse row.id tables.order_lines)))
       ] refl
 
@@ -343,7 +370,8 @@ module _ (items : List Item) (number : ℕ) (order : Purchase) (tables : Tables)
       map-filter-push (λ (order : Order). order.id) (In row.warehouse row.id) tables.orders o
       ∙ ap (λ b. O ++ cond b (n ∷ []) []) own ∙ ap (λ k. O ++ k ∷ []) is in
       let news : new_order_numbers after.new_orders row ≡ N ++ row.next_order ∷ [] =
-      map-filter-push (λ (new : NewOrder). new.order) (λ new. (new.warehouse == row.warehouse) && (new.district == row.id))
+      map-filter-push (λ (new : NewOrder). new.order) (λ new. (new.warehouse == row.warehouse) && (new.district ==
+      row.id))
       tables.new_orders x ∙ ap (λ b. N ++ cond b (n ∷ []) []) own ∙ ap (λ k. N ++ k ∷ []) is in
       subst (λ numbers. AreInRow (row.next_order + 1) numbers (new_order_numbers after.new_orders row)) (sym orders)
       (subst (λ numbers. AreInRow (row.next_order + 1) (O ++ row.next_order ∷ []) numbers) (sym news)
@@ -358,26 +386,34 @@ module _ (items : List Item) (number : ℕ) (order : Purchase) (tables : Tables)
       map-filter-push (λ (order : Order). order.id) (In row.warehouse row.id) tables.orders o
       ∙ ap (λ b. O ++ cond b (n ∷ []) []) other ∙ append-nil O in
       let news : new_order_numbers after.new_orders row ≡ N =
-      map-filter-push (λ (new : NewOrder). new.order) (λ new. (new.warehouse == row.warehouse) && (new.district == row.id))
+      map-filter-push (λ (new : NewOrder). new.order) (λ new. (new.warehouse == row.warehouse) && (new.district ==
+      row.id))
       tables.new_orders x ∙ ap (λ b. N ++ cond b (n ∷ []) []) other ∙ append-nil N in
       subst (λ numbers. AreInRow row.next_order numbers (new_order_numbers after.new_orders row)) (sym orders)
       (subst (λ numbers. AreInRow row.next_order O numbers) (sym news) in_row)
 
   -- what was delivered to a customer stays
   delivered-same : (customer : Customer)
-      → delivered_amount after.orders after.order_lines customer ≡ delivered_amount tables.orders tables.order_lines customer
+      → delivered_amount after.orders after.order_lines customer ≡ delivered_amount tables.orders tables.order_lines
+      customer
   delivered-same customer =
-      let Old : List OrderLine = flat_map (λ order. lines_of order tables.order_lines) (orders_by customer tables.orders) in
+      let Old : List OrderLine = flat_map (λ order. lines_of order tables.order_lines) (orders_by customer
+      tables.orders) in
       let same : flat_map (λ order. lines_of order after.order_lines) (orders_by customer tables.orders) ≡ Old =
       flat_map-same_on (λ order. lines_of order after.order_lines) (λ order. lines_of order tables.order_lines)
       (orders_by customer tables.orders)
-      (All-filter (is_order_by customer) (λ row. lines_of row after.order_lines ≡ lines_of row tables.order_lines) tables.orders
-      (All-weaker (λ row. is_order w d n row ≡ false) (λ row. lines_of row after.order_lines ≡ lines_of row tables.order_lines)
+      (All-filter (is_order_by customer) (λ row. lines_of row after.order_lines ≡ lines_of row tables.order_lines)
+      tables.orders
+      (All-weaker (λ row. is_order w d n row ≡ false) (λ row. lines_of row after.order_lines ≡ lines_of row
+      tables.order_lines)
       old-lines tables.orders new-order)) in
       let undelivered : filter is_delivered L ≡ [] =
-      filter-none is_delivered L (all-lines items order n (λ line. is_delivered line ≡ false) (λ place line. refl) 1 order.lines) in
-      let New : Bool → List OrderLine = λ b. flat_map (λ order. lines_of order after.order_lines) (cond b (o ∷ []) []) in
-      let none : (b : Bool) → filter is_delivered (New b) ≡ [] = λ b. elim b as (λ b. filter is_delivered (New b) ≡ []) [
+      filter-none is_delivered L (all-lines items order n (λ line. is_delivered line ≡ false) (λ place line. refl) 1
+      order.lines) in
+      let New : Bool → List OrderLine = λ b. flat_map (λ order. lines_of order after.order_lines) (cond b (o ∷ []) [])
+      in
+      let none : (b : Bool) → filter is_delivered (New b) ≡ [] = λ b. elim b as (λ b. filter is_delivered (New b) ≡
+      []) [
         | true ↦ ap (filter is_delivered) (append-nil (lines_of o after.order_lines) ∙ own-lines) ∙ undelivered
         | false ↦ refl
       ] in
@@ -386,8 +422,10 @@ module _ (items : List Item) (number : ℕ) (order : Purchase) (tables : Tables)
       (ap (λ orders. filter is_delivered (flat_map (λ order. lines_of order after.order_lines) orders))
       (filter-append (is_order_by customer) tables.orders (o ∷ []))
       ∙ ap (filter is_delivered)
-      (flat_map-append (λ order. lines_of order after.order_lines) (orders_by customer tables.orders) (cond own (o ∷ []) []))
-      ∙ filter-append is_delivered (flat_map (λ order. lines_of order after.order_lines) (orders_by customer tables.orders)) (New own)
+      (flat_map-append (λ order. lines_of order after.order_lines) (orders_by customer tables.orders) (cond own (o ∷
+      []) []))
+      ∙ filter-append is_delivered (flat_map (λ order. lines_of order after.order_lines) (orders_by customer
+      tables.orders)) (New own)
       ∙ ap₂ (λ one other. one ++ other) (ap (filter is_delivered) same) (none own)
       ∙ append-nil (filter is_delivered Old))
 
@@ -399,7 +437,8 @@ module _ (items : List Item) (number : ℕ) (order : Purchase) (tables : Tables)
     districts =
         All-weaker (SumsDistricts tables.districts) (SumsDistricts after.districts)
         (λ row sums. sums ∙ sym (column_sum-by_values (λ (row : District). row.ytd) (λ (row : District). row.ytd)
-        (filter (λ other. other.warehouse == row.id) after.districts) (filter (λ other. other.warehouse == row.id) tables.districts)
+        (filter (λ other. other.warehouse == row.id) after.districts) (filter (λ other. other.warehouse == row.id)
+        tables.districts)
         (map-filter-with_changed (λ (row : District). row.ytd) (λ other. other.warehouse == row.id) (is_district w d)
         with_next_order (λ row. refl) (λ row. refl) tables.districts))) tables.warehouses meets.districts;
     numbers =
@@ -408,7 +447,8 @@ module _ (items : List Item) (number : ℕ) (order : Purchase) (tables : Tables)
         (λ row passes finds both.
         numbers-more row (grind (arith, nat_tests, passes)) (number-is row finds) both.1 both.0)
         (λ row fails both. numbers-same row (grind (arith, nat_tests, fails)) both.0)
-        (All-of_both (NumbersInRow tables.orders tables.new_orders) (λ row. 0 < row.next_order) Numbered tables.districts
+        (All-of_both (NumbersInRow tables.orders tables.new_orders) (λ row. 0 < row.next_order) Numbered
+        tables.districts
         (λ row in_row some. (in_row, some)) meets.numbers sound.orders.next_orders);
     district_lines =
         All-with_changed (CountsDistrict after.orders after.order_lines) (is_district w d) with_next_order
@@ -417,7 +457,8 @@ module _ (items : List Item) (number : ℕ) (order : Purchase) (tables : Tables)
         district-lines tables.districts meets.district_lines);
     carried =
         All-push (CarriedOrNew after.new_orders) tables.orders o
-        (All-of_both (CarriedOrNew tables.new_orders) (λ row. is_order w d n row ≡ false) (CarriedOrNew after.new_orders)
+        (All-of_both (CarriedOrNew tables.new_orders) (λ row. is_order w d n row ≡ false) (CarriedOrNew
+        after.new_orders)
         tables.orders
         (λ row is other. is ∙ sym (list_any-append (is_new_order_of row) tables.new_orders (x ∷ [])
         ∙ or_none (is_undelivered tables.new_orders row) (is_new_order_of row x) (grind (arith, nat_tests, other))))
@@ -427,14 +468,16 @@ module _ (items : List Item) (number : ℕ) (order : Purchase) (tables : Tables)
         (or_left (is_new_order_of o x) false (passes-three w d n w d n refl refl refl))));
     lines =
         All-push (CountsLines after.order_lines) tables.orders o
-        (All-of_both (CountsLines tables.order_lines) (λ row. is_order w d n row ≡ false) (CountsLines after.order_lines)
+        (All-of_both (CountsLines tables.order_lines) (λ row. is_order w d n row ≡ false) (CountsLines
+        after.order_lines)
         tables.orders (λ row counts other. counts ∙ sym (ap length (old-lines row other))) meets.lines new-order)
         (sym (ap length own-lines ∙ length-lines items order n 1 order.lines));
     delivered =
         All-push (DeliveredWithLines after.order_lines) tables.orders o
         (All-of_both (DeliveredWithLines tables.order_lines) (λ row. is_order w d n row ≡ false)
         (DeliveredWithLines after.order_lines) tables.orders
-        (λ row all other. subst (All (λ line. (line.delivery_date == 0) ≡ (row.carrier == 0))) (sym (old-lines row other)) all)
+        (λ row all other. subst (All (λ line. (line.delivery_date == 0) ≡ (row.carrier == 0))) (sym (old-lines row
+        other)) all)
         meets.delivered new-order)
         (subst (All (λ (line : OrderLine). (line.delivery_date == 0) ≡ true)) (sym own-lines)
         (all-lines items order n (λ line. (line.delivery_date == 0) ≡ true) (λ place line. refl) 1 order.lines));
@@ -461,7 +504,8 @@ module _ (items : List Item) (number : ℕ) (order : Purchase) (tables : Tables)
       each =
           All-weaker (λ item. list_any (is_stock number item.id) tables.stock ≡ true)
           (λ item. list_any (is_stock number item.id) after.stock ≡ true)
-          (λ item there. sold-any number order number item.id supplied_lines tables.stock ∙ there) items sound.stock.each;
+          (λ item there. sold-any number order number item.id supplied_lines tables.stock ∙ there) items
+          sound.stock.each;
     };
     conditions = meets-tests after (ordered-meets (meets-facts tables sound.conditions));
   }

@@ -45,7 +45,8 @@ own-district number district tables rows between =
 
 -- a payment more
 module _ (row : History) (cents : ℤ) (is : row.amount ≡ cents) (history : List History) (keep : History → Bool) where
-  paid-more : keep row ≡ true → paid_amount (filter keep (history ++ row ∷ [])) ≡ paid_amount (filter keep history) +ℤ cents
+  paid-more : keep row ≡ true → paid_amount (filter keep (history ++ row ∷ [])) ≡ paid_amount (filter keep history) +ℤ
+      cents
   paid-more counts =
       ap paid_amount (filter-append keep history (row ∷ []))
       ∙ ap (λ b. paid_amount (filter keep history ++ cond b (row ∷ []) [])) counts
@@ -68,13 +69,16 @@ module _ (items : List Item) (number : ℕ) (payment : Payment) (customer : ℕ)
 
   paid-rows : IsOneWarehouse number after
   paid-rows =
-      let same_keys = map-with_changed customer_key is_payer (customer_paid payment.amount) (λ row. refl) tables.customers in
+      let same_keys = map-with_changed customer_key is_payer (customer_paid payment.amount) (λ row. refl)
+      tables.customers in
       record {
         warehouse =
-            map-with_changed (λ (row : Warehouse). row.id) (is_warehouse payment.warehouse) (warehouse_paid payment.amount)
+            map-with_changed (λ (row : Warehouse). row.id) (is_warehouse payment.warehouse) (warehouse_paid
+            payment.amount)
             (λ row. refl) tables.warehouses ∙ sound.rows.warehouse;
         districts =
-            map-with_changed district_key (is_district payment.warehouse payment.district) (district_paid payment.amount)
+            map-with_changed district_key (is_district payment.warehouse payment.district) (district_paid
+            payment.amount)
             (λ row. refl) tables.districts ∙ sound.rows.districts;
         customers =
             All-with_changed (λ (row : Customer). row.warehouse ≡ number) is_payer (customer_paid payment.amount)
@@ -108,7 +112,8 @@ module _ (items : List Item) (number : ℕ) (payment : Payment) (customer : ℕ)
   cents = pos payment.amount
 
   -- the districts together grow by the amount
-  districts-more : (id : ℕ) → id ≡ number → ytd_of_districts id after.districts ≡ ytd_of_districts id tables.districts +ℤ cents
+  districts-more : (id : ℕ) → id ≡ number → ytd_of_districts id after.districts ≡ ytd_of_districts id tables.districts
+      +ℤ cents
   districts-more id is =
       let found = own-district number payment.district tables sound.rows accepted.district in
       let home : payment.warehouse ≡ id = accepted.home ∙ sym is in
@@ -129,7 +134,8 @@ module _ (items : List Item) (number : ℕ) (payment : Payment) (customer : ℕ)
       → ((row : Warehouse) → row.id ≡ number → P row → Q (warehouse_paid payment.amount row))
       → All P tables.warehouses → All Q after.warehouses
   warehouse-paid P Q grows all =
-      All-changed_once (λ row. P row × (row.id ≡ number)) Q (is_warehouse payment.warehouse) (warehouse_paid payment.amount)
+      All-changed_once (λ row. P row × (row.id ≡ number)) Q (is_warehouse payment.warehouse) (warehouse_paid
+      payment.amount)
       tables.warehouses (once-warehouse payment.warehouse tables.warehouses unique.warehouses)
       (λ row passes found both. grows row both.1 both.0)
       (λ row fails both. absurd (grind (arith, nat_tests, fails, both.1, accepted.home)))
@@ -145,7 +151,8 @@ module _ (items : List Item) (number : ℕ) (payment : Payment) (customer : ℕ)
         All-with_changed (NumbersInRow tables.orders tables.new_orders) (is_district payment.warehouse payment.district)
         (district_paid payment.amount) (λ row in_row. in_row) tables.districts meets.numbers;
     district_lines =
-        All-with_changed (CountsDistrict tables.orders tables.order_lines) (is_district payment.warehouse payment.district)
+        All-with_changed (CountsDistrict tables.orders tables.order_lines) (is_district payment.warehouse
+        payment.district)
         (district_paid payment.amount) (λ row counts. counts) tables.districts meets.district_lines;
     carried = meets.carried;
     lines = meets.lines;

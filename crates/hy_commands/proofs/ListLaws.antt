@@ -17,7 +17,8 @@ Once test [] = Unit {0}
 Once test (row ∷ rows) = (test row ≡ true → All (λ other. test other ≡ false) rows) × Once test rows
 
 -- what a list of keys that differ says of its first and of the others
-pub unique-head : {Key : Type 0} (key : Key) (keys : List Key) → AreUnique (key ∷ keys) → All (λ other. key ≢ other) keys
+pub unique-head : {Key : Type 0} (key : Key) (keys : List Key) → AreUnique (key ∷ keys) → All (λ other. key ≢ other)
+    keys
 unique-head key keys unique = λ k d below. unique 0 (suc k) d (omega arith) (omega arith)
 
 pub unique-tail : {Key : Type 0} (key : Key) (keys : List Key) → AreUnique (key ∷ keys) → AreUnique keys
@@ -93,7 +94,8 @@ map-filter-with_changed {Row = Row} {Key = Key} key keep test change same stays 
           ∙ (rw (stays row, same row) (sym (by_keys (keep row) row rows)))
       | false ↦
           by_keys (keep row) row (with_changed test change rows)
-          ∙ ap (λ keys. cond (keep row) (key row ∷ keys) keys) (map-filter-with_changed key keep test change same stays rows)
+          ∙ ap (λ keys. cond (keep row) (key row ∷ keys) keys) (map-filter-with_changed key keep test change same
+          stays rows)
           ∙ sym (by_keys (keep row) row rows)
     ]
   where
@@ -108,7 +110,8 @@ pub sum-column : {Row : Type 0} (column : Row → ℤ) (start : ℤ) (rows : Lis
 sum-column column start [] = refl
 sum-column column start (row ∷ rows) = sum-column column (start +ℤ column row) rows
 
-pub column_sum-by_values : {Row Other : Type 0} (column : Row → ℤ) (other : Other → ℤ) (rows : List Row) (others : List Other)
+pub column_sum-by_values : {Row Other : Type 0} (column : Row → ℤ) (other : Other → ℤ) (rows : List Row) (others :
+    List Other)
     → map column rows ≡ map other others → column_sum column rows ≡ column_sum other others
 column_sum-by_values column other rows others same =
     sum-column column (pos 0) rows ∙ ap (fold (λ sum value. sum +ℤ value) (pos 0)) same
@@ -180,7 +183,8 @@ pub find-any : {Row : Type 0} (test : Row → Bool) (rows : List Row) → list_a
     → (row : Row) × (find test rows ≡ Some row)
 find-any test [] any = absurd (cc)
 find-any test (first ∷ rows) any =
-    elim (test first) as (λ b. (b || list_any test rows) ≡ true → (row : _) × (cond b (Some first) (find test rows) ≡ Some row)) [
+    elim (test first) as (λ b. (b || list_any test rows) ≡ true → (row : _) × (cond b (Some first) (find test rows) ≡
+    Some row)) [
       | true ↦ λ here. (first, refl)
       | false ↦ λ later. find-any test rows later
     ] any
@@ -203,7 +207,8 @@ All-of_both P Q R (row ∷ rows) follows ps qs =
     (All-of_both P Q R rows follows (All-tail P row rows ps) (All-tail Q row rows qs))
 
 -- two tests that agree on the rows of a list
-pub filter-agree_on : {Row : Type 0} (keep other : Row → Bool) (rows : List Row) → All (λ row. keep row ≡ other row) rows
+pub filter-agree_on : {Row : Type 0} (keep other : Row → Bool) (rows : List Row) → All (λ row. keep row ≡ other row)
+    rows
     → filter keep rows ≡ filter other rows
 filter-agree_on keep other [] all = refl
 filter-agree_on keep other (row ∷ rows) all =
@@ -234,7 +239,8 @@ pub length-map : {Row Other : Type 0} (change : Row → Other) (rows : List Row)
 length-map change [] = refl
 length-map change (row ∷ rows) = ap suc (length-map change rows)
 
-pub map-map : {A B C : Type 0} (f : A → B) (g : B → C) (rows : List A) → map g (map f rows) ≡ map (λ row. g (f row)) rows
+pub map-map : {A B C : Type 0} (f : A → B) (g : B → C) (rows : List A) → map g (map f rows) ≡ map (λ row. g (f row))
+    rows
 map-map f g [] = refl
 map-map f g (row ∷ rows) = ap (λ others. g (f row) ∷ others) (map-map f g rows)
 
@@ -301,7 +307,8 @@ All-map_filter P key keep (row ∷ rows) all =
           (λ also. All-head P (key row) (map key (filter keep rows)) all)
           (All-map_filter P key keep rows (All-tail P (key row) (map key (filter keep rows)) all))
       | false ↦ λ fails all.
-          All-cons (λ row. keep row ≡ true → P (key row)) row rows (λ passes. absurd (both_ways (keep row) fails passes))
+          All-cons (λ row. keep row ≡ true → P (key row)) row rows (λ passes. absurd (both_ways (keep row) fails
+          passes))
           (All-map_filter P key keep rows all)
     ] refl all
 
@@ -385,7 +392,8 @@ pub any-filter-none : {Row : Type 0} (test keep : Row → Bool) → ((row : Row)
     → (rows : List Row) → list_any test (filter keep rows) ≡ false
 any-filter-none test keep fails [] = refl
 any-filter-none test keep fails (row ∷ rows) =
-    elim (keep row) as (λ b. keep row ≡ b → list_any test (cond b (row ∷ filter keep rows) (filter keep rows)) ≡ false) [
+    elim (keep row) as (λ b. keep row ≡ b → list_any test (cond b (row ∷ filter keep rows) (filter keep rows)) ≡
+    false) [
       | true ↦ λ kept. rw (fails row kept) (any-filter-none test keep fails rows)
       | false ↦ λ left. any-filter-none test keep fails rows
     ] refl
@@ -425,7 +433,8 @@ pub column_sum-once : {Row : Type 0} (column other : Row → ℤ) (test keep : R
 column_sum-once column other test keep amount [] once same the finds more = absurd (cc)
 column_sum-once {Row = Row} column other test keep amount (row ∷ rows) once same the finds more =
     elim (test row) as (λ b. test row ≡ b → cond b (Some row) (find test rows) ≡ Some the
-    → column_sum column (filter keep (row ∷ rows)) ≡ column_sum other (filter keep (row ∷ rows)) +ℤ cond (keep the) amount (pos 0)) [
+    → column_sum column (filter keep (row ∷ rows)) ≡ column_sum other (filter keep (row ∷ rows)) +ℤ cond (keep the)
+    amount (pos 0)) [
       | true ↦ λ passes this.
           let is : row ≡ the = cc in
           let rest = others rows (once.0 passes) in
@@ -433,7 +442,15 @@ column_sum-once {Row = Row} column other test keep amount (row ∷ rows) once sa
           ≡ column_sum other (filter keep (row ∷ rows)) +ℤ cond (keep r) amount (pos 0)) is
           (λ more. elim (keep row) as (λ k. column_sum column (cond k (row ∷ filter keep rows) (filter keep rows))
           ≡ column_sum other (cond k (row ∷ filter keep rows) (filter keep rows)) +ℤ cond k amount (pos 0)) [
-            | true ↦ omega (arith, ints, more, rest, column_sum-cons column row (filter keep rows), column_sum-cons other row (filter keep rows))
+            | true ↦ omega (
+              arith,
+              ints,
+              more,
+              rest,
+              column_sum-cons column row (filter keep rows),
+              column_sum-cons
+                  other row (filter keep rows),
+            )
             | false ↦ omega (arith, ints, rest)
           ]) more
       | false ↦ λ fails later.
@@ -441,7 +458,15 @@ column_sum-once {Row = Row} column other test keep amount (row ∷ rows) once sa
           let here = same row fails in
           elim (keep row) as (λ k. column_sum column (cond k (row ∷ filter keep rows) (filter keep rows))
           ≡ column_sum other (cond k (row ∷ filter keep rows) (filter keep rows)) +ℤ cond (keep the) amount (pos 0)) [
-            | true ↦ omega (arith, ints, here, rest, column_sum-cons column row (filter keep rows), column_sum-cons other row (filter keep rows))
+            | true ↦ omega (
+              arith,
+              ints,
+              here,
+              rest,
+              column_sum-cons column row (filter keep rows),
+              column_sum-cons
+                  other row (filter keep rows),
+            )
             | false ↦ rest
           ]
     ] refl finds
@@ -454,7 +479,15 @@ column_sum-once {Row = Row} column other test keep amount (row ∷ rows) once sa
         let here = same row (All-head (λ row. test row ≡ false) row rows fails) in
         elim (keep row) as (λ k. column_sum column (cond k (row ∷ filter keep rows) (filter keep rows))
         ≡ column_sum other (cond k (row ∷ filter keep rows) (filter keep rows))) [
-          | true ↦ omega (arith, ints, here, rest, column_sum-cons column row (filter keep rows), column_sum-cons other row (filter keep rows))
+          | true ↦ omega (
+            arith,
+            ints,
+            here,
+            rest,
+            column_sum-cons column row (filter keep rows),
+            column_sum-cons
+                other row (filter keep rows),
+          )
           | false ↦ rest
         ]
 
@@ -464,9 +497,11 @@ pub in-any : {Row : Type 0} (key : Row → ℕ) (keep : Row → Bool) (number : 
     → list_any (λ row. keep row && (key row == number)) rows ≡ true
 in-any key keep number [] is = absurd (cc)
 in-any key keep number (row ∷ rows) is =
-    elim (keep row) as (λ b. list_any (λ n. n == number) (map key (cond b (row ∷ filter keep rows) (filter keep rows))) ≡ true
+    elim (keep row) as (λ b. list_any (λ n. n == number) (map key (cond b (row ∷ filter keep rows) (filter keep
+    rows))) ≡ true
     → ((b && (key row == number)) || list_any (λ row. keep row && (key row == number)) rows) ≡ true) [
-      | true ↦ λ is. elim (key row == number) as (λ t. (t || list_any (λ n. n == number) (map key (filter keep rows))) ≡ true
+      | true ↦ λ is. elim (key row == number) as (λ t. (t || list_any (λ n. n == number) (map key (filter keep rows)))
+          ≡ true
           → (t || list_any (λ row. keep row && (key row == number)) rows) ≡ true) [
             | true ↦ λ here. refl
             | false ↦ λ later. in-any key keep number rows later

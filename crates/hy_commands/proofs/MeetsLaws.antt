@@ -96,7 +96,8 @@ Behind orders news row =
 abbrev InRow : List NewOrder → District → Type 0
 InRow news row =
     0 < length (new_order_numbers news row)
-    → greatest (new_order_numbers news row) - least (new_order_numbers news row) + 1 ≡ length (new_order_numbers news row)
+    → greatest (new_order_numbers news row) - least (new_order_numbers news row) + 1 ≡ length (new_order_numbers news
+    row)
 
 condition_2-decides : (orders : List Order) (news : List NewOrder) (rows : List District)
     → Decides (list_all (is_behind_orders orders news) rows) (All (Behind orders news) rows)
@@ -194,9 +195,11 @@ meets-tests tables meets = record {
 pub behind-orders : (tables : Tables) → All (λ row. 0 < row.next_order) tables.districts → Meets tables
     → All (IsBehindOrders tables.orders) tables.districts
 behind-orders tables some meets =
-    All-of_both (λ row. 0 < row.next_order) (NumbersInRow tables.orders tables.new_orders) (IsBehindOrders tables.orders)
+    All-of_both (λ row. 0 < row.next_order) (NumbersInRow tables.orders tables.new_orders) (IsBehindOrders
+    tables.orders)
     tables.districts
     (λ row above in_row.
     All-keys (λ id. id < row.next_order) (λ (order : Order). order.id) (orders_of row.warehouse row.id tables.orders)
-    (in_row-below row.next_order (order_numbers tables.orders row) (new_order_numbers tables.new_orders row) above in_row))
+    (in_row-below row.next_order (order_numbers tables.orders row) (new_order_numbers tables.new_orders row) above
+    in_row))
     some meets.numbers

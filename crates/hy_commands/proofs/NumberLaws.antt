@@ -42,7 +42,8 @@ max-below start bound (n ∷ numbers) below all =
     let here = All-head (λ n. n ≤ bound) n numbers all in
     max-below (max start n) bound numbers (omega (arith, here)) (All-tail (λ n. n ≤ bound) n numbers all)
 
-max-one : (start : ℕ) (numbers : List ℕ) → (fold max start numbers ≡ start) ⊎ (is_in (fold max start numbers) numbers ≡ true)
+max-one : (start : ℕ) (numbers : List ℕ) → (fold max start numbers ≡ start) ⊎ (is_in (fold max start numbers) numbers
+    ≡ true)
 max-one start [] = inl refl
 max-one start (n ∷ numbers) =
     let top : ℕ = fold max (max start n) numbers in
@@ -93,7 +94,8 @@ min-above start bound (n ∷ numbers) above all =
     let here = All-head (λ n. bound ≤ n) n numbers all in
     min-above (min start n) bound numbers (omega (arith, here)) (All-tail (λ n. bound ≤ n) n numbers all)
 
-min-one : (start : ℕ) (numbers : List ℕ) → (fold min start numbers ≡ start) ⊎ (is_in (fold min start numbers) numbers ≡ true)
+min-one : (start : ℕ) (numbers : List ℕ) → (fold min start numbers ≡ start) ⊎ (is_in (fold min start numbers) numbers
+    ≡ true)
 min-one start [] = inl refl
 min-one start (n ∷ numbers) =
     elim (min-one (min start n) numbers) [
@@ -129,7 +131,8 @@ abbrev pub others : ℕ → List ℕ → List ℕ
 others number numbers = filter (λ n. not (n == number)) numbers
 
 -- a number stands among them once at most
-others-length : (number : ℕ) (numbers : List ℕ) → AreUnique numbers → length numbers ≤ suc (length (others number numbers))
+others-length : (number : ℕ) (numbers : List ℕ) → AreUnique numbers → length numbers ≤ suc (length (others number
+    numbers))
 others-length number [] unique = omega arith
 others-length number (n ∷ numbers) unique =
     let apart = unique-head n numbers unique in
@@ -159,7 +162,8 @@ others-length_in number (n ∷ numbers) is =
     shorter : (numbers : List ℕ) → length (others number numbers) ≤ length numbers
     shorter [] = omega arith
     shorter (n ∷ numbers) =
-        elim (n == number) as (λ b. length (cond (not b) (n ∷ others number numbers) (others number numbers)) ≤ suc (length numbers)) [
+        elim (n == number) as (λ b. length (cond (not b) (n ∷ others number numbers) (others number numbers)) ≤ suc
+        (length numbers)) [
           | true ↦ omega (arith, shorter numbers)
           | false ↦ omega (arith, shorter numbers)
         ]
@@ -186,7 +190,8 @@ others-differ number (n ∷ numbers) =
     elim (n == number) as (λ b. (n == number) ≡ b
     → All (λ n. n ≢ number) (cond (not b) (n ∷ others number numbers) (others number numbers))) [
       | true ↦ λ same. others-differ number numbers
-      | false ↦ λ apart. All-cons (λ n. n ≢ number) n (others number numbers) (eqb-false n number apart) (others-differ number numbers)
+      | false ↦ λ apart. All-cons (λ n. n ≢ number) n (others number numbers) (eqb-false n number apart)
+          (others-differ number numbers)
     ] refl
 
 -- numbers that differ, between two ends, are no more than there are numbers between these
@@ -214,7 +219,8 @@ few-between (suc count) low (n ∷ numbers) unique above below =
         let here = All-head (λ n. n < low + suc count) n numbers all in
         let differs = All-head (λ n. n ≢ low + count) n numbers apart in
         All-cons (λ n. n < low + count) n numbers (omega (arith, here, differs))
-        (All-apart P numbers (All-tail (λ n. n < low + suc count) n numbers all) (All-tail (λ n. n ≢ low + count) n numbers apart))
+        (All-apart P numbers (All-tail (λ n. n < low + suc count) n numbers all) (All-tail (λ n. n ≢ low + count) n
+        numbers apart))
 
 -- ---- the next number of an order, the numbers of a district's orders, and those of its undelivered ones
 
@@ -256,7 +262,17 @@ in_row-push next orders news some row = record {
         let long = row.in_row some_new in
         let below : least all ≤ greatest all =
         All-in (λ m. m ≤ greatest all) (least all) all (greatest-each all) (least-in all some_new) in
-        omega (arith, is, long, below, some, greatest-push all next, least-push all next some_new, length-append all (next ∷ []))
+        omega (
+          arith,
+          is,
+          long,
+          below,
+          some,
+          greatest-push all next,
+          least-push all next some_new,
+          length-append all
+              (next ∷ []),
+        )
 
 -- the least of the undelivered ones taken out
 pub in_row-taken : (next : ℕ) (orders news : List ℕ) → AreUnique news → AreInRow next orders news
@@ -275,9 +291,15 @@ in_row-taken next orders (n ∷ news) unique row =
     let first_in = least-in all some in
     let apart = others-differ first all in
     let beyond : All (λ m. first + 1 ≤ m) rest = All-of_both (λ m. first ≤ m) (λ m. m ≢ first) (λ m. first + 1 ≤ m) rest
-    (λ m above differs. omega (arith, above, differs)) (All-filter (λ m. not (m == first)) (λ m. first ≤ m) all (least-each all)) apart in
+    (λ m above differs. omega (arith, above, differs)) (All-filter (λ m. not (m == first)) (λ m. first ≤ m) all
+    (least-each all)) apart in
     let within : All (λ m. m ≤ top) rest = All-filter (λ m. not (m == first)) (λ m. m ≤ top) all (greatest-each all) in
-    let fewer : suc (length rest) ≡ length all = omega (arith, others-length first all unique, others-length_in first all first_in) in
+    let fewer : suc (length rest) ≡ length all = omega (
+      arith,
+      others-length first all unique,
+      others-length_in first
+          all first_in,
+    ) in
     let long = row.in_row some in
     let same_top : 0 < length rest → greatest rest ≡ top = λ more.
     let above : first + 1 ≤ least rest = least-above (first + 1) rest more beyond in

@@ -39,7 +39,8 @@ passes-three a b c x y z p q r = rw (eq-eqb a x p, eq-eqb b y q, eq-eqb c z r) r
 pub once-warehouse : (number : ℕ) (rows : List Warehouse) → AreUnique (map (λ row. row.id) rows)
     → Once (is_warehouse number) rows
 once-warehouse number rows unique =
-    once-key (λ (row : Warehouse). row.id) number (is_warehouse number) (λ row passes. eqb-true row.id number passes) rows unique
+    once-key (λ (row : Warehouse). row.id) number (is_warehouse number) (λ row passes. eqb-true row.id number passes)
+    rows unique
 
 pub once-district : (warehouse number : ℕ) (rows : List District) → AreUnique (map district_key rows)
     → Once (is_district warehouse number) rows

@@ -40,7 +40,8 @@ met-at : (tables : Tables) (tests : List (ℕ × (Tables → Bool))) (place : �
     → list_all (λ condition. condition.1 tables) tests ≡ true
     → IfSome (slice_get tests place) (λ condition. condition.1 tables ≡ true)
 met-at tables [] place all = tt
-met-at tables (first ∷ tests) zero all = (and_parts (first.1 tables) (list_all (λ condition. condition.1 tables) tests) all).0
+met-at tables (first ∷ tests) zero all = (and_parts (first.1 tables) (list_all (λ condition. condition.1 tables)
+    tests) all).0
 met-at tables (first ∷ tests) (suc place) all =
     met-at tables tests place
     (and_parts (first.1 tables) (list_all (λ condition. condition.1 tables) tests) all).1
@@ -77,11 +78,13 @@ module _ (number : ℕ) (tables : Tables) where
   own-numbers row home in_row =
       let orders : order_numbers here.orders row ≡ order_numbers tables.orders row =
       ap (map (λ (order : Order). order.id))
-      (filter-implied (λ order. (order.warehouse == row.warehouse) && (order.district == row.id)) (λ order. order.warehouse == number)
+      (filter-implied (λ order. (order.warehouse == row.warehouse) && (order.district == row.id)) (λ order.
+      order.warehouse == number)
       (λ order passes. grind (arith, nat_tests, passes, home)) tables.orders) in
       let news : new_order_numbers here.new_orders row ≡ new_order_numbers tables.new_orders row =
       ap (map (λ (new : NewOrder). new.order))
-      (filter-implied (λ new. (new.warehouse == row.warehouse) && (new.district == row.id)) (λ new. new.warehouse == number)
+      (filter-implied (λ new. (new.warehouse == row.warehouse) && (new.district == row.id)) (λ new. new.warehouse ==
+      number)
       (λ new passes. grind (arith, nat_tests, passes, home)) tables.new_orders) in
       subst (λ numbers. AreInRow row.next_order numbers (new_order_numbers here.new_orders row)) (sym orders)
       (subst (λ numbers. AreInRow row.next_order (order_numbers tables.orders row) numbers) (sym news) in_row)
@@ -90,17 +93,20 @@ module _ (number : ℕ) (tables : Tables) where
       → CountsDistrict here.orders here.order_lines row
   own-counts row home counts =
       ap (λ orders. sum (map (λ (order : Order). order.line_count) orders))
-      (filter-implied (λ order. (order.warehouse == row.warehouse) && (order.district == row.id)) (λ order. order.warehouse == number)
+      (filter-implied (λ order. (order.warehouse == row.warehouse) && (order.district == row.id)) (λ order.
+      order.warehouse == number)
       (λ order passes. grind (arith, nat_tests, passes, home)) tables.orders)
       ∙ counts
       ∙ sym (ap length
-      (filter-implied (λ line. (line.warehouse == row.warehouse) && (line.district == row.id)) (λ line. line.warehouse == number)
+      (filter-implied (λ line. (line.warehouse == row.warehouse) && (line.district == row.id)) (λ line. line.warehouse
+      == number)
       (λ line passes. grind (arith, nat_tests, passes, home)) tables.order_lines))
 
   own-meets : Meets tables → Meets here
   own-meets meets = record {
     districts =
-        All-passing_also (λ row. row.id == number) (SumsDistricts tables.districts) (SumsDistricts here.districts) tables.warehouses
+        All-passing_also (λ row. row.id == number) (SumsDistricts tables.districts) (SumsDistricts here.districts)
+        tables.warehouses
         (λ row sums own. sums ∙ sym (ap (column_sum (λ (district : District). district.ytd))
         (filter-implied (λ district. district.warehouse == row.id) (λ district. district.warehouse == number)
         (λ district passes. grind (arith, nat_tests, passes, own)) tables.districts))) meets.districts;
@@ -113,11 +119,13 @@ module _ (number : ℕ) (tables : Tables) where
         (CountsDistrict here.orders here.order_lines) tables.districts
         (λ row counts own. own-counts row (eqb-true row.warehouse number own) counts) meets.district_lines;
     carried =
-        All-passing_also (λ row. row.warehouse == number) (CarriedOrNew tables.new_orders) (CarriedOrNew here.new_orders) tables.orders
+        All-passing_also (λ row. row.warehouse == number) (CarriedOrNew tables.new_orders) (CarriedOrNew
+        here.new_orders) tables.orders
         (λ row is own. is ∙ sym (any-filter-same (is_new_order_of row) (λ new. new.warehouse == number)
         (λ new other. grind (arith, nat_tests, other, own)) tables.new_orders)) meets.carried;
     lines =
-        All-passing_also (λ row. row.warehouse == number) (CountsLines tables.order_lines) (CountsLines here.order_lines) tables.orders
+        All-passing_also (λ row. row.warehouse == number) (CountsLines tables.order_lines) (CountsLines
+        here.order_lines) tables.orders
         (λ row counts own. counts ∙ sym (ap length (own-orders row (eqb-true row.warehouse number own)))) meets.lines;
     delivered =
         All-passing_also (λ row. row.warehouse == number) (DeliveredWithLines tables.order_lines)
@@ -130,10 +138,12 @@ module _ (number : ℕ) (tables : Tables) where
         (filter-implied (λ payment. payment.warehouse == row.id) (λ payment. payment.warehouse == number)
         (λ payment passes. grind (arith, nat_tests, passes, own)) tables.history))) meets.paid;
     district_paid =
-        All-passing_also (λ row. row.warehouse == number) (PaidInDistrict tables.history) (PaidInDistrict here.history) tables.districts
+        All-passing_also (λ row. row.warehouse == number) (PaidInDistrict tables.history) (PaidInDistrict
+        here.history) tables.districts
         (λ row sums own. sums ∙ sym (ap paid_amount
         (filter-implied (λ payment. (payment.warehouse == row.warehouse) && (payment.district == row.id))
-        (λ payment. payment.warehouse == number) (λ payment passes. grind (arith, nat_tests, passes, own)) tables.history)))
+        (λ payment. payment.warehouse == number) (λ payment passes. grind (arith, nat_tests, passes, own))
+        tables.history)))
         meets.district_paid;
     balances =
         All-passing_also (λ row. row.warehouse == number) (IsBalanced tables.orders tables.order_lines)
@@ -146,7 +156,8 @@ module _ (number : ℕ) (tables : Tables) where
 -- ---- the rows of a load
 
 -- what holds at each place holds of all
-pub all-by_place : {Row : Type 0} (P : Row → Type 0) (rows : List Row) → ((place : ℕ) → IfSome (slice_get rows place) P) → All P rows
+pub all-by_place : {Row : Type 0} (P : Row → Type 0) (rows : List Row) → ((place : ℕ) → IfSome (slice_get rows place)
+    P) → All P rows
 all-by_place P [] each = All-nil P
 all-by_place P (row ∷ rows) each = All-cons P row rows (each 0) (all-by_place P rows (λ place. each (suc place)))
 
@@ -159,13 +170,16 @@ unique-by_place key same tells [] each = λ i j d before within. absurd (omega a
 unique-by_place {Row = Row} key same tells (first ∷ rows) each =
     let differs : All (λ row. key first ≢ key row) rows = all-by_place (λ row. key first ≢ key row) rows
     (λ place. IfSome_then (slice_get rows place)
-    {P = λ row. list_any (same row) (first ∷ take place rows) ≡ false} {Q = λ row. key first ≢ key row} (each (suc place))
-    (λ row new equal. both_ways (same row first) (or_parts (same row first) (list_any (same row) (take place rows)) new).0
+    {P = λ row. list_any (same row) (first ∷ take place rows) ≡ false} {Q = λ row. key first ≢ key row} (each (suc
+    place))
+    (λ row new equal. both_ways (same row first) (or_parts (same row first) (list_any (same row) (take place rows))
+    new).0
     (tells row first equal))) in
     AllPairs-cons (λ one other. one ≢ other) (key first) (map key rows)
     (All-map (λ other. key first ≢ other) key rows differs)
     (unique-by_place key same tells rows (λ place. IfSome_then (slice_get rows place)
-    {P = λ row. list_any (same row) (first ∷ take place rows) ≡ false} {Q = λ row. list_any (same row) (take place rows) ≡ false}
+    {P = λ row. list_any (same row) (first ∷ take place rows) ≡ false} {Q = λ row. list_any (same row) (take place
+    rows) ≡ false}
     (each (suc place))
     (λ row new. (or_parts (same row first) (list_any (same row) (take place rows)) new).1)))
 
@@ -186,7 +200,8 @@ unique-ranked key rank tells start (row ∷ rows) each =
     (λ other is. omega (arith, is))))
 
 -- what follows at a place that is there
-at-place : {Row : Type 0} (P Q : Row → Type 0) (row : Option Row) → ((r : Row) → row ≡ Some r → P r → Q r) → IfSome row P
+at-place : {Row : Type 0} (P Q : Row → Type 0) (row : Option Row) → ((r : Row) → row ≡ Some r → P r → Q r) → IfSome
+    row P
     → IfSome row Q
 at-place P Q None follows holds = tt
 at-place P Q (Some row) follows holds = follows row refl holds
@@ -202,7 +217,8 @@ module _ (number : ℕ) (load : Lists) (is_load : IsLoad load) where
   unique-orders =
       unique-by_place order_key (λ row. is_order row.warehouse row.district row.id)
       (λ row other equal. passes-three other.warehouse other.district other.id row.warehouse row.district row.id
-      (ap (λ (key : ℕ × ℕ × ℕ). key.0) equal) (ap (λ (key : ℕ × ℕ × ℕ). key.1) equal) (ap (λ (key : ℕ × ℕ × ℕ). key.2) equal))
+      (ap (λ (key : ℕ × ℕ × ℕ). key.0) equal) (ap (λ (key : ℕ × ℕ × ℕ). key.1) equal) (ap (λ (key : ℕ × ℕ × ℕ). key.2)
+      equal))
       t.orders (λ place. IfSome_then (slice_get t.orders place) {P = IsOrderAt t.districts t.customers t.orders place}
       {Q = λ row. list_any (is_order row.warehouse row.district row.id) (take place t.orders) ≡ false}
       (is_load.orders.each place) (λ row right. right.1))
@@ -211,7 +227,8 @@ module _ (number : ℕ) (load : Lists) (is_load : IsLoad load) where
   unique-new_orders =
       unique-by_place new_order_key (λ row. is_new_order row.warehouse row.district row.order)
       (λ row other equal. passes-three other.warehouse other.district other.order row.warehouse row.district row.order
-      (ap (λ (key : ℕ × ℕ × ℕ). key.0) equal) (ap (λ (key : ℕ × ℕ × ℕ). key.1) equal) (ap (λ (key : ℕ × ℕ × ℕ). key.2) equal))
+      (ap (λ (key : ℕ × ℕ × ℕ). key.0) equal) (ap (λ (key : ℕ × ℕ × ℕ). key.1) equal) (ap (λ (key : ℕ × ℕ × ℕ). key.2)
+      equal))
       t.new_orders (λ place. IfSome_then (slice_get t.new_orders place) {P = IsNewOrderAt t.orders t.new_orders place}
       {Q = λ row. list_any (is_new_order row.warehouse row.district row.order) (take place t.new_orders) ≡ false}
       (is_load.new_orders.each place) (λ row right. right.1))
@@ -248,7 +265,8 @@ module _ (number : ℕ) (load : Lists) (is_load : IsLoad load) where
       (λ row right. right.2))
 
   lines-fit : All (HasOrderAndItem load.items t.orders) t.order_lines
-  lines-fit = all-by_place (HasOrderAndItem load.items t.orders) t.order_lines (λ place. IfSome_then (slice_get t.order_lines place)
+  lines-fit = all-by_place (HasOrderAndItem load.items t.orders) t.order_lines (λ place. IfSome_then (slice_get
+      t.order_lines place)
       {P = IsOrderLineAt t.warehouses load.items t.orders t.order_lines place} {Q = HasOrderAndItem load.items t.orders}
       (is_load.order_lines.each place) (λ row right. (right.2, right.3)))
 
@@ -262,7 +280,8 @@ module _ (number : ℕ) (load : Lists) (is_load : IsLoad load) where
   orders-load : HasOwnOrders load.items number own
   orders-load = record {
     unique_orders =
-        unique-filter order_key order_key (λ row. row.warehouse == number) (λ one two kept also equal. equal) t.orders unique-orders;
+        unique-filter order_key order_key (λ row. row.warehouse == number) (λ one two kept also equal. equal) t.orders
+        unique-orders;
     unique_new_orders =
         unique-filter new_order_key new_order_key (λ row. row.warehouse == number) (λ one two kept also equal. equal)
         t.new_orders unique-new_orders;
@@ -271,7 +290,8 @@ module _ (number : ℕ) (load : Lists) (is_load : IsLoad load) where
         t.order_lines unique-lines;
     next_orders =
         All-filter (λ row. row.warehouse == number) (λ (row : District). 0 < row.next_order) t.districts
-        (all-by_place (λ (row : District). 0 < row.next_order) t.districts (λ place. IfSome_then (slice_get t.districts place)
+        (all-by_place (λ (row : District). 0 < row.next_order) t.districts (λ place. IfSome_then (slice_get
+        t.districts place)
         {P = IsDistrictAt (length t.warehouses) place} {Q = λ row. 0 < row.next_order} (is_load.districts.each place)
         (λ row right. let ends = bounds 1 1_000_000_000 row.next_order (right.0).next_order in omega (arith, ends.0))));
     orders =
@@ -281,7 +301,8 @@ module _ (number : ℕ) (load : Lists) (is_load : IsLoad load) where
           district = fits.0;
           positive = fits.1;
           customer =
-              any-filter-same (is_customer row.warehouse row.district row.customer) (λ customer. customer.warehouse == number)
+              any-filter-same (is_customer row.warehouse row.district row.customer) (λ customer. customer.warehouse ==
+              number)
               (λ customer other. grind (arith, nat_tests, other, home)) t.customers ∙ fits.2;
         }) orders-fit;
     new_orders =
@@ -327,9 +348,15 @@ module _ (number : ℕ) (load : Lists) (is_load : IsLoad load) where
       let found : slice_get t.stock at ≡ Some row = slice_get-get_or t.stock at (stock_of []) there in
       let holds : IsStockAt (length t.warehouses) I at row =
       subst (λ one. IfSome one (IsStockAt (length t.warehouses) I at)) found (is_load.stock.each at) in
-      let warehouse : row.warehouse ≡ number = holds.1 ∙ ap (λ n. n + 1) (div-mul-add before I place within) ∙ sym is_number in
-      let same_item : row.item ≡ item.id = holds.2 ∙ ap (λ n. n + 1) (mod-mul-add before I place within) ∙ sym right.1 in
-      let passes : is_stock number item.id row ≡ true = rw (eq-eqb row.warehouse number warehouse, eq-eqb row.item item.id same_item) refl in
+      let warehouse : row.warehouse ≡ number = holds.1 ∙ ap (λ n. n + 1) (div-mul-add before I place within) ∙ sym
+      is_number in
+      let same_item : row.item ≡ item.id = holds.2 ∙ ap (λ n. n + 1) (mod-mul-add before I place within) ∙ sym right.1
+      in
+      let passes : is_stock number item.id row ≡ true = rw (
+        eq-eqb row.warehouse number warehouse,
+        eq-eqb row.item
+            item.id same_item,
+      ) refl in
       any-filter-same (is_stock number item.id) (λ row. row.warehouse == number)
       (λ row other. grind (arith, nat_tests, other)) t.stock
       ∙ list_any_at (is_stock number item.id) t.stock at (stock_of []) there passes)
@@ -340,10 +367,12 @@ module _ (number : ℕ) (load : Lists) (is_load : IsLoad load) where
   sound-load between = record {
     rows = IsOneWarehouse-load load number is_load between;
     orders = orders-load;
-    numbers = behind-orders own orders-load.next_orders (own-meets number t (meets-facts t (own-conditions t is_load.conditions)));
+    numbers = behind-orders own orders-load.next_orders (own-meets number t (meets-facts t (own-conditions t
+        is_load.conditions)));
     stock = record {
       unique =
-          unique-filter stock_key stock_key (λ row. row.warehouse == number) (λ one two kept also equal. equal) t.stock unique-stock;
+          unique-filter stock_key stock_key (λ row. row.warehouse == number) (λ one two kept also equal. equal)
+          t.stock unique-stock;
       each = in-stock between;
     };
     conditions = meets-tests own (own-meets number t (meets-facts t (own-conditions t is_load.conditions)));

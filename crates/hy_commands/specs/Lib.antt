@@ -11,5 +11,6 @@ pub mod Replay
 pub mod Invariant
 pub mod Growth
 pub mod WorkedSample
+pub mod WorkedRanges
 pub mod WorkedTransactions
 pub mod WorkedDeliveries

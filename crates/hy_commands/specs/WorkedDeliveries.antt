@@ -7,6 +7,8 @@ use Rattle.hy_rows.specs.Rows.{order_of}
 use Rattle.hy_schema.specs.Related.{is_order}
 use Rattle.hy_schema.specs.Conditions.{first_broken}
 use Rattle.hy_commands.specs.declared.command.Command.{Command}
+use Rattle.hy_commands.specs.declared.command.Command.TheVariants as commands
+use Rattle.hy_commands.specs.declared.command.Who.TheVariants as who
 use Rattle.hy_commands.specs.declared.reply.Reply.{Reply}
 use Rattle.hy_commands.specs.declared.reply.Reply.TheVariants as replies
 use Rattle.hy_commands.specs.OrderStatus.{placed}
@@ -76,7 +78,7 @@ abbrev second_order : List Command → ℕ → ℕ → Reply
 second_order done carrier date =
     replies.OrderStatus 1 (codes "A") (codes "OE") (codes "ONE") (customer_after done).balance (Some record {
       number = 2;
-      entry_date = 1;
+      entry_date = 6;
       carrier = carrier;
       lines = line 1 685 date ∷ line 2 870 date ∷ line 3 1_055 date ∷ line 4 1_240 date ∷ line 5 1_425 date ∷ [];
     })
@@ -107,6 +109,16 @@ abbrev status_of_none : reply_after two_of_one (status 2)
     ≡ replies.OrderStatus 2 (codes "B") (codes "OE") (codes "TWO") (negsuc 999) None
 status_of_none = refl
 
+-- a customer by last name
+abbrev status_by_name : reply_after two_of_one (commands.OrderStatus record {
+  warehouse = 1;
+  district = 1;
+  who =
+      who.Last (codes "TWO");
+})
+    ≡ replies.OrderStatus 3 (codes "A") (codes "OE") (codes "TWO") (negsuc 999) None
+status_by_name = refl
+
 -- ---- Stock-Level, with a threshold of 11
 
 -- one each of items 2 to 6
@@ -125,6 +137,13 @@ low_item_before = refl
 abbrev item_at_threshold : reply_after (first_of 7 ∷ []) level ≡ replies.StockLevel 0
 item_at_threshold = refl
 
-abbrev item_twice : reply_after (purchase 1 (bought 1 4 ∷ bought 1 4 ∷ bought 2 1 ∷ bought 3 1 ∷ bought 4 1 ∷ []) ∷ []) level
+abbrev item_twice : reply_after (purchase 1 (bought 1 4 ∷ bought 1 4 ∷ bought 2 1 ∷ bought 3 1 ∷ bought 4 1 ∷ []) ∷
+    []) level
     ≡ replies.StockLevel 1
 item_twice = refl
+
+-- an order of another district
+abbrev item_of_another : reply_after (purchase 2 (bought 1 8 ∷ bought 2 1 ∷ bought 3 1 ∷ bought 4 1 ∷ bought 5 1 ∷ [])
+    ∷ []) level
+    ≡ replies.StockLevel 0
+item_of_another = refl

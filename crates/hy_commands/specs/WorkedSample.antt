@@ -116,7 +116,7 @@ bought item quantity = record { item = item; supply_warehouse = 1; quantity = qu
 -- a purchase of customer 1 of a district
 abbrev pub purchase : ℕ → List PurchaseLine → Command
 purchase district lines =
-    commands.NewOrder record { warehouse = 1; district = district; customer = 1; at = 1; lines = lines }
+    commands.NewOrder record { warehouse = 1; district = district; customer = 1; at = 6; lines = lines }
 
 abbrev pub payment : Who → ℕ → Command
 payment who amount = commands.Payment record {

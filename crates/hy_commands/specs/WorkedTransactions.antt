@@ -1,21 +1,21 @@
 -- Examples of New-Order and Payment, each with values from hand calculation; the checker computes them.
 use Rattle.std.specs.Prelude.{◌≡◌, ℕ, ℤ, pos, negsuc, List, [], ◌∷◌, ◌++◌, None, map, codes, refl}
 use Rattle.hy_rows.specs.declared.warehouse.Warehouse.{Warehouse}
+use Rattle.hy_rows.specs.declared.customer.Customer.{Customer}
 use Rattle.hy_rows.specs.declared.order_line.OrderLine.{OrderLine}
 use Rattle.hy_rows.specs.Tables.{Tables, no_rows}
 use Rattle.hy_schema.specs.Conditions.{first_broken}
 use Rattle.hy_schema.specs.declared.refusal.Refusal.TheVariants as refusals
 use Rattle.hy_commands.specs.declared.command.Command.{Command}
 use Rattle.hy_commands.specs.declared.command.Command.TheVariants as commands
-use Rattle.hy_commands.specs.declared.command.Commit.TheVariants as commits
 use Rattle.hy_commands.specs.declared.command.PurchaseLine.{PurchaseLine}
+use Rattle.hy_commands.specs.declared.command.Who.{Who}
 use Rattle.hy_commands.specs.declared.command.Who.TheVariants as who
 use Rattle.hy_commands.specs.declared.reply.Reply.{Reply}
 use Rattle.hy_commands.specs.declared.reply.Reply.TheVariants as replies
-use Rattle.hy_commands.specs.Commands.{kept_of, warehouses_of}
-use Rattle.hy_commands.specs.NewOrders.{supplied}
+use Rattle.hy_commands.specs.NewOrders.{order_row, supplied}
 use Rattle.hy_commands.specs.Transactions.{act}
-use Rattle.hy_commands.specs.WorkedSample.{after, bought, customer, customers, first_of, five_of_each, items, level, next_order_after, payment, purchase, reply_after, sample, stock_columns}
+use Rattle.hy_commands.specs.WorkedSample.{after, bought, customer, customer_after, customers, first_of, five_of_each, items, next_order_after, payment, purchase, reply_after, sample, stock_columns}
 
 -- ---- New-Order
 
@@ -39,14 +39,15 @@ abbrev order_rows : (after (five_of_each 3 ∷ [])).orders
       district = 3;
       warehouse = 1;
       customer = 1;
-      entry_date = 1;
+      entry_date = 6;
       carrier = 0;
       line_count = 5;
       all_local = 1;
     } ∷ []
 order_rows = refl
 
-abbrev new_order_rows : (after (five_of_each 3 ∷ [])).new_orders ≡ record { order = 1; district = 3; warehouse = 1 } ∷ []
+abbrev new_order_rows : (after (five_of_each 3 ∷ [])).new_orders ≡ record { order = 1; district = 3; warehouse = 1 } ∷
+    []
 new_order_rows = refl
 
 -- number, item and amount of its lines
@@ -83,6 +84,24 @@ reply_of_thirteen = refl
 abbrev stock_of_thirteen : stock_columns 13 (after (order_of_thirteen ∷ [])) ≡ 97 ∷ 5 ∷ 1 ∷ 0 ∷ []
 stock_of_thirteen = refl
 
+abbrev lines_of_thirteen : map line_columns (after (order_of_thirteen ∷ [])).order_lines
+    ≡ (1, 13, pos 2_905) ∷ (2, 1, pos 137) ∷ (3, 2, pos 174) ∷ (4, 3, pos 211) ∷ (5, 4, pos 248) ∷ []
+lines_of_thirteen = refl
+
+-- another district has another tax: 5275 with 1 % off and 8 % of taxes 5640.03
+abbrev order_of_district_3 : reply_after [] (five_of_each 3) ≡ replies.NewOrder 1 5_640
+order_of_district_3 = refl
+
+-- customer 3 has 3 % off: 5423.755
+abbrev order_of_customer_3 : reply_after [] (commands.NewOrder record {
+  warehouse = 1;
+  district = 1;
+  customer = 3;
+  at = 6;
+  lines = bought 1 5 ∷ bought 2 5 ∷ bought 3 5 ∷ bought 4 5 ∷ bought 5 5 ∷ [];
+}) ≡ replies.NewOrder 1 5_424
+order_of_customer_3 = refl
+
 -- an item twice in one order: the second line finds what the first one left
 abbrev order_with_one_twice : Command
 order_with_one_twice = purchase 1 (bought 1 5 ∷ bought 1 5 ∷ bought 2 1 ∷ bought 3 1 ∷ bought 4 1 ∷ [])
@@ -106,12 +125,21 @@ payment_of_100 = refl
 abbrev payments : List Command
 payments = payment (who.Number 1) 100 ∷ payment (who.Number 1) 500_000 ∷ []
 
+-- C_BALANCE, C_YTD_PAYMENT and C_PAYMENT_CNT of the customer
+abbrev customer_columns : List Command → ℤ × ℤ × ℕ
+customer_columns done =
+    let row : Customer = customer_after done in
+    (row.balance, row.ytd_payment, row.payment_count)
+
 abbrev payment_of_500000 : reply_after (payment (who.Number 1) 100 ∷ []) (payment (who.Number 1) 500_000)
     ≡ replies.Payment 1 (negsuc 501_099)
 payment_of_500000 = refl
 
 abbrev warehouse_after_payments : map (λ (row : Warehouse). row.ytd) (after payments).warehouses ≡ pos 530_100 ∷ []
 warehouse_after_payments = refl
+
+abbrev customer_after_payments : customer_columns payments ≡ (negsuc 501_099, pos 501_100, 3)
+customer_after_payments = refl
 
 abbrev payments_are_consistent : first_broken (after payments) ≡ None
 payments_are_consistent = refl
@@ -198,27 +226,48 @@ refused_for_the_item = refl
 abbrev not_refused : refused 1 1 1 (bought 6 1) ≡ replies.NewOrder 1 1_290
 not_refused = refl
 
--- ---- warehouses and kept lists
+-- a payment in district 1 for a customer
+abbrev refused_payment : ℕ → ℕ → Who → Reply
+refused_payment customer_warehouse customer_district who = (
+    act items 1
+    (commands.Payment record {
+      warehouse = 1;
+      district = 1;
+      customer_warehouse = customer_warehouse;
+      customer_district = customer_district;
+      who = who;
+      amount = 100;
+      at = 1;
+    }) sample
+    ).reply
 
-abbrev remote_purchase : Command
-remote_purchase = commands.NewOrder record {
-  warehouse = 3;
-  district = 1;
-  customer = 1;
-  at = 1;
-  lines =
-      record { item = 1; supply_warehouse = 2; quantity = 1 } ∷ bought 2 1 ∷ bought 3 1
-      ∷ record { item = 4; supply_warehouse = 3; quantity = 1 } ∷ record { item = 5; supply_warehouse = 2; quantity = 1 } ∷ [];
-}
+abbrev refused_for_the_other_warehouse : refused_payment 2 11 (who.Number 4) ≡ replies.Refused refusals.NoSuchWarehouse
+refused_for_the_other_warehouse = refl
 
-abbrev named_warehouses : warehouses_of remote_purchase ≡ 3 ∷ 2 ∷ 1 ∷ []
-named_warehouses = refl
+abbrev refused_for_the_other_district : refused_payment 1 11 (who.Number 4) ≡ replies.Refused refusals.NoSuchDistrict
+refused_for_the_other_district = refl
 
-abbrev kept_payment : kept_of (payment (who.Number 1) 100) ≡ commits.Local (payment (who.Number 1) 100) ∷ []
-kept_payment = refl
+abbrev refused_for_the_number : refused_payment 1 10 (who.Number 4) ≡ replies.Refused refusals.NoSuchCustomer
+refused_for_the_number = refl
 
-abbrev kept_reader : kept_of level ≡ []
-kept_reader = refl
+abbrev not_refused_payment : refused_payment 1 10 (who.Number 3) ≡ replies.Payment 3 (negsuc 1_099)
+not_refused_payment = refl
+
+-- ---- lines of other warehouses
+
+-- O_ALL_LOCAL where two lines come from another warehouse
+abbrev remote_order : ℕ
+remote_order =
+    (order_row record {
+      warehouse = 3;
+      district = 1;
+      customer = 1;
+      at = 1;
+      lines = bought 2 1 ∷ record { item = 4; supply_warehouse = 3; quantity = 1 } ∷ [];
+    } 1).all_local
+
+abbrev not_all_local : remote_order ≡ 0
+not_all_local = refl
 
 -- what a line of another warehouse's purchase does to the warehouse that supplies it
 abbrev supplied_columns : List ℕ

@@ -1,0 +1,80 @@
+-- Examples of the ranges of commands, at both ends, of the warehouses that they name and of what is kept of them; the
+-- checker computes them.
+use Rattle.std.specs.Prelude.{◌≡◌, ℕ, [], ◌∷◌, true, false, map, replicate, refl}
+use Rattle.hy_commands.specs.declared.command.Command.{Command}
+use Rattle.hy_commands.specs.declared.command.Command.TheVariants as commands
+use Rattle.hy_commands.specs.declared.command.Commit.TheVariants as commits
+use Rattle.hy_commands.specs.declared.command.Who.TheVariants as who
+use Rattle.hy_commands.specs.Commands.{is_in_range, is_line_in_range, is_moment, is_name, kept_of, warehouses_of}
+use Rattle.hy_commands.specs.WorkedSample.{bought, level, payment, purchase}
+
+-- ---- ranges
+
+-- a purchase of so many lines, a delivery by a carrier, and Stock-Level with a threshold
+abbrev of_lines : ℕ → Command
+of_lines lines = purchase 1 (replicate lines (bought 1 1))
+
+abbrev by_carrier : ℕ → Command
+by_carrier carrier = commands.Delivery record { warehouse = 1; carrier = carrier; at = 1 }
+
+abbrev below : ℕ → Command
+below threshold = commands.StockLevel record { warehouse = 1; district = 1; threshold = threshold }
+
+abbrev lines_in_range : map (λ lines. is_in_range (of_lines lines)) (4 ∷ 5 ∷ 15 ∷ 16 ∷ [])
+    ≡ false ∷ true ∷ true ∷ false ∷ []
+lines_in_range = refl
+
+abbrev quantity_in_range : map (λ quantity. is_line_in_range (bought 1 quantity)) (0 ∷ 1 ∷ 10 ∷ 11 ∷ [])
+    ≡ false ∷ true ∷ true ∷ false ∷ []
+quantity_in_range = refl
+
+abbrev carrier_in_range : map (λ carrier. is_in_range (by_carrier carrier)) (0 ∷ 1 ∷ 10 ∷ 11 ∷ [])
+    ≡ false ∷ true ∷ true ∷ false ∷ []
+carrier_in_range = refl
+
+abbrev threshold_in_range : map (λ threshold. is_in_range (below threshold)) (9 ∷ 10 ∷ 20 ∷ 21 ∷ [])
+    ≡ false ∷ true ∷ true ∷ false ∷ []
+threshold_in_range = refl
+
+abbrev amount_in_range : map (λ amount. is_in_range (payment (who.Number 1) amount)) (99 ∷ 100 ∷ 500_000 ∷ 500_001 ∷ [])
+    ≡ false ∷ true ∷ true ∷ false ∷ []
+amount_in_range = refl
+
+abbrev moment_in_range : map is_moment (0 ∷ 1 ∷ 1_000_000_000_000_000 ∷ 1_000_000_000_000_001 ∷ [])
+    ≡ false ∷ true ∷ true ∷ false ∷ []
+moment_in_range = refl
+
+abbrev name_length_in_range : map (λ length. is_name (replicate length 32)) (0 ∷ 16 ∷ 17 ∷ [])
+    ≡ true ∷ true ∷ false ∷ []
+name_length_in_range = refl
+
+abbrev character_in_range : map (λ character. is_name (character ∷ [])) (31 ∷ 32 ∷ 126 ∷ 127 ∷ [])
+    ≡ false ∷ true ∷ true ∷ false ∷ []
+character_in_range = refl
+
+-- ---- warehouses and kept lists
+
+abbrev remote_purchase : Command
+remote_purchase = commands.NewOrder record {
+  warehouse = 3;
+  district = 1;
+  customer = 1;
+  at = 1;
+  lines =
+      record { item = 1; supply_warehouse = 2; quantity = 1 } ∷ bought 2 1 ∷ bought 3 1
+      ∷ record { item = 4; supply_warehouse = 3; quantity = 1 } ∷ record {
+        item = 5;
+        supply_warehouse = 2;
+        quantity =
+            1;
+      } ∷ [];
+}
+
+abbrev named_warehouses : warehouses_of remote_purchase ≡ 3 ∷ 2 ∷ 1 ∷ []
+named_warehouses = refl
+
+abbrev kept_payment : kept_of (payment (who.Number 1) 100) ≡ commits.Local (payment (who.Number 1) 100) ∷ []
+kept_payment = refl
+
+abbrev kept_reader : kept_of level ≡ []
+kept_reader = refl
