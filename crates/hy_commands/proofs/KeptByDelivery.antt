@@ -5,7 +5,7 @@ use Rattle.std.specs.List.{find, list_any, sum}
 use Rattle.std.proofs.lemmas.Int.{ints}
 use Rattle.std.proofs.lemmas.Bool.{both_ways, false_from_ne_true}
 use Rattle.std.proofs.lemmas.Bool.Decides.{nat_tests}
-use Rattle.std.proofs.lemmas.List.Elements.{All-filter, All-map, All-weaker, filter_passes}
+use Rattle.std.proofs.lemmas.List.Elements.{All-head, All-tail, All-filter, All-map, All-weaker, filter_passes}
 use Rattle.hy_rows.specs.Finding.{first_or, is_customer}
 use Rattle.hy_rows.specs.Rows.{order_of}
 use Rattle.hy_rows.specs.Tables.{Tables}
@@ -442,3 +442,15 @@ module _ (items : List Item) (number : ℕ) (delivery : Delivery) where
     pub sound-delivered : (tables : Tables) → IsSoundWarehouse items number tables
         → IsSoundWarehouse items number (delivered delivery tables)
     sound-delivered tables sound = sound-districts district_numbers tables sound
+
+    -- so the undelivered orders of a district stay while others are delivered in
+    pub oldest-later : (done : List ℕ) (tables : Tables) (other : ℕ) → IsSoundWarehouse items number tables
+        → All (λ district. (district == other) ≡ false) done
+        → oldest delivery.warehouse other (fold (delivered_in delivery) tables done)
+        ≡ oldest delivery.warehouse other tables
+    oldest-later [] tables other sound apart = refl
+    oldest-later (district ∷ done) tables other sound apart =
+        oldest-later done (delivered_in delivery tables district) other (sound-delivered_in tables district sound)
+        (All-tail (λ district. (district == other) ≡ false) district done apart)
+        ∙ oldest-other tables district other sound
+        (All-head (λ district. (district == other) ≡ false) district done apart)
