@@ -79,8 +79,8 @@ module _ (items : List Item) (fits : ItemsFit items) (number : ℕ) (small : num
 -- ---- loads
 
 module _ (load : Lists) (is_load : IsLoad load) where
-  abbrev t : Tables
-  t = load.tables
+  abbrev all_rows : Tables
+  all_rows = load.tables
 
   items-fit : ItemsFit load.items
   items-fit =
@@ -89,17 +89,18 @@ module _ (load : Lists) (is_load : IsLoad load) where
       {Q = λ row. (row.id ≤ 100_000) × (row.price ≤ 1_000_000)} (is_load.items.each place)
       (λ row right. ((bounds 1 100_000 row.id (right.0).id).1, (bounds 1 1_000_000 row.price (right.0).price).1)))
 
-  warehouses-fit : All (λ row. IsWarehouseUpTo 0 row × (row.id ≤ 16)) t.warehouses
+  warehouses-fit : All (λ row. IsWarehouseUpTo 0 row × (row.id ≤ 16)) all_rows.warehouses
   warehouses-fit =
-      all-by_place (λ row. IsWarehouseUpTo 0 row × (row.id ≤ 16)) t.warehouses
-      (λ place. IfSome_then (slice_get t.warehouses place) {P = IsWarehouseAt place}
+      all-by_place (λ row. IsWarehouseUpTo 0 row × (row.id ≤ 16)) all_rows.warehouses
+      (λ place. IfSome_then (slice_get all_rows.warehouses place) {P = IsWarehouseAt place}
       {Q = λ row. IsWarehouseUpTo 0 row × (row.id ≤ 16)} (is_load.warehouses.each place)
       (λ row right. (record { name = (right.0).name.0; ytd = (right.0).ytd }, (bounds 1 16 row.id (right.0).id).1)))
 
-  districts-fit : All (IsDistrictUpTo 0) t.districts
+  districts-fit : All (IsDistrictUpTo 0) all_rows.districts
   districts-fit =
-      all-by_place (IsDistrictUpTo 0) t.districts
-      (λ place. IfSome_then (slice_get t.districts place) {P = IsDistrictAt (length t.warehouses) place} {Q =
+      all-by_place (IsDistrictUpTo 0) all_rows.districts
+      (λ place. IfSome_then (slice_get all_rows.districts place) {P = IsDistrictAt (length all_rows.warehouses) place}
+      {Q =
       IsDistrictUpTo 0}
       (is_load.districts.each place)
       (λ row right. record {
@@ -108,10 +109,11 @@ module _ (load : Lists) (is_load : IsLoad load) where
         next_order = omega (arith, (bounds 1 1_000_000_000 row.next_order (right.0).next_order).1);
       }))
 
-  customers-fit : All (IsCustomerUpTo 0 0) t.customers
+  customers-fit : All (IsCustomerUpTo 0 0) all_rows.customers
   customers-fit =
-      all-by_place (IsCustomerUpTo 0 0) t.customers
-      (λ place. IfSome_then (slice_get t.customers place) {P = IsCustomerAt (length t.warehouses) t.customers place}
+      all-by_place (IsCustomerUpTo 0 0) all_rows.customers
+      (λ place. IfSome_then (slice_get all_rows.customers place) {P = IsCustomerAt (length all_rows.warehouses)
+      all_rows.customers place}
       {Q = IsCustomerUpTo 0 0} (is_load.customers.each place)
       (λ row right. record {
         id = (bounds 1 3_000 row.id (right.0).id).1;
@@ -121,10 +123,11 @@ module _ (load : Lists) (is_load : IsLoad load) where
         delivery_count = omega (arith, (right.0).delivery_count);
       }))
 
-  history-fit : All IsPaymentUpTo t.history
+  history-fit : All IsPaymentUpTo all_rows.history
   history-fit =
-      all-by_place IsPaymentUpTo t.history
-      (λ place. IfSome_then (slice_get t.history place) {P = IsHistoryAt t.districts t.customers place} {Q =
+      all-by_place IsPaymentUpTo all_rows.history
+      (λ place. IfSome_then (slice_get all_rows.history place) {P = IsHistoryAt all_rows.districts all_rows.customers
+      place} {Q =
       IsPaymentUpTo}
       (is_load.history.each place)
       (λ row right. record {
@@ -134,10 +137,11 @@ module _ (load : Lists) (is_load : IsLoad load) where
         information = (right.0).information.0;
       }))
 
-  orders-fit : All (IsOrderUpTo 0) t.orders
+  orders-fit : All (IsOrderUpTo 0) all_rows.orders
   orders-fit =
-      all-by_place (IsOrderUpTo 0) t.orders
-      (λ place. IfSome_then (slice_get t.orders place) {P = IsOrderAt t.districts t.customers t.orders place} {Q =
+      all-by_place (IsOrderUpTo 0) all_rows.orders
+      (λ place. IfSome_then (slice_get all_rows.orders place) {P = IsOrderAt all_rows.districts all_rows.customers
+      all_rows.orders place} {Q =
       IsOrderUpTo 0}
       (is_load.orders.each place)
       (λ row right. record {
@@ -149,19 +153,21 @@ module _ (load : Lists) (is_load : IsLoad load) where
         all_local = (right.0).all_local;
       }))
 
-  new_orders-fit : All (IsNewOrderUpTo 0) t.new_orders
+  new_orders-fit : All (IsNewOrderUpTo 0) all_rows.new_orders
   new_orders-fit =
-      all-by_place (IsNewOrderUpTo 0) t.new_orders
-      (λ place. IfSome_then (slice_get t.new_orders place) {P = IsNewOrderAt t.orders t.new_orders place} {Q =
+      all-by_place (IsNewOrderUpTo 0) all_rows.new_orders
+      (λ place. IfSome_then (slice_get all_rows.new_orders place) {P = IsNewOrderAt all_rows.orders
+      all_rows.new_orders place} {Q =
       IsNewOrderUpTo 0}
       (is_load.new_orders.each place)
       (λ row right. omega (arith, (bounds 1 1_000_000_000 row.order (right.0).order).1)))
 
-  lines-fit : All (IsLineUpTo 0) t.order_lines
+  lines-fit : All (IsLineUpTo 0) all_rows.order_lines
   lines-fit =
-      all-by_place (IsLineUpTo 0) t.order_lines
-      (λ place. IfSome_then (slice_get t.order_lines place) {P = IsOrderLineAt t.warehouses load.items t.orders
-      t.order_lines place}
+      all-by_place (IsLineUpTo 0) all_rows.order_lines
+      (λ place. IfSome_then (slice_get all_rows.order_lines place) {P = IsOrderLineAt all_rows.warehouses load.items
+      all_rows.orders
+      all_rows.order_lines place}
       {Q = IsLineUpTo 0} (is_load.order_lines.each place)
       (λ row right. record {
         order = omega (arith, (bounds 1 1_000_000_000 row.order (right.0).order).1);
@@ -173,10 +179,11 @@ module _ (load : Lists) (is_load : IsLoad load) where
         amount = (right.0).amount;
       }))
 
-  stock-fit : All (IsStockUpTo 0) t.stock
+  stock-fit : All (IsStockUpTo 0) all_rows.stock
   stock-fit =
-      all-by_place (IsStockUpTo 0) t.stock
-      (λ place. IfSome_then (slice_get t.stock place) {P = IsStockAt (length t.warehouses) (length load.items) place}
+      all-by_place (IsStockUpTo 0) all_rows.stock
+      (λ place. IfSome_then (slice_get all_rows.stock place) {P = IsStockAt (length all_rows.warehouses) (length
+      load.items) place}
       {Q = IsStockUpTo 0}
       (is_load.stock.each place)
       (λ row right. record {
@@ -186,36 +193,36 @@ module _ (load : Lists) (is_load : IsLoad load) where
         remote_count = omega (arith, (right.0).remote_count);
       }))
 
-  grown-load : (number : ℕ) → HasGrownBy 0 (of_warehouse number t)
+  grown-load : (number : ℕ) → HasGrownBy 0 (of_warehouse number all_rows)
   grown-load number = record {
     warehouses =
-        All-filter (λ row. row.id == number) (IsWarehouseUpTo 0) t.warehouses
+        All-filter (λ row. row.id == number) (IsWarehouseUpTo 0) all_rows.warehouses
         (All-weaker (λ row. IsWarehouseUpTo 0 row × (row.id ≤ 16)) (IsWarehouseUpTo 0) (λ row both. both.0)
-        t.warehouses warehouses-fit);
-    districts = All-filter (λ row. row.warehouse == number) (IsDistrictUpTo 0) t.districts districts-fit;
-    customers = All-filter (λ row. row.warehouse == number) (IsCustomerUpTo 0 0) t.customers customers-fit;
-    history = All-filter (λ row. row.warehouse == number) IsPaymentUpTo t.history history-fit;
-    orders = All-filter (λ row. row.warehouse == number) (IsOrderUpTo 0) t.orders orders-fit;
-    new_orders = All-filter (λ row. row.warehouse == number) (IsNewOrderUpTo 0) t.new_orders new_orders-fit;
-    order_lines = All-filter (λ row. row.warehouse == number) (IsLineUpTo 0) t.order_lines lines-fit;
-    stock = All-filter (λ row. row.warehouse == number) (IsStockUpTo 0) t.stock stock-fit;
+        all_rows.warehouses warehouses-fit);
+    districts = All-filter (λ row. row.warehouse == number) (IsDistrictUpTo 0) all_rows.districts districts-fit;
+    customers = All-filter (λ row. row.warehouse == number) (IsCustomerUpTo 0 0) all_rows.customers customers-fit;
+    history = All-filter (λ row. row.warehouse == number) IsPaymentUpTo all_rows.history history-fit;
+    orders = All-filter (λ row. row.warehouse == number) (IsOrderUpTo 0) all_rows.orders orders-fit;
+    new_orders = All-filter (λ row. row.warehouse == number) (IsNewOrderUpTo 0) all_rows.new_orders new_orders-fit;
+    order_lines = All-filter (λ row. row.warehouse == number) (IsLineUpTo 0) all_rows.order_lines lines-fit;
+    stock = All-filter (λ row. row.warehouse == number) (IsStockUpTo 0) all_rows.stock stock-fit;
   }
 
   -- the number of a warehouse of the load
-  number-small : (number : ℕ) → IsBetween 1 (length t.warehouses) number → number ≤ 16
+  number-small : (number : ℕ) → IsBetween 1 (length all_rows.warehouses) number → number ≤ 16
   number-small number between =
       let sound = sound-load number load is_load between in
-      let ids : All (λ id. id ≤ 16) (map (λ (row : Warehouse). row.id) (of_warehouse number t).warehouses) =
-      All-map (λ id. id ≤ 16) (λ (row : Warehouse). row.id) (of_warehouse number t).warehouses
-      (All-filter (λ row. row.id == number) (λ row. row.id ≤ 16) t.warehouses
+      let ids : All (λ id. id ≤ 16) (map (λ (row : Warehouse). row.id) (of_warehouse number all_rows).warehouses) =
+      All-map (λ id. id ≤ 16) (λ (row : Warehouse). row.id) (of_warehouse number all_rows).warehouses
+      (All-filter (λ row. row.id == number) (λ row. row.id ≤ 16) all_rows.warehouses
       (All-weaker (λ row. IsWarehouseUpTo 0 row × (row.id ≤ 16)) (λ row. row.id ≤ 16) (λ row both. both.1)
-      t.warehouses warehouses-fit)) in
+      all_rows.warehouses warehouses-fit)) in
       All-head (λ id. id ≤ 16) number [] (subst (All (λ id. id ≤ 16)) sound.rows.warehouse ids)
 
-  pub grown-commits : (number : ℕ) (commits : List Commit) → IsBetween 1 (length t.warehouses) number
-      → HasGrownBy (length commits) (replay load.items number (of_warehouse number t) commits)
+  pub grown-commits : (number : ℕ) (commits : List Commit) → IsBetween 1 (length all_rows.warehouses) number
+      → HasGrownBy (length commits) (replay load.items number (of_warehouse number all_rows) commits)
   grown-commits number commits between =
       let same : 0 + length commits ≡ length commits = omega arith in
-      subst (λ n. HasGrownBy n (replay load.items number (of_warehouse number t) commits)) same
-      (grown-replay load.items items-fit number (number-small number between) (of_warehouse number t) commits 0
+      subst (λ n. HasGrownBy n (replay load.items number (of_warehouse number all_rows) commits)) same
+      (grown-replay load.items items-fit number (number-small number between) (of_warehouse number all_rows) commits 0
       (sound-load number load is_load between) (grown-load number))

@@ -5,7 +5,7 @@ use Rattle.std.specs.List.{find, list_any, sum}
 use Rattle.std.proofs.lemmas.Int.{ints}
 use Rattle.std.proofs.lemmas.Bool.{both_ways, false_from_ne_true}
 use Rattle.std.proofs.lemmas.Bool.Decides.{nat_tests}
-use Rattle.std.proofs.lemmas.List.Elements.{All-filter, All-map, All-weaker, filter_passes}
+use Rattle.std.proofs.lemmas.List.Elements.{All-head, All-tail, All-filter, All-map, All-weaker, filter_passes}
 use Rattle.hy_rows.specs.Finding.{first_or, is_customer}
 use Rattle.hy_rows.specs.Rows.{order_of}
 use Rattle.hy_rows.specs.Tables.{Tables}
@@ -28,33 +28,34 @@ use Rattle.hy_commands.proofs.MeetsLaws.{CarriedOrNew, CountsDistrict, CountsLin
 use Rattle.hy_commands.proofs.NumberLaws.{AreInRow, in_row-taken, least-in, others}
 use Rattle.hy_commands.proofs.OnceLaws.{once-customer, once-order, passes-three, tells-three, tells-two}
 
-module _ (items : List Item) (number : ℕ) (delivery : Delivery) (tables : Tables) (o : Order) (carrier : (delivery.carrier == 0) ≡ false) (moment : (delivery.at == 0) ≡ false) (finds : find (is_order o.warehouse o.district o.id) tables.orders ≡ Some o) (waits : is_undelivered tables.new_orders o ≡ true) (first : o.id ≡ least (map (λ row. row.order) (new_orders_of o.warehouse o.district tables.new_orders))) (sound : IsSoundWarehouse items number tables) where
+module _ (items : List Item) (number : ℕ) (delivery : Delivery) (tables : Tables) (the_order : Order) (carrier : (delivery.carrier == 0) ≡ false) (moment : (delivery.at == 0) ≡ false) (finds : find (is_order the_order.warehouse the_order.district the_order.id) tables.orders ≡ Some the_order) (waits : is_undelivered tables.new_orders the_order ≡ true) (first : the_order.id ≡ least (map (λ row. row.order) (new_orders_of the_order.warehouse the_order.district tables.new_orders))) (sound : IsSoundWarehouse items number tables) where
   abbrev a : ℕ
-  a = o.warehouse
+  a = the_order.warehouse
 
   abbrev b : ℕ
-  b = o.district
+  b = the_order.district
 
   abbrev c : ℕ
-  c = o.id
+  c = the_order.id
 
   abbrev after : Tables
-  after = with_delivered delivery o tables
+  after = with_delivered delivery the_order tables
 
   abbrev marked : OrderLine → OrderLine
-  marked row = cond (is_line_of o row) (delivered_line delivery.at row) row
+  marked row = cond (is_line_of the_order row) (delivered_line delivery.at row) row
 
   abbrev the_customer : Customer → Bool
-  the_customer = is_customer a b o.customer
+  the_customer = is_customer a b the_order.customer
 
   abbrev cents : ℤ
-  cents = order_cents o tables.order_lines
+  cents = order_cents the_order tables.order_lines
 
   -- what a mark leaves alone
   marked-column : {Column : Type 0} (column : OrderLine → Column)
       → ((row : OrderLine) → column (delivered_line delivery.at row) ≡ column row)
       → (row : OrderLine) → column (marked row) ≡ column row
-  marked-column column same row = elim (is_line_of o row) as (λ b. column (cond b (delivered_line delivery.at row)
+  marked-column column same row = elim (is_line_of the_order row) as (λ b. column (cond b (delivered_line delivery.at
+      row)
       row) ≡ column row) [
         | true ↦ same row
         | false ↦ refl
@@ -72,7 +73,7 @@ module _ (items : List Item) (number : ℕ) (delivery : Delivery) (tables : Tabl
       ∙ map-same_on marked (λ line. line) (lines_of row tables.order_lines)
       (All-weaker (λ line. is_line_of row line ≡ true) (λ line. marked line ≡ line)
       (λ line passes. ap (λ t. cond t (delivered_line delivery.at line) line)
-      (false_from_ne_true (is_line_of o line) (λ also.
+      (false_from_ne_true (is_line_of the_order line) (λ also.
       let one = tells-three line.warehouse line.district line.order row.warehouse row.district row.id passes in
       let two = tells-three line.warehouse line.district line.order a b c also in
       both_ways (is_order a b c row) other
@@ -146,7 +147,8 @@ module _ (items : List Item) (number : ℕ) (delivery : Delivery) (tables : Tabl
         (All-weaker (HasOrderAndItem items tables.orders) (λ row. HasOrderAndItem items after.orders (marked row))
         (λ row there.
         let here = there-after row.warehouse row.district row.order there.0 in
-        elim (is_line_of o row) as (λ t. HasOrderAndItem items after.orders (cond t (delivered_line delivery.at row)
+        elim (is_line_of the_order row) as (λ t. HasOrderAndItem items after.orders (cond t (delivered_line
+        delivery.at row)
         row)) [
           | true ↦ (here, there.1)
           | false ↦ (here, there.1)
@@ -158,13 +160,13 @@ module _ (items : List Item) (number : ℕ) (delivery : Delivery) (tables : Tabl
       → NumbersInRow after.orders after.new_orders row
   numbers-after row in_row =
       let Own : NewOrder → Bool = λ new. (new.warehouse == row.warehouse) && (new.district == row.id) in
-      let O : List ℕ = order_numbers tables.orders row in
-      let N : List ℕ = new_order_numbers tables.new_orders row in
-      let orders : order_numbers after.orders row ≡ O =
+      let numbers_there : List ℕ = order_numbers tables.orders row in
+      let news_there : List ℕ = new_order_numbers tables.new_orders row in
+      let orders : order_numbers after.orders row ≡ numbers_there =
       map-filter-with_changed (λ (order : Order). order.id) (λ order. (order.warehouse == row.warehouse) &&
       (order.district == row.id))
       (is_order a b c) (carried delivery.carrier) (λ order. refl) (λ order. refl) tables.orders in
-      let unique : AreUnique N = unique-filter new_order_key (λ (new : NewOrder). new.order) Own
+      let unique : AreUnique news_there = unique-filter new_order_key (λ (new : NewOrder). new.order) Own
       (λ one two own also same.
       let first = tells-two one.warehouse one.district row.warehouse row.id own in
       let second = tells-two two.warehouse two.district row.warehouse row.id also in
@@ -173,24 +175,24 @@ module _ (items : List Item) (number : ℕ) (delivery : Delivery) (tables : Tabl
       rw (warehouses, districts, same) refl) tables.new_orders sound.orders.unique_new_orders in
       subst (λ numbers. AreInRow row.next_order numbers (new_order_numbers after.new_orders row)) (sym orders)
       (elim ((a == row.warehouse) && (b == row.id)) as (λ t. ((a == row.warehouse) && (b == row.id)) ≡ t
-      → AreInRow row.next_order O (new_order_numbers after.new_orders row)) [
+      → AreInRow row.next_order numbers_there (new_order_numbers after.new_orders row)) [
         | true ↦ λ own.
             let is = tells-two a b row.warehouse row.id own in
-            let is_least : c ≡ least N = first
+            let is_least : c ≡ least news_there = first
             ∙ ap₂ (λ w d. least (map (λ (new : NewOrder). new.order) (new_orders_of w d tables.new_orders))) is.0 is.1
             in
-            let taken : new_order_numbers after.new_orders row ≡ others c N =
+            let taken : new_order_numbers after.new_orders row ≡ others c news_there =
             map-filter-again (λ (new : NewOrder). new.order) Own (λ new. not (is_new_order a b c new)) (λ n. not (n ==
             c))
             (λ new passes. grind (arith, nat_tests, passes, own)) tables.new_orders in
-            subst (AreInRow row.next_order O) (sym (taken ∙ ap (λ n. others n N) is_least))
-            (in_row-taken row.next_order O N unique in_row)
+            subst (AreInRow row.next_order numbers_there) (sym (taken ∙ ap (λ n. others n news_there) is_least))
+            (in_row-taken row.next_order numbers_there news_there unique in_row)
         | false ↦ λ other.
-            let same : new_order_numbers after.new_orders row ≡ N =
+            let same : new_order_numbers after.new_orders row ≡ news_there =
             ap (map (λ (new : NewOrder). new.order))
             (filter-implied Own (λ new. not (is_new_order a b c new))
             (λ new passes. grind (arith, nat_tests, passes, other)) tables.new_orders) in
-            subst (AreInRow row.next_order O) (sym same) in_row
+            subst (AreInRow row.next_order numbers_there) (sym same) in_row
       ] refl)
 
   -- what was delivered of an order, in cents
@@ -198,37 +200,39 @@ module _ (items : List Item) (number : ℕ) (delivery : Delivery) (tables : Tabl
   delivered_of lines row = column_sum (λ line. line.amount) (filter is_delivered (lines_of row lines))
 
   -- the order's lines were all undelivered, and all are delivered
-  delivered-before : Meets tables → delivered_of tables.order_lines o ≡ pos 0
+  delivered-before : Meets tables → delivered_of tables.order_lines the_order ≡ pos 0
   delivered-before meets =
-      let is_new : (o.carrier == 0) ≡ true =
-      All-find (CarriedOrNew tables.new_orders) (is_order a b c) tables.orders o meets.carried finds ∙ waits in
-      let all = All-find (DeliveredWithLines tables.order_lines) (is_order a b c) tables.orders o meets.delivered
+      let is_new : (the_order.carrier == 0) ≡ true =
+      All-find (CarriedOrNew tables.new_orders) (is_order a b c) tables.orders the_order meets.carried finds ∙ waits in
+      let all = All-find (DeliveredWithLines tables.order_lines) (is_order a b c) tables.orders the_order
+      meets.delivered
       finds in
       ap (column_sum (λ (line : OrderLine). line.amount))
-      (filter-none is_delivered (lines_of o tables.order_lines)
-      (All-weaker (λ line. (line.delivery_date == 0) ≡ (o.carrier == 0)) (λ line. is_delivered line ≡ false)
-      (λ line same. ap not (same ∙ is_new)) (lines_of o tables.order_lines) all))
+      (filter-none is_delivered (lines_of the_order tables.order_lines)
+      (All-weaker (λ line. (line.delivery_date == 0) ≡ (the_order.carrier == 0)) (λ line. is_delivered line ≡ false)
+      (λ line same. ap not (same ∙ is_new)) (lines_of the_order tables.order_lines) all))
 
-  delivered-now : delivered_of after.order_lines o ≡ cents
+  delivered-now : delivered_of after.order_lines the_order ≡ cents
   delivered-now =
-      ap (λ lines. column_sum (λ (line : OrderLine). line.amount) (filter is_delivered lines)) (lines-after o)
+      ap (λ lines. column_sum (λ (line : OrderLine). line.amount) (filter is_delivered lines)) (lines-after the_order)
       ∙ ap (column_sum (λ (line : OrderLine). line.amount))
-      (filter-all is_delivered (map marked (lines_of o tables.order_lines))
-      (All-map (λ line. is_delivered line ≡ true) marked (lines_of o tables.order_lines)
-      (All-weaker (λ line. is_line_of o line ≡ true) (λ line. is_delivered (marked line) ≡ true)
+      (filter-all is_delivered (map marked (lines_of the_order tables.order_lines))
+      (All-map (λ line. is_delivered line ≡ true) marked (lines_of the_order tables.order_lines)
+      (All-weaker (λ line. is_line_of the_order line ≡ true) (λ line. is_delivered (marked line) ≡ true)
       (λ line own. ap (λ t. is_delivered (cond t (delivered_line delivery.at line) line)) own ∙ ap not moment)
-      (lines_of o tables.order_lines) (filter_passes (is_line_of o) tables.order_lines))))
+      (lines_of the_order tables.order_lines) (filter_passes (is_line_of the_order) tables.order_lines))))
       ∙ column_sum-by_values (λ (line : OrderLine). line.amount) (λ (line : OrderLine). line.amount)
-      (map marked (lines_of o tables.order_lines)) (lines_of o tables.order_lines)
-      (map-map marked (λ (line : OrderLine). line.amount) (lines_of o tables.order_lines)
+      (map marked (lines_of the_order tables.order_lines)) (lines_of the_order tables.order_lines)
+      (map-map marked (λ (line : OrderLine). line.amount) (lines_of the_order tables.order_lines)
       ∙ map-same (λ line. (marked line).amount) (λ line. line.amount) (marked-column (λ line. line.amount) (λ line.
       refl))
-      (lines_of o tables.order_lines))
+      (lines_of the_order tables.order_lines))
 
   -- what was delivered to a customer grows by the order, if it is the customer's
   delivered-more : Meets tables → (customer : Customer)
       → delivered_amount after.orders after.order_lines customer
-      ≡ delivered_amount tables.orders tables.order_lines customer +ℤ cond (is_order_by customer o) cents (pos 0)
+      ≡ delivered_amount tables.orders tables.order_lines customer +ℤ cond (is_order_by customer the_order) cents (pos
+      0)
   delivered-more meets customer =
       let amount : OrderLine → ℤ = λ line. line.amount in
       let Mine : Order → Bool = is_order_by customer in
@@ -243,8 +247,8 @@ module _ (items : List Item) (number : ℕ) (delivery : Delivery) (tables : Tabl
       (is_order_by customer) cents tables.orders (once-order a b c tables.orders sound.orders.unique_orders)
       (λ row other. ap (λ lines. column_sum (λ (line : OrderLine). line.amount) (filter is_delivered lines))
       (lines-other row other))
-      o finds (omega (arith, ints, delivered-before meets, delivered-now))
-      ∙ ap (λ sum. sum +ℤ cond (is_order_by customer o) cents (pos 0))
+      the_order finds (omega (arith, ints, delivered-before meets, delivered-now))
+      ∙ ap (λ sum. sum +ℤ cond (is_order_by customer the_order) cents (pos 0))
       (sym (column_sum-flat_map (λ (line : OrderLine). line.amount) is_delivered (λ order. lines_of order
       tables.order_lines)
       (orders_by customer tables.orders)))
@@ -296,7 +300,7 @@ module _ (items : List Item) (number : ℕ) (delivery : Delivery) (tables : Tabl
         (λ line own.
         let one = tells-three line.warehouse line.district line.order row.warehouse row.district row.id own in
         let two = tells-three row.warehouse row.district row.id a b c passes in
-        let mine : is_line_of o line ≡ true = passes-three line.warehouse line.district line.order a b c
+        let mine : is_line_of the_order line ≡ true = passes-three line.warehouse line.district line.order a b c
         (one.0 ∙ two.0) (one.1 ∙ two.1) (one.2 ∙ two.2) in
         ap (λ t. (cond t (delivered_line delivery.at line) line).delivery_date == 0) mine ∙ moment ∙ sym carrier)
         (lines_of row tables.order_lines) (filter_passes (is_line_of row) tables.order_lines))))
@@ -309,14 +313,14 @@ module _ (items : List Item) (number : ℕ) (delivery : Delivery) (tables : Tabl
     balances =
         All-changed_once (IsBalanced tables.orders tables.order_lines) (IsBalanced after.orders after.order_lines)
         the_customer (customer_delivered cents) tables.customers
-        (once-customer a b o.customer tables.customers sound.rows.unique)
+        (once-customer a b the_order.customer tables.customers sound.rows.unique)
         (λ row passes found settled.
-        let mine : is_order_by row o ≡ true = grind (arith, nat_tests, passes) in
+        let mine : is_order_by row the_order ≡ true = grind (arith, nat_tests, passes) in
         let more = delivered-more meets row ∙ ap (λ t. delivered_amount tables.orders tables.order_lines row +ℤ cond t
         cents (pos 0)) mine in
         omega (arith, ints, settled, more))
         (λ row fails settled.
-        let other : is_order_by row o ≡ false = grind (arith, nat_tests, fails) in
+        let other : is_order_by row the_order ≡ false = grind (arith, nat_tests, fails) in
         let same = delivered-more meets row ∙ ap (λ t. delivered_amount tables.orders tables.order_lines row +ℤ cond t
         cents (pos 0)) other in
         omega (arith, ints, settled, same)) meets.balances;
@@ -354,11 +358,11 @@ module _ (items : List Item) (number : ℕ) (delivery : Delivery) where
   oldest-there tables district sound some =
       let w : ℕ = delivery.warehouse in
       let m : ℕ = oldest w district tables in
-      let N : List ℕ = map (λ (new : NewOrder). new.order) (new_orders_of w district tables.new_orders) in
+      let news_there : List ℕ = map (λ (new : NewOrder). new.order) (new_orders_of w district tables.new_orders) in
       let there : list_any (is_new_order w district m) tables.new_orders ≡ true =
       in-any (λ (new : NewOrder). new.order) (λ new. (new.warehouse == w) && (new.district == district)) m
       tables.new_orders
-      (least-in N (least-some N some)) in
+      (least-in news_there (least-some news_there some)) in
       let new = find-any (is_new_order w district m) tables.new_orders there in
       let has = All-find (HasOrder tables.orders) (is_new_order w district m) tables.new_orders new.0
       sound.orders.new_orders new.1 in
@@ -366,18 +370,22 @@ module _ (items : List Item) (number : ℕ) (delivery : Delivery) where
       (find-passes (is_new_order w district m) tables.new_orders new.0 new.1) in
       let ordered : list_any (is_order w district m) tables.orders ≡ true = rw (is_new.0, is_new.1, is_new.2) at has in
       let order = find-any (is_order w district m) tables.orders ordered in
-      let o : Order = order.0 in
-      let is = tells-three o.warehouse o.district o.id w district m (find-passes (is_order w district m) tables.orders
-      o order.1) in
-      let finds : find (is_order o.warehouse o.district o.id) tables.orders ≡ Some o = rw (is.0, is.1, is.2) order.1 in
-      let waits : list_any (is_new_order o.warehouse o.district o.id) tables.new_orders ≡ true = rw (is.0, is.1, is.2)
+      let the_order : Order = order.0 in
+      let is = tells-three the_order.warehouse the_order.district the_order.id w district m (find-passes (is_order w
+      district m) tables.orders
+      the_order order.1) in
+      let finds : find (is_order the_order.warehouse the_order.district the_order.id) tables.orders ≡ Some the_order =
+      rw (is.0, is.1, is.2) order.1 in
+      let waits : list_any (is_new_order the_order.warehouse the_order.district the_order.id) tables.new_orders ≡ true
+      = rw (is.0, is.1, is.2)
       there in
-      let first : o.id ≡ least (map (λ (new : NewOrder). new.order) (new_orders_of o.warehouse o.district
+      let first : the_order.id ≡ least (map (λ (new : NewOrder). new.order) (new_orders_of the_order.warehouse
+      the_order.district
       tables.new_orders)) =
       rw (is.0, is.1) is.2 in (
-        o,
+        the_order,
         record {
-          chosen = ap (λ one. unwrap_or one (order_of [])) {y = Some o} order.1;
+          chosen = ap (λ one. unwrap_or one (order_of [])) {y = Some the_order} order.1;
           district = is.1;
           finds = finds;
           waits =
@@ -392,7 +400,8 @@ module _ (items : List Item) (number : ℕ) (delivery : Delivery) where
       → (district == other) ≡ false
       → oldest delivery.warehouse other (delivered_in delivery tables district) ≡ oldest delivery.warehouse other tables
   oldest-other tables district other sound apart =
-      elim (oldest delivery.warehouse district tables == 0) as (λ b. (oldest delivery.warehouse district tables == 0) ≡ b
+      elim (oldest delivery.warehouse district tables == 0) as (λ b. (oldest delivery.warehouse district tables == 0)
+      ≡ b
       → oldest delivery.warehouse other (cond b tables (with_delivered delivery
       (first_or (order_of [])
       (is_order delivery.warehouse district (oldest delivery.warehouse district tables)) tables.orders) tables))
@@ -442,3 +451,15 @@ module _ (items : List Item) (number : ℕ) (delivery : Delivery) where
     pub sound-delivered : (tables : Tables) → IsSoundWarehouse items number tables
         → IsSoundWarehouse items number (delivered delivery tables)
     sound-delivered tables sound = sound-districts district_numbers tables sound
+
+    -- so the undelivered orders of a district stay while others are delivered in
+    pub oldest-later : (done : List ℕ) (tables : Tables) (other : ℕ) → IsSoundWarehouse items number tables
+        → All (λ district. (district == other) ≡ false) done
+        → oldest delivery.warehouse other (fold (delivered_in delivery) tables done)
+        ≡ oldest delivery.warehouse other tables
+    oldest-later [] tables other sound apart = refl
+    oldest-later (district ∷ done) tables other sound apart =
+        oldest-later done (delivered_in delivery tables district) other (sound-delivered_in tables district sound)
+        (All-tail (λ district. (district == other) ≡ false) district done apart)
+        ∙ oldest-other tables district other sound
+        (All-head (λ district. (district == other) ≡ false) district done apart)

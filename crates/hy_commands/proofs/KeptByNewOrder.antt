@@ -197,29 +197,29 @@ module _ (items : List Item) (number : ℕ) (order : Purchase) (tables : Tables)
       (λ row. ((row.warehouse == w) && (row.district == d) && (row.order == n)) ≡ false)
       (λ row there. other-key row.warehouse row.district row.order there.0) tables.order_lines sound.orders.order_lines
 
-  abbrev o : Order
-  o = order_row order n
+  abbrev placed : Order
+  placed = order_row order n
 
-  abbrev x : NewOrder
-  x = new_order_row order n
+  abbrev waiting : NewOrder
+  waiting = new_order_row order n
 
-  abbrev L : List OrderLine
-  L = line_rows items order n 1 order.lines
+  abbrev added_lines : List OrderLine
+  added_lines = line_rows items order n 1 order.lines
 
   -- the order itself is there, behind the others
-  itself : list_any (is_order w d n) (o ∷ []) ≡ true
-  itself = or_left (is_order w d n o) false (passes-three w d n w d n refl refl refl)
+  itself : list_any (is_order w d n) (placed ∷ []) ≡ true
+  itself = or_left (is_order w d n placed) false (passes-three w d n w d n refl refl refl)
 
   there-behind : (a b c : ℕ) → list_any (is_order a b c) tables.orders ≡ true
       → list_any (is_order a b c) after.orders ≡ true
   there-behind a b c there =
-      list_any-append (is_order a b c) tables.orders (o ∷ [])
-      ∙ or_left (list_any (is_order a b c) tables.orders) (list_any (is_order a b c) (o ∷ [])) there
+      list_any-append (is_order a b c) tables.orders (placed ∷ [])
+      ∙ or_left (list_any (is_order a b c) tables.orders) (list_any (is_order a b c) (placed ∷ [])) there
 
   there-itself : list_any (is_order w d n) after.orders ≡ true
   there-itself =
-      list_any-append (is_order w d n) tables.orders (o ∷ [])
-      ∙ or_right (list_any (is_order w d n) tables.orders) (list_any (is_order w d n) (o ∷ [])) itself
+      list_any-append (is_order w d n) tables.orders (placed ∷ [])
+      ∙ or_right (list_any (is_order w d n) tables.orders) (list_any (is_order w d n) (placed ∷ [])) itself
 
   ordered-rows : IsOneWarehouse number after
   ordered-rows = record {
@@ -237,26 +237,26 @@ module _ (items : List Item) (number : ℕ) (order : Purchase) (tables : Tables)
   ordered-orders : HasOwnOrders items number after
   ordered-orders = record {
     unique_orders =
-        subst AreUnique (sym (map-append order_key tables.orders (o ∷ [])))
+        subst AreUnique (sym (map-append order_key tables.orders (placed ∷ [])))
         (unique-push (map order_key tables.orders) (w, d, n) sound.orders.unique_orders
         (All-map (λ key. key ≢ (w, d, n)) order_key tables.orders
         (All-weaker (λ row. is_order w d n row ≡ false) (λ row. order_key row ≢ (w, d, n))
         (λ row other same. differ row.warehouse row.district row.id other same) tables.orders new-order)));
     unique_new_orders =
-        subst AreUnique (sym (map-append new_order_key tables.new_orders (x ∷ [])))
+        subst AreUnique (sym (map-append new_order_key tables.new_orders (waiting ∷ [])))
         (unique-push (map new_order_key tables.new_orders) (w, d, n) sound.orders.unique_new_orders
         (All-map (λ key. key ≢ (w, d, n)) new_order_key tables.new_orders
         (All-weaker (λ row. ((row.warehouse == w) && (row.district == d) && (row.order == n)) ≡ false)
         (λ row. new_order_key row ≢ (w, d, n))
         (λ row other same. differ row.warehouse row.district row.order other same) tables.new_orders new-new_order)));
     unique_lines =
-        subst AreUnique (sym (map-append line_key tables.order_lines L))
-        (unique-append (map line_key tables.order_lines) (map line_key L) sound.orders.unique_lines
+        subst AreUnique (sym (map-append line_key tables.order_lines added_lines))
+        (unique-append (map line_key tables.order_lines) (map line_key added_lines) sound.orders.unique_lines
         (unique-lines items order n 1 order.lines)
-        (All-map (λ key. All (λ other. key ≢ other) (map line_key L)) line_key tables.order_lines
+        (All-map (λ key. All (λ other. key ≢ other) (map line_key added_lines)) line_key tables.order_lines
         (All-weaker (λ row. ((row.warehouse == w) && (row.district == d) && (row.order == n)) ≡ false)
-        (λ row. All (λ other. line_key row ≢ other) (map line_key L))
-        (λ row other. All-map (λ key. line_key row ≢ key) line_key L
+        (λ row. All (λ other. line_key row ≢ other) (map line_key added_lines))
+        (λ row other. All-map (λ key. line_key row ≢ key) line_key added_lines
         (all-lines items order n (λ line. line_key row ≢ line_key line)
         (λ place line same. differ_line row.warehouse row.district row.order row.number place other same) 1
         order.lines))
@@ -265,20 +265,20 @@ module _ (items : List Item) (number : ℕ) (order : Purchase) (tables : Tables)
         All-with_changed (λ (row : District). 0 < row.next_order) (is_district w d) with_next_order
         (λ row some. omega arith) tables.districts sound.orders.next_orders;
     orders =
-        All-push (IsOwnOrder number tables.customers) tables.orders o sound.orders.orders record {
+        All-push (IsOwnOrder number tables.customers) tables.orders placed sound.orders.orders record {
           warehouse = accepted.home;
           district = accepted.district;
           positive = below.0;
           customer = buyer;
         };
     new_orders =
-        All-push (HasOrder after.orders) tables.new_orders x
+        All-push (HasOrder after.orders) tables.new_orders waiting
         (All-weaker (HasOrder tables.orders) (HasOrder after.orders)
         (λ row there. there-behind row.warehouse row.district row.order there) tables.new_orders
         sound.orders.new_orders)
         there-itself;
     order_lines =
-        All-append (HasOrderAndItem items after.orders) tables.order_lines L
+        All-append (HasOrderAndItem items after.orders) tables.order_lines added_lines
         (All-weaker (HasOrderAndItem items tables.orders) (HasOrderAndItem items after.orders)
         (λ row there. (there-behind row.warehouse row.district row.order there.0, there.1)) tables.order_lines
         sound.orders.order_lines)
@@ -304,19 +304,19 @@ module _ (items : List Item) (number : ℕ) (order : Purchase) (tables : Tables)
   old-lines : (row : Order) → is_order w d n row ≡ false → lines_of row after.order_lines ≡ lines_of row
       tables.order_lines
   old-lines row other =
-      filter-append (is_line_of row) tables.order_lines L
+      filter-append (is_line_of row) tables.order_lines added_lines
       ∙ ap (λ rest. lines_of row tables.order_lines ++ rest)
-      (filter-none (is_line_of row) L
+      (filter-none (is_line_of row) added_lines
       (all-lines items order n (λ line. is_line_of row line ≡ false)
       (λ place line. grind (arith, nat_tests, other)) 1 order.lines))
       ∙ append-nil (lines_of row tables.order_lines)
 
-  own-lines : lines_of o after.order_lines ≡ L
+  own-lines : lines_of placed after.order_lines ≡ added_lines
   own-lines =
-      filter-append (is_line_of o) tables.order_lines L
-      ∙ ap (λ rest. rest ++ lines_of o L) (filter-none (is_line_of o) tables.order_lines new-line)
-      ∙ filter-all (is_line_of o) L
-      (all-lines items order n (λ line. is_line_of o line ≡ true)
+      filter-append (is_line_of placed) tables.order_lines added_lines
+      ∙ ap (λ rest. rest ++ lines_of placed added_lines) (filter-none (is_line_of placed) tables.order_lines new-line)
+      ∙ filter-all (is_line_of placed) added_lines
+      (all-lines items order n (λ line. is_line_of placed line ≡ true)
       (λ place line. passes-three w d n w d n refl refl refl) 1 order.lines)
 
   -- what the orders of a district count, with one more
@@ -324,14 +324,15 @@ module _ (items : List Item) (number : ℕ) (order : Purchase) (tables : Tables)
       → CountsDistrict after.orders after.order_lines row
   district-lines row counts =
       let In_row : Order → Bool = In row.warehouse row.id in
-      let orders = map-filter-push (λ (order : Order). order.line_count) (In row.warehouse row.id) tables.orders o in
+      let orders = map-filter-push (λ (order : Order). order.line_count) (In row.warehouse row.id) tables.orders
+      placed in
       let lines = filter-append (λ (line : OrderLine). (line.warehouse == row.warehouse) && (line.district == row.id))
-      tables.order_lines L in
+      tables.order_lines added_lines in
       elim ((w == row.warehouse) && (d == row.id)) as (λ b. ((w == row.warehouse) && (d == row.id)) ≡ b
       → CountsDistrict after.orders after.order_lines row) [
         | true ↦ λ own.
             let all = filter-all (λ (line : OrderLine). (line.warehouse == row.warehouse) && (line.district ==
-            row.id)) L
+            row.id)) added_lines
             (all-lines items order n (λ line. ((line.warehouse == row.warehouse) && (line.district == row.id)) ≡ true)
             (λ place line. own) 1 order.lines) in
             ap sum (orders ∙ ap (λ b. map (λ (order : Order). order.line_count) (orders_of row.warehouse row.id
@@ -341,12 +342,12 @@ module _ (items : List Item) (number : ℕ) (order : Purchase) (tables : Tables)
             tables.orders))
             (length order.lines)
             ∙ ap₂ (λ a b. a + b) counts (sym (length-lines items order n 1 order.lines))
-            ∙ sym (length-append (lines_of_district row.warehouse row.id tables.order_lines) L)
+            ∙ sym (length-append (lines_of_district row.warehouse row.id tables.order_lines) added_lines)
             ∙ sym (ap length (lines ∙ ap (λ rest. lines_of_district row.warehouse row.id tables.order_lines ++ rest)
             all))
         | false ↦ λ other.
             let none = filter-none (λ (line : OrderLine). (line.warehouse == row.warehouse) && (line.district ==
-            row.id)) L
+            row.id)) added_lines
             (all-lines items order n (λ line. ((line.warehouse == row.warehouse) && (line.district == row.id)) ≡ false)
             (λ place line. other) 1 order.lines) in
             ap sum (orders ∙ ap (λ b. map (λ (order : Order). order.line_count) (orders_of row.warehouse row.id
@@ -364,33 +365,34 @@ module _ (items : List Item) (number : ℕ) (order : Purchase) (tables : Tables)
       → 0 < row.next_order → NumbersInRow tables.orders tables.new_orders row
       → NumbersInRow after.orders after.new_orders (with_next_order row)
   numbers-more row own is some in_row =
-      let O : List ℕ = order_numbers tables.orders row in
-      let N : List ℕ = new_order_numbers tables.new_orders row in
-      let orders : order_numbers after.orders row ≡ O ++ row.next_order ∷ [] =
-      map-filter-push (λ (order : Order). order.id) (In row.warehouse row.id) tables.orders o
-      ∙ ap (λ b. O ++ cond b (n ∷ []) []) own ∙ ap (λ k. O ++ k ∷ []) is in
-      let news : new_order_numbers after.new_orders row ≡ N ++ row.next_order ∷ [] =
+      let numbers_so_far : List ℕ = order_numbers tables.orders row in
+      let news_so_far : List ℕ = new_order_numbers tables.new_orders row in
+      let orders : order_numbers after.orders row ≡ numbers_so_far ++ row.next_order ∷ [] =
+      map-filter-push (λ (order : Order). order.id) (In row.warehouse row.id) tables.orders placed
+      ∙ ap (λ b. numbers_so_far ++ cond b (n ∷ []) []) own ∙ ap (λ k. numbers_so_far ++ k ∷ []) is in
+      let news : new_order_numbers after.new_orders row ≡ news_so_far ++ row.next_order ∷ [] =
       map-filter-push (λ (new : NewOrder). new.order) (λ new. (new.warehouse == row.warehouse) && (new.district ==
       row.id))
-      tables.new_orders x ∙ ap (λ b. N ++ cond b (n ∷ []) []) own ∙ ap (λ k. N ++ k ∷ []) is in
+      tables.new_orders waiting ∙ ap (λ b. news_so_far ++ cond b (n ∷ []) []) own ∙ ap (λ k. news_so_far ++ k ∷ []) is
+      in
       subst (λ numbers. AreInRow (row.next_order + 1) numbers (new_order_numbers after.new_orders row)) (sym orders)
-      (subst (λ numbers. AreInRow (row.next_order + 1) (O ++ row.next_order ∷ []) numbers) (sym news)
-      (in_row-push row.next_order O N some in_row))
+      (subst (λ numbers. AreInRow (row.next_order + 1) (numbers_so_far ++ row.next_order ∷ []) numbers) (sym news)
+      (in_row-push row.next_order numbers_so_far news_so_far some in_row))
 
   numbers-same : (row : District) → ((w == row.warehouse) && (d == row.id)) ≡ false
       → NumbersInRow tables.orders tables.new_orders row → NumbersInRow after.orders after.new_orders row
   numbers-same row other in_row =
-      let O : List ℕ = order_numbers tables.orders row in
-      let N : List ℕ = new_order_numbers tables.new_orders row in
-      let orders : order_numbers after.orders row ≡ O =
-      map-filter-push (λ (order : Order). order.id) (In row.warehouse row.id) tables.orders o
-      ∙ ap (λ b. O ++ cond b (n ∷ []) []) other ∙ append-nil O in
-      let news : new_order_numbers after.new_orders row ≡ N =
+      let numbers_so_far : List ℕ = order_numbers tables.orders row in
+      let news_so_far : List ℕ = new_order_numbers tables.new_orders row in
+      let orders : order_numbers after.orders row ≡ numbers_so_far =
+      map-filter-push (λ (order : Order). order.id) (In row.warehouse row.id) tables.orders placed
+      ∙ ap (λ b. numbers_so_far ++ cond b (n ∷ []) []) other ∙ append-nil numbers_so_far in
+      let news : new_order_numbers after.new_orders row ≡ news_so_far =
       map-filter-push (λ (new : NewOrder). new.order) (λ new. (new.warehouse == row.warehouse) && (new.district ==
       row.id))
-      tables.new_orders x ∙ ap (λ b. N ++ cond b (n ∷ []) []) other ∙ append-nil N in
+      tables.new_orders waiting ∙ ap (λ b. news_so_far ++ cond b (n ∷ []) []) other ∙ append-nil news_so_far in
       subst (λ numbers. AreInRow row.next_order numbers (new_order_numbers after.new_orders row)) (sym orders)
-      (subst (λ numbers. AreInRow row.next_order O numbers) (sym news) in_row)
+      (subst (λ numbers. AreInRow row.next_order numbers_so_far numbers) (sym news) in_row)
 
   -- what was delivered to a customer stays
   delivered-same : (customer : Customer)
@@ -407,22 +409,25 @@ module _ (items : List Item) (number : ℕ) (order : Purchase) (tables : Tables)
       (All-weaker (λ row. is_order w d n row ≡ false) (λ row. lines_of row after.order_lines ≡ lines_of row
       tables.order_lines)
       old-lines tables.orders new-order)) in
-      let undelivered : filter is_delivered L ≡ [] =
-      filter-none is_delivered L (all-lines items order n (λ line. is_delivered line ≡ false) (λ place line. refl) 1
+      let undelivered : filter is_delivered added_lines ≡ [] =
+      filter-none is_delivered added_lines (all-lines items order n (λ line. is_delivered line ≡ false) (λ place line.
+      refl) 1
       order.lines) in
-      let New : Bool → List OrderLine = λ b. flat_map (λ order. lines_of order after.order_lines) (cond b (o ∷ []) [])
+      let New : Bool → List OrderLine = λ b. flat_map (λ order. lines_of order after.order_lines) (cond b (placed ∷
+      []) [])
       in
       let none : (b : Bool) → filter is_delivered (New b) ≡ [] = λ b. elim b as (λ b. filter is_delivered (New b) ≡
       []) [
-        | true ↦ ap (filter is_delivered) (append-nil (lines_of o after.order_lines) ∙ own-lines) ∙ undelivered
+        | true ↦ ap (filter is_delivered) (append-nil (lines_of placed after.order_lines) ∙ own-lines) ∙ undelivered
         | false ↦ refl
       ] in
-      let own : Bool = is_order_by customer o in
+      let own : Bool = is_order_by customer placed in
       ap (column_sum (λ (line : OrderLine). line.amount))
       (ap (λ orders. filter is_delivered (flat_map (λ order. lines_of order after.order_lines) orders))
-      (filter-append (is_order_by customer) tables.orders (o ∷ []))
+      (filter-append (is_order_by customer) tables.orders (placed ∷ []))
       ∙ ap (filter is_delivered)
-      (flat_map-append (λ order. lines_of order after.order_lines) (orders_by customer tables.orders) (cond own (o ∷
+      (flat_map-append (λ order. lines_of order after.order_lines) (orders_by customer tables.orders) (cond own
+      (placed ∷
       []) []))
       ∙ filter-append is_delivered (flat_map (λ order. lines_of order after.order_lines) (orders_by customer
       tables.orders)) (New own)
@@ -456,24 +461,28 @@ module _ (items : List Item) (number : ℕ) (order : Purchase) (tables : Tables)
         (All-weaker (CountsDistrict tables.orders tables.order_lines) (CountsDistrict after.orders after.order_lines)
         district-lines tables.districts meets.district_lines);
     carried =
-        All-push (CarriedOrNew after.new_orders) tables.orders o
+        All-push (CarriedOrNew after.new_orders) tables.orders placed
         (All-of_both (CarriedOrNew tables.new_orders) (λ row. is_order w d n row ≡ false) (CarriedOrNew
         after.new_orders)
         tables.orders
-        (λ row is other. is ∙ sym (list_any-append (is_new_order_of row) tables.new_orders (x ∷ [])
-        ∙ or_none (is_undelivered tables.new_orders row) (is_new_order_of row x) (grind (arith, nat_tests, other))))
+        (λ row is other. is ∙ sym (list_any-append (is_new_order_of row) tables.new_orders (waiting ∷ [])
+        ∙ or_none (is_undelivered tables.new_orders row) (is_new_order_of row waiting) (grind (
+          arith,
+          nat_tests,
+          other,
+        ))))
         meets.carried new-order)
-        (sym (list_any-append (is_new_order_of o) tables.new_orders (x ∷ [])
-        ∙ or_right (is_undelivered tables.new_orders o) (list_any (is_new_order_of o) (x ∷ []))
-        (or_left (is_new_order_of o x) false (passes-three w d n w d n refl refl refl))));
+        (sym (list_any-append (is_new_order_of placed) tables.new_orders (waiting ∷ [])
+        ∙ or_right (is_undelivered tables.new_orders placed) (list_any (is_new_order_of placed) (waiting ∷ []))
+        (or_left (is_new_order_of placed waiting) false (passes-three w d n w d n refl refl refl))));
     lines =
-        All-push (CountsLines after.order_lines) tables.orders o
+        All-push (CountsLines after.order_lines) tables.orders placed
         (All-of_both (CountsLines tables.order_lines) (λ row. is_order w d n row ≡ false) (CountsLines
         after.order_lines)
         tables.orders (λ row counts other. counts ∙ sym (ap length (old-lines row other))) meets.lines new-order)
         (sym (ap length own-lines ∙ length-lines items order n 1 order.lines));
     delivered =
-        All-push (DeliveredWithLines after.order_lines) tables.orders o
+        All-push (DeliveredWithLines after.order_lines) tables.orders placed
         (All-of_both (DeliveredWithLines tables.order_lines) (λ row. is_order w d n row ≡ false)
         (DeliveredWithLines after.order_lines) tables.orders
         (λ row all other. subst (All (λ line. (line.delivery_date == 0) ≡ (row.carrier == 0))) (sym (old-lines row

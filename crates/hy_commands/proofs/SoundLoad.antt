@@ -207,33 +207,35 @@ at-place P Q None follows holds = tt
 at-place P Q (Some row) follows holds = follows row refl holds
 
 module _ (number : ℕ) (load : Lists) (is_load : IsLoad load) where
-  abbrev t : Tables
-  t = load.tables
+  abbrev all_rows : Tables
+  all_rows = load.tables
 
   abbrev own : Tables
   own = of_warehouse number load.tables
 
-  unique-orders : AreUnique (map order_key t.orders)
+  unique-orders : AreUnique (map order_key all_rows.orders)
   unique-orders =
       unique-by_place order_key (λ row. is_order row.warehouse row.district row.id)
       (λ row other equal. passes-three other.warehouse other.district other.id row.warehouse row.district row.id
       (ap (λ (key : ℕ × ℕ × ℕ). key.0) equal) (ap (λ (key : ℕ × ℕ × ℕ). key.1) equal) (ap (λ (key : ℕ × ℕ × ℕ). key.2)
       equal))
-      t.orders (λ place. IfSome_then (slice_get t.orders place) {P = IsOrderAt t.districts t.customers t.orders place}
-      {Q = λ row. list_any (is_order row.warehouse row.district row.id) (take place t.orders) ≡ false}
+      all_rows.orders (λ place. IfSome_then (slice_get all_rows.orders place) {P = IsOrderAt all_rows.districts
+      all_rows.customers all_rows.orders place}
+      {Q = λ row. list_any (is_order row.warehouse row.district row.id) (take place all_rows.orders) ≡ false}
       (is_load.orders.each place) (λ row right. right.1))
 
-  unique-new_orders : AreUnique (map new_order_key t.new_orders)
+  unique-new_orders : AreUnique (map new_order_key all_rows.new_orders)
   unique-new_orders =
       unique-by_place new_order_key (λ row. is_new_order row.warehouse row.district row.order)
       (λ row other equal. passes-three other.warehouse other.district other.order row.warehouse row.district row.order
       (ap (λ (key : ℕ × ℕ × ℕ). key.0) equal) (ap (λ (key : ℕ × ℕ × ℕ). key.1) equal) (ap (λ (key : ℕ × ℕ × ℕ). key.2)
       equal))
-      t.new_orders (λ place. IfSome_then (slice_get t.new_orders place) {P = IsNewOrderAt t.orders t.new_orders place}
-      {Q = λ row. list_any (is_new_order row.warehouse row.district row.order) (take place t.new_orders) ≡ false}
+      all_rows.new_orders (λ place. IfSome_then (slice_get all_rows.new_orders place) {P = IsNewOrderAt
+      all_rows.orders all_rows.new_orders place}
+      {Q = λ row. list_any (is_new_order row.warehouse row.district row.order) (take place all_rows.new_orders) ≡ false}
       (is_load.new_orders.each place) (λ row right. right.1))
 
-  unique-lines : AreUnique (map line_key t.order_lines)
+  unique-lines : AreUnique (map line_key all_rows.order_lines)
   unique-lines =
       unique-by_place line_key (λ row. is_line row.warehouse row.district row.order row.number)
       (λ row other equal.
@@ -242,60 +244,68 @@ module _ (number : ℕ) (load : Lists) (is_load : IsLoad load) where
       (ap (λ (key : ℕ × ℕ × ℕ × ℕ). key.2) equal) in
       let last = eq-eqb other.number row.number (ap (λ (key : ℕ × ℕ × ℕ × ℕ). key.3) equal) in
       rw (three, last) refl)
-      t.order_lines (λ place. IfSome_then (slice_get t.order_lines place)
-      {P = IsOrderLineAt t.warehouses load.items t.orders t.order_lines place}
-      {Q = λ row. list_any (is_line row.warehouse row.district row.order row.number) (take place t.order_lines) ≡ false}
+      all_rows.order_lines (λ place. IfSome_then (slice_get all_rows.order_lines place)
+      {P = IsOrderLineAt all_rows.warehouses load.items all_rows.orders all_rows.order_lines place}
+      {Q = λ row. list_any (is_line row.warehouse row.district row.order row.number) (take place all_rows.order_lines)
+      ≡ false}
       (is_load.order_lines.each place) (λ row right. right.1))
 
   -- what the rules of a load say of each row of ORDER, NEW-ORDER and ORDER-LINE
   abbrev OrderFits : Order → Type 0
   OrderFits row =
       IsBetween 1 10 row.district × (0 < row.id)
-      × (list_any (is_customer row.warehouse row.district row.customer) t.customers ≡ true)
+      × (list_any (is_customer row.warehouse row.district row.customer) all_rows.customers ≡ true)
 
-  orders-fit : All OrderFits t.orders
-  orders-fit = all-by_place OrderFits t.orders (λ place. IfSome_then (slice_get t.orders place)
-      {P = IsOrderAt t.districts t.customers t.orders place} {Q = OrderFits} (is_load.orders.each place)
+  orders-fit : All OrderFits all_rows.orders
+  orders-fit = all-by_place OrderFits all_rows.orders (λ place. IfSome_then (slice_get all_rows.orders place)
+      {P = IsOrderAt all_rows.districts all_rows.customers all_rows.orders place} {Q = OrderFits} (is_load.orders.each
+      place)
       (λ row right. let ends = bounds 1 1_000_000_000 row.id (right.0).id in
       ((right.0).district, omega (arith, ends.0), right.3)))
 
-  new_orders-fit : All (HasOrder t.orders) t.new_orders
-  new_orders-fit = all-by_place (HasOrder t.orders) t.new_orders (λ place. IfSome_then (slice_get t.new_orders place)
-      {P = IsNewOrderAt t.orders t.new_orders place} {Q = HasOrder t.orders} (is_load.new_orders.each place)
+  new_orders-fit : All (HasOrder all_rows.orders) all_rows.new_orders
+  new_orders-fit = all-by_place (HasOrder all_rows.orders) all_rows.new_orders (λ place. IfSome_then (slice_get
+      all_rows.new_orders place)
+      {P = IsNewOrderAt all_rows.orders all_rows.new_orders place} {Q = HasOrder all_rows.orders}
+      (is_load.new_orders.each place)
       (λ row right. right.2))
 
-  lines-fit : All (HasOrderAndItem load.items t.orders) t.order_lines
-  lines-fit = all-by_place (HasOrderAndItem load.items t.orders) t.order_lines (λ place. IfSome_then (slice_get
-      t.order_lines place)
-      {P = IsOrderLineAt t.warehouses load.items t.orders t.order_lines place} {Q = HasOrderAndItem load.items t.orders}
+  lines-fit : All (HasOrderAndItem load.items all_rows.orders) all_rows.order_lines
+  lines-fit = all-by_place (HasOrderAndItem load.items all_rows.orders) all_rows.order_lines (λ place. IfSome_then
+      (slice_get
+      all_rows.order_lines place)
+      {P = IsOrderLineAt all_rows.warehouses load.items all_rows.orders all_rows.order_lines place} {Q =
+      HasOrderAndItem load.items all_rows.orders}
       (is_load.order_lines.each place) (λ row right. (right.2, right.3)))
 
   -- an order of the warehouse is there among its own
-  own-there : (w d n : ℕ) → (w == number) ≡ true → list_any (is_order w d n) t.orders ≡ true
+  own-there : (w d n : ℕ) → (w == number) ≡ true → list_any (is_order w d n) all_rows.orders ≡ true
       → list_any (is_order w d n) own.orders ≡ true
   own-there w d n home there =
       any-filter-same (is_order w d n) (λ order. order.warehouse == number)
-      (λ order other. grind (arith, nat_tests, other, home)) t.orders ∙ there
+      (λ order other. grind (arith, nat_tests, other, home)) all_rows.orders ∙ there
 
   orders-load : HasOwnOrders load.items number own
   orders-load = record {
     unique_orders =
-        unique-filter order_key order_key (λ row. row.warehouse == number) (λ one two kept also equal. equal) t.orders
+        unique-filter order_key order_key (λ row. row.warehouse == number) (λ one two kept also equal. equal)
+        all_rows.orders
         unique-orders;
     unique_new_orders =
         unique-filter new_order_key new_order_key (λ row. row.warehouse == number) (λ one two kept also equal. equal)
-        t.new_orders unique-new_orders;
+        all_rows.new_orders unique-new_orders;
     unique_lines =
         unique-filter line_key line_key (λ row. row.warehouse == number) (λ one two kept also equal. equal)
-        t.order_lines unique-lines;
+        all_rows.order_lines unique-lines;
     next_orders =
-        All-filter (λ row. row.warehouse == number) (λ (row : District). 0 < row.next_order) t.districts
-        (all-by_place (λ (row : District). 0 < row.next_order) t.districts (λ place. IfSome_then (slice_get
-        t.districts place)
-        {P = IsDistrictAt (length t.warehouses) place} {Q = λ row. 0 < row.next_order} (is_load.districts.each place)
+        All-filter (λ row. row.warehouse == number) (λ (row : District). 0 < row.next_order) all_rows.districts
+        (all-by_place (λ (row : District). 0 < row.next_order) all_rows.districts (λ place. IfSome_then (slice_get
+        all_rows.districts place)
+        {P = IsDistrictAt (length all_rows.warehouses) place} {Q = λ row. 0 < row.next_order} (is_load.districts.each
+        place)
         (λ row right. let ends = bounds 1 1_000_000_000 row.next_order (right.0).next_order in omega (arith, ends.0))));
     orders =
-        All-passing_also (λ row. row.warehouse == number) OrderFits (IsOwnOrder number own.customers) t.orders
+        All-passing_also (λ row. row.warehouse == number) OrderFits (IsOwnOrder number own.customers) all_rows.orders
         (λ row fits home. record {
           warehouse = eqb-true row.warehouse number home;
           district = fits.0;
@@ -303,32 +313,35 @@ module _ (number : ℕ) (load : Lists) (is_load : IsLoad load) where
           customer =
               any-filter-same (is_customer row.warehouse row.district row.customer) (λ customer. customer.warehouse ==
               number)
-              (λ customer other. grind (arith, nat_tests, other, home)) t.customers ∙ fits.2;
+              (λ customer other. grind (arith, nat_tests, other, home)) all_rows.customers ∙ fits.2;
         }) orders-fit;
     new_orders =
-        All-passing_also (λ row. row.warehouse == number) (HasOrder t.orders) (HasOrder own.orders) t.new_orders
+        All-passing_also (λ row. row.warehouse == number) (HasOrder all_rows.orders) (HasOrder own.orders)
+        all_rows.new_orders
         (λ row there home. own-there row.warehouse row.district row.order home there) new_orders-fit;
     order_lines =
-        All-passing_also (λ row. row.warehouse == number) (HasOrderAndItem load.items t.orders)
-        (HasOrderAndItem load.items own.orders) t.order_lines
+        All-passing_also (λ row. row.warehouse == number) (HasOrderAndItem load.items all_rows.orders)
+        (HasOrderAndItem load.items own.orders) all_rows.order_lines
         (λ row there home. (own-there row.warehouse row.district row.order home there.0, there.1)) lines-fit;
   }
 
   -- the stock
-  abbrev I : ℕ
-  I = length load.items
+  abbrev item_count : ℕ
+  item_count = length load.items
 
-  unique-stock : AreUnique (map stock_key t.stock)
+  unique-stock : AreUnique (map stock_key all_rows.stock)
   unique-stock =
-      unique-ranked stock_key (λ row. I * row.warehouse + row.item)
-      (λ row other same. ap (λ (key : ℕ × ℕ). I * key.0 + key.1) same) (I + 1) t.stock
-      (λ place. IfSome_then (slice_get t.stock place) {P = IsStockAt (length t.warehouses) I place}
-      {Q = λ row. I * row.warehouse + row.item ≡ I + 1 + place} (is_load.stock.each place)
+      unique-ranked stock_key (λ row. item_count * row.warehouse + row.item)
+      (λ row other same. ap (λ (key : ℕ × ℕ). item_count * key.0 + key.1) same) (item_count + 1) all_rows.stock
+      (λ place. IfSome_then (slice_get all_rows.stock place) {P = IsStockAt (length all_rows.warehouses) item_count
+      place}
+      {Q = λ row. item_count * row.warehouse + row.item ≡ item_count + 1 + place} (is_load.stock.each place)
       (λ row right.
-      let warehouse : I * row.warehouse ≡ I * (place / I + 1) = ap (λ w. I * w) right.1 in
-      omega (arith, warehouse, right.2, div-add-mod place I)))
+      let warehouse : item_count * row.warehouse ≡ item_count * (place / item_count + 1) = ap (λ w. item_count * w)
+      right.1 in
+      omega (arith, warehouse, right.2, div-add-mod place item_count)))
 
-  in-stock : IsBetween 1 (length t.warehouses) number
+  in-stock : IsBetween 1 (length all_rows.warehouses) number
       → All (λ item. list_any (is_stock number item.id) own.stock ≡ true) load.items
   in-stock between =
       all-by_place (λ item. list_any (is_stock number item.id) own.stock ≡ true) load.items
@@ -336,21 +349,23 @@ module _ (number : ℕ) (load : Lists) (is_load : IsLoad load) where
       (slice_get load.items place)
       (λ item is right.
       let k : ℕ = place in
-      let within : place < I = slice_get_within load.items place item is in
-      let ends = bounds 1 (length t.warehouses) number between in
+      let within : place < item_count = slice_get_within load.items place item is in
+      let ends = bounds 1 (length all_rows.warehouses) number between in
       let before : ℕ = number - 1 in
       let is_number : number ≡ before + 1 = omega (arith, ends.0) in
-      let at : ℕ = before * I + place in
-      let room : I * number ≤ I * length t.warehouses = mul-le-mul_left I ends.1 in
-      let product : I * number ≡ I * (before + 1) = ap (λ n. I * n) is_number in
-      let there : at < length t.stock = omega (arith, room, product, within, is_load.stock.whole) in
-      let row : Stock = get_or t.stock at (stock_of []) in
-      let found : slice_get t.stock at ≡ Some row = slice_get-get_or t.stock at (stock_of []) there in
-      let holds : IsStockAt (length t.warehouses) I at row =
-      subst (λ one. IfSome one (IsStockAt (length t.warehouses) I at)) found (is_load.stock.each at) in
-      let warehouse : row.warehouse ≡ number = holds.1 ∙ ap (λ n. n + 1) (div-mul-add before I place within) ∙ sym
+      let at : ℕ = before * item_count + place in
+      let room : item_count * number ≤ item_count * length all_rows.warehouses = mul-le-mul_left item_count ends.1 in
+      let product : item_count * number ≡ item_count * (before + 1) = ap (λ n. item_count * n) is_number in
+      let there : at < length all_rows.stock = omega (arith, room, product, within, is_load.stock.whole) in
+      let row : Stock = get_or all_rows.stock at (stock_of []) in
+      let found : slice_get all_rows.stock at ≡ Some row = slice_get-get_or all_rows.stock at (stock_of []) there in
+      let holds : IsStockAt (length all_rows.warehouses) item_count at row =
+      subst (λ one. IfSome one (IsStockAt (length all_rows.warehouses) item_count at)) found (is_load.stock.each at) in
+      let warehouse : row.warehouse ≡ number = holds.1 ∙ ap (λ n. n + 1) (div-mul-add before item_count place within)
+      ∙ sym
       is_number in
-      let same_item : row.item ≡ item.id = holds.2 ∙ ap (λ n. n + 1) (mod-mul-add before I place within) ∙ sym right.1
+      let same_item : row.item ≡ item.id = holds.2 ∙ ap (λ n. n + 1) (mod-mul-add before item_count place within) ∙
+      sym right.1
       in
       let passes : is_stock number item.id row ≡ true = rw (
         eq-eqb row.warehouse number warehouse,
@@ -358,8 +373,8 @@ module _ (number : ℕ) (load : Lists) (is_load : IsLoad load) where
             item.id same_item,
       ) refl in
       any-filter-same (is_stock number item.id) (λ row. row.warehouse == number)
-      (λ row other. grind (arith, nat_tests, other)) t.stock
-      ∙ list_any_at (is_stock number item.id) t.stock at (stock_of []) there passes)
+      (λ row other. grind (arith, nat_tests, other)) all_rows.stock
+      ∙ list_any_at (is_stock number item.id) all_rows.stock at (stock_of []) there passes)
       (is_load.items.each place))
 
   -- the rows of each warehouse of a load are sound
@@ -367,13 +382,15 @@ module _ (number : ℕ) (load : Lists) (is_load : IsLoad load) where
   sound-load between = record {
     rows = IsOneWarehouse-load load number is_load between;
     orders = orders-load;
-    numbers = behind-orders own orders-load.next_orders (own-meets number t (meets-facts t (own-conditions t
+    numbers = behind-orders own orders-load.next_orders (own-meets number all_rows (meets-facts all_rows
+        (own-conditions all_rows
         is_load.conditions)));
     stock = record {
       unique =
           unique-filter stock_key stock_key (λ row. row.warehouse == number) (λ one two kept also equal. equal)
-          t.stock unique-stock;
+          all_rows.stock unique-stock;
       each = in-stock between;
     };
-    conditions = meets-tests own (own-meets number t (meets-facts t (own-conditions t is_load.conditions)));
+    conditions = meets-tests own (own-meets number all_rows (meets-facts all_rows (own-conditions all_rows
+        is_load.conditions)));
   }

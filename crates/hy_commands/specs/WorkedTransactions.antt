@@ -2,18 +2,22 @@
 use Rattle.std.specs.Prelude.{◌≡◌, ℕ, ℤ, pos, negsuc, List, [], ◌∷◌, ◌++◌, None, map, codes, refl}
 use Rattle.hy_rows.specs.declared.warehouse.Warehouse.{Warehouse}
 use Rattle.hy_rows.specs.declared.customer.Customer.{Customer}
+use Rattle.hy_rows.specs.declared.history.History.{History}
 use Rattle.hy_rows.specs.declared.order_line.OrderLine.{OrderLine}
 use Rattle.hy_rows.specs.Tables.{Tables, no_rows}
 use Rattle.hy_schema.specs.Conditions.{first_broken}
 use Rattle.hy_schema.specs.declared.refusal.Refusal.TheVariants as refusals
 use Rattle.hy_commands.specs.declared.command.Command.{Command}
 use Rattle.hy_commands.specs.declared.command.Command.TheVariants as commands
+use Rattle.hy_commands.specs.declared.command.Payment.{Payment}
+use Rattle.hy_commands.specs.declared.command.Purchase.{Purchase}
 use Rattle.hy_commands.specs.declared.command.PurchaseLine.{PurchaseLine}
 use Rattle.hy_commands.specs.declared.command.Who.{Who}
 use Rattle.hy_commands.specs.declared.command.Who.TheVariants as who
 use Rattle.hy_commands.specs.declared.reply.Reply.{Reply}
 use Rattle.hy_commands.specs.declared.reply.Reply.TheVariants as replies
-use Rattle.hy_commands.specs.NewOrders.{order_row, supplied}
+use Rattle.hy_commands.specs.NewOrders.{line_rows, order_row, supplied}
+use Rattle.hy_commands.specs.Payments.{history_row}
 use Rattle.hy_commands.specs.Transactions.{act}
 use Rattle.hy_commands.specs.WorkedSample.{after, bought, customer, customer_after, customers, first_of, five_of_each, items, next_order_after, payment, purchase, reply_after, sample, stock_columns}
 
@@ -255,30 +259,44 @@ not_refused_payment = refl
 
 -- ---- lines of other warehouses
 
--- O_ALL_LOCAL where two lines come from another warehouse
-abbrev remote_order : ℕ
-remote_order =
-    (order_row record {
-      warehouse = 3;
-      district = 1;
-      customer = 1;
-      at = 1;
-      lines = bought 2 1 ∷ record { item = 4; supply_warehouse = 3; quantity = 1 } ∷ [];
-    } 1).all_local
+-- a purchase in warehouse 3, the second line of which warehouse 1 supplies
+abbrev remote_order : Purchase
+remote_order = record {
+  warehouse = 3;
+  district = 1;
+  customer = 1;
+  at = 1;
+  lines = record { item = 2; supply_warehouse = 3; quantity = 1 } ∷ bought 1 5 ∷ [];
+}
 
-abbrev not_all_local : remote_order ≡ 0
+abbrev not_all_local : (order_row remote_order 1).all_local ≡ 0
 not_all_local = refl
 
--- what a line of another warehouse's purchase does to the warehouse that supplies it
-abbrev supplied_columns : List ℕ
-supplied_columns =
-    stock_columns 1 (supplied 1 record {
-      warehouse = 3;
-      district = 1;
-      customer = 1;
-      at = 1;
-      lines = record { item = 2; supply_warehouse = 3; quantity = 1 } ∷ bought 1 5 ∷ [];
-    } sample)
+-- OL_W_ID and OL_SUPPLY_W_ID
+abbrev from_columns : OrderLine → ℕ × ℕ
+from_columns row = (row.warehouse, row.supply_warehouse)
 
-abbrev supplied_line : supplied_columns ≡ 13 ∷ 5 ∷ 1 ∷ 1 ∷ []
+abbrev supplied_from : map from_columns (line_rows items remote_order 1 1 remote_order.lines) ≡ (3, 3) ∷ (3, 1) ∷ []
+supplied_from = refl
+
+-- what a line of another warehouse's purchase does to the warehouse that supplies it
+abbrev supplied_line : stock_columns 1 (supplied 1 remote_order sample) ≡ 13 ∷ 5 ∷ 1 ∷ 1 ∷ []
 supplied_line = refl
+
+-- a payment in warehouse 1 for customer 3 of district 4 of warehouse 2
+abbrev remote_payment : Payment
+remote_payment = record {
+  warehouse = 1;
+  district = 5;
+  customer_warehouse = 2;
+  customer_district = 4;
+  who = who.Number 3;
+  amount = 100;
+  at = 1;
+}
+
+abbrev place_columns : History → List ℕ
+place_columns row = row.customer ∷ row.customer_district ∷ row.customer_warehouse ∷ row.district ∷ row.warehouse ∷ []
+
+abbrev paid_from : place_columns (history_row remote_payment 3 sample) ≡ 3 ∷ 4 ∷ 2 ∷ 5 ∷ 1 ∷ []
+paid_from = refl
