@@ -1,13 +1,13 @@
 -- Why a command line isn't done: the texts, and what is behind them.
 use Rattle.std.specs.Prelude.{◌≡◌, ℕ, List, ◌++◌, Option, None, Some, IsSomeAnd, codes}
 use Rattle.std.specs.Io.KnownBytes.{Appends}
+use Rattle.hy_schema.specs.Refusals.{refusal_text}
 use Rattle.hy_place.specs.declared.directory.FileFault.{FileFault}
 use Rattle.hy_place.specs.declared.directory.FileFault.TheVariants as files
 use Rattle.hy_place.specs.Directory.{path_of}
 use Rattle.hy_hyper.specs.declared.fault.FilePath.{FilePath}
 use Rattle.hy_hyper.specs.declared.fault.RunFault.{RunFault}
 use Rattle.hy_hyper.specs.declared.fault.RunFault.TheVariants as fault
-use Rattle.hy_hyper.specs.Refusals.{refusal_text}
 
 abbrev pub path_text : FilePath → List ℕ
 path_text path = path_of path.directory.now path.table

@@ -3,7 +3,6 @@ pub mod Faults
 pub mod First
 pub mod Generate
 pub mod Generated
-pub mod Refusals
 pub mod Runs
 pub mod WorkedRows
 pub mod Open

@@ -5,7 +5,6 @@ ghost use Rattle.hy_schema.specs.declared.refusal.Refusal.TheVariants as refusal
 ghost use Rattle.hy_hyper.specs.declared.fault.RunFault.TheVariants as fault;
 ghost use Rattle.hy_hyper.specs.Faults.{IsAboutFiles, fault_text, path_text};
 
-use crate::reason::Reason;
 use hy_place::{FileFault, file_name};
 use hy_schema::{Refusal, Table};
 use std::alloc::AllocError;
@@ -85,10 +84,7 @@ impl fmt::Display for RunFault<'_> {
 
     fn fmt<W: fmt::Write>(&self, f: &mut fmt::Formatter<W>) -> fmt::Result {
         match self {
-            RunFault::Refused(refusal) => {
-                let reason = Reason(*refusal);
-                write!(f, "refused {reason}")
-            }
+            RunFault::Refused(refusal) => write!(f, "refused {refusal}"),
             RunFault::CannotRead(path) => write!(f, "cannot read {path}"),
             RunFault::CannotWrite(path) => write!(f, "cannot write {path}"),
             RunFault::Writer(error) => write!(f, "{error}"),

@@ -6,7 +6,6 @@ mod ending;
 mod fault;
 mod first;
 mod generate;
-mod reason;
 mod run;
 mod system;
 

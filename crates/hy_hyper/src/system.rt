@@ -1,7 +1,6 @@
 //! The program on the system that it runs on.
 
 use crate::ending::Ending;
-use crate::reason::Reason;
 use crate::run::run_words;
 use hy_place::Files;
 use hy_schema::Refusal;
@@ -12,9 +11,9 @@ pub fn run_on_system(rt: &HostRuntime) -> Ending {
     match run_arguments(rt) {
         Ok(ending) => ending,
         Err(error) => {
-            let reason = Reason(Refusal::NoMemory);
+            let refusal = Refusal::NoMemory;
             let _ = match error.kind() {
-                io::ErrorKind::OutOfMemory => writeln!(rt.stderr(), "refused {reason}"),
+                io::ErrorKind::OutOfMemory => writeln!(rt.stderr(), "refused {refusal}"),
                 _ => writeln!(rt.stderr(), "{error}"),
             };
             Ending::Refused

@@ -3,11 +3,10 @@
 ghost use Rattle.std.specs.Prelude.{None, Some};
 
 use crate::ending::Ending;
-use crate::reason::Reason;
 use crate::run::run_words;
 use hy_place::Place;
 use hy_rows::{History, Item, Order, Stock};
-use hy_schema::{Customer, District, LoadFault, Refusal, Warehouse};
+use hy_schema::{Customer, District, Refusal, Warehouse};
 use hy_tables::{generate, generated};
 use std::alloc::Global;
 use std::io;
@@ -114,37 +113,6 @@ fn prints_a_refusal(rt: HostRuntime) -> Result<(), Fail> {
         let ending = run_words(alloc, &words, &mut Nowhere, &mut out, &mut err);
         assert!(rt; ending == Ending::Refused && ending.status() == 1);
         assert!(rt; out.is_empty() && err.as_slice() == b"refused E8 OutOfRange\n".as_slice());
-    }
-    Ok(())
-}
-
-#[test]
-fn reasons_are_the_texts_of_refusals(rt: HostRuntime) -> Result<(), Fail> {
-    let alloc = rt.alloc();
-    let refusals = [
-        Refusal::NoMemory,
-        Refusal::NoFrame,
-        Refusal::HistoryFull,
-        Refusal::NoSuchWarehouse,
-        Refusal::NoSuchDistrict,
-        Refusal::NoSuchCustomer,
-        Refusal::NoSuchItem,
-        Refusal::OutOfRange,
-        Refusal::Busy,
-        Refusal::NotRunning,
-        Refusal::NotMine,
-        Refusal::BadLoad(LoadFault::Condition(12)),
-        Refusal::BadQuery(3),
-        Refusal::LogFailed,
-        Refusal::LogMalformed(4),
-        Refusal::Closed,
-        Refusal::QueueFull,
-    ];
-    for refusal in refusals {
-        let reason = Reason(refusal);
-        let printed = format!(in alloc; "{reason}").expect(&rt, "a text");
-        let text = format!(in alloc; "{refusal}").expect(&rt, "a text");
-        assert_eq!(rt; printed.as_str(), text.as_str());
     }
     Ok(())
 }

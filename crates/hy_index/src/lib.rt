@@ -6,7 +6,7 @@ ghost use Rattle.hy_frames.specs.FrameTable.{free_of};
 ghost use Rattle.hy_space.specs.Space.{page_count};
 ghost use Rattle.hy_undo.specs.PrivatePages.{IsUndoLog};
 ghost use Rattle.hy_index.specs.Index.{IsInOrder, between, first_from, found, with_entry, without};
-ghost use Rattle.hy_index.specs.Writes.{IsIndex, WritesSegment, entries, pages_of};
+ghost use Rattle.hy_index.specs.Writes.{IsIndex, WritesSegment, entries, entries as entries_of, pages_of};
 ghost use Rattle.hy_index.specs.inside.Layout.{entry_at, entry_of, entry_width, used};
 ghost use Rattle.hy_index.specs.inside.Bounds.{IsSought};
 
@@ -127,15 +127,36 @@ impl<K: Key> Index<K> {
             ≡ between K.is_less low.now high.now
             (entries N K.BYTES K.key_of_bytes (pages_of space.now self.now))) }
     {
+        let mut entries = Vec::new(alloc);
+        self.range_into(space, low, high, &mut entries)?;
+        Ok(entries)
+    }
+
+    /// The entries from one key on that are below another, in place of what the list had. Takes memory only where the
+    /// list has too little room.
+    pub fn range_into<const N: usize>(
+        &self,
+        space: &Space<N>,
+        low: &K,
+        high: &K,
+        entries: &mut Vec<Entry<K>>,
+    ) -> Result<(), AllocError>
+        requires there { self.now < length space.now.owner }
+        requires index { IsIndex N K.BYTES K.bytes_of_key K.key_of_bytes K.IsKey
+            (pages_of space.now self.now) }
+        ensures { OnOk result (entries.new.items
+            ≡ between K.is_less low.now high.now
+            (entries_of N K.BYTES K.key_of_bytes (pages_of space.now self.now))) }
+    {
         let low_bytes = bytes_of(low);
         let first = self.seek(space, low, low_bytes.as_slice());
         let high_bytes = bytes_of(high);
         let end = self.seek(space, high, high_bytes.as_slice());
-        let mut entries = Vec::new(alloc);
+        entries.clear();
         for k in first.place..end.place {
             entries.push(self.entry(space, k))?;
         }
-        Ok(entries)
+        Ok(())
     }
 
     /// Gives a key a slot, in the place of the one that it had.

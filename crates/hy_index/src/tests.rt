@@ -72,6 +72,20 @@ fn keys_stand_in_order(rt: HostRuntime) -> Result<(), Fail> {
 }
 
 #[test]
+fn a_list_is_filled_again(rt: HostRuntime) -> Result<(), Fail> {
+    let mut space: Space<256> = Space::new(rt.alloc(), 1, 4)?;
+    let mut undo = Undo::new(rt.alloc(), &space)?;
+    let places: Index<PlaceKey> = Index::new(0);
+    places.create(&mut space, &mut undo)?;
+    places.insert(&mut space, &mut undo, &at(1, 5), 70)?;
+    places.insert(&mut space, &mut undo, &at(2, 3), 72)?;
+    let mut entries = places.range(rt.alloc(), &space, &at(1, 0), &at(3, 0))?;
+    places.range_into(&space, &at(2, 0), &at(3, 0), &mut entries)?;
+    assert_eq!(rt; entries.len(), 1);
+    Ok(())
+}
+
+#[test]
 fn a_key_has_one_slot(rt: HostRuntime) -> Result<(), Fail> {
     let mut space: Space<256> = Space::new(rt.alloc(), 1, 4)?;
     let mut undo = Undo::new(rt.alloc(), &space)?;

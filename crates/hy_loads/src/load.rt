@@ -14,29 +14,31 @@ use hy_conditions::{CustomerKey, first_broken};
 use hy_rows::{Listed, Lists, Tables, Warehouse};
 use hy_schema::{FileEnd, FileEnds, LoadFault, Refusal, Table};
 use indexmap::IndexSet;
-use std::alloc::Global;
+use std::alloc::{AllocError, Global};
 use std::marker::Model;
+use std::sync::Arc;
 
 /// The rows that a database begins with. Each load meets the rules of its lists and the consistency conditions (TPC-C
-/// clause 3.3.2), since `of` and `of_files` alone make one.
+/// clause 3.3.2), since `of` and `of_files` alone make one. Its lists are held once, however often it is shared.
 #[derive(Drop)]
 pub struct Load {
-    lists: Lists,
+    lists: Arc<Lists>,
 }
 
 impl Model for Load {
+    ghost use Rattle.std.specs.Arc.{arc_value};
     ghost use Rattle.hy_rows.specs.Tables.{Lists};
     ghost use Rattle.hy_schema.specs.Loads.{IsLoad};
 
     ghost Value = { Lists };
 
-    ghost view = { λ load. load.lists };
+    ghost view = { λ load. arc_value load.lists };
 
-    ghost invariant = { λ load. IsLoad load.lists };
+    ghost invariant = { λ load. IsLoad (arc_value load.lists) };
 }
 
 impl Load {
-    ghost use Rattle.std.specs.Prelude.{◌≡◌, ◌⊎◌, ℕ, List, length, MatchResult};
+    ghost use Rattle.std.specs.Prelude.{◌≡◌, ◌⊎◌, ℕ, List, length, IfOk, MatchResult};
     ghost use Rattle.hy_schema.specs.declared.command.Commit.{Commit};
     ghost use Rattle.hy_rows.specs.Tables.{of_warehouse};
     ghost use Rattle.hy_schema.specs.Keys.{HasUniqueKeys};
@@ -64,6 +66,17 @@ impl Load {
             (IsRefusalOf ends lists) }
     {
         check(alloc, &lists, ends)?;
+        match Arc::new(alloc, lists) {
+            Ok(lists) => Ok(Load { lists }),
+            Err(_) => Err(Refusal::NoMemory),
+        }
+    }
+
+    /// The same load once more, with the same lists and no copy of them.
+    pub fn share(&self) -> Result<Load, AllocError>
+        ensures { IfOk result (λ load. load ≡ self.now) }
+    {
+        let lists = Arc::try_clone(&self.lists)?;
         Ok(Load { lists })
     }
 

@@ -1,6 +1,6 @@
 -- The tests of the conditions as statements on each row, and what the rows of one warehouse alone say.
 use Rattle.std.proofs.Common.{◌≡◌, ℕ, zero, suc, ◌+ℤ◌, ◌==◌, Bool, true, false, cond, List, [], ◌∷◌, ◌++◌, filter, refl, ap, ap₂, ◌∙◌}
-use Rattle.std.specs.Prelude.{All, IfSome, slice_get, not, Option, Some, None, option_map, ◌&&◌}
+use Rattle.std.specs.Prelude.{All, IfSome, slice_get, not, Some, None, option_map, ◌&&◌}
 use Rattle.std.specs.List.{flat_map, list_all, find}
 use Rattle.std.proofs.lemmas.Bool.{and_parts, eq-eqb, eqb-true}
 use Rattle.std.specs.Bool.{Decides}

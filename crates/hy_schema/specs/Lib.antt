@@ -1,3 +1,4 @@
+pub mod Refusals
 pub mod Keys
 pub mod Related
 pub mod Commands

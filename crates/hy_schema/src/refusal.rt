@@ -1,11 +1,12 @@
 //! Why a call is refused: E1 to E17.
 
-ghost use Rattle.std.specs.Prelude.{◌≡◌};
+ghost use Rattle.std.specs.Prelude.{◌≡◌, Some};
 ghost use Rattle.hy_schema.specs.declared.refusal.Refusal.TheVariants.{NoMemory};
+ghost use Rattle.hy_schema.specs.Refusals.{load_fault_text, refusal_text, table_text};
 
 use std::alloc::AllocError;
+use std::error::Error;
 use std::fmt;
-use thiserror::Error;
 
 /// A table, as a refusal names it.
 #[derive(Clone, Copy, Debug, PartialEq, Eq)]
@@ -31,6 +32,8 @@ pub enum Table {
 }
 
 impl fmt::Display for Table {
+    ghost output = { λ table. Some (table_text table) };
+
     fn fmt<W: fmt::Write>(&self, f: &mut fmt::Formatter<W>) -> fmt::Result {
         f.write_str(match self {
             Table::Warehouse => "WAREHOUSE",
@@ -57,6 +60,8 @@ pub enum LoadFault {
 }
 
 impl fmt::Display for LoadFault {
+    ghost output = { λ fault. Some (load_fault_text fault) };
+
     fn fmt<W: fmt::Write>(&self, f: &mut fmt::Formatter<W>) -> fmt::Result {
         match self {
             LoadFault::Row(table, number) => write!(f, "{table} row {number}"),
@@ -66,60 +71,71 @@ impl fmt::Display for LoadFault {
 }
 
 /// Why a call refuses. Each refusal has a number and a name, which are its text.
-#[derive(Clone, Copy, Debug, PartialEq, Eq, Error)]
+#[derive(Clone, Copy, Debug, PartialEq, Eq)]
 pub enum Refusal {
     /// A growth in memory was refused.
-    #[error("E1 NoMemory")]
     NoMemory,
     /// Fewer frames are free than the call needs.
-    #[error("E2 NoFrame")]
     NoFrame,
     /// A kept list that the commit must enter is full.
-    #[error("E3 HistoryFull")]
     HistoryFull,
     /// A named warehouse isn't there.
-    #[error("E4 NoSuchWarehouse")]
     NoSuchWarehouse,
     /// A district isn't 1 to 10.
-    #[error("E5 NoSuchDistrict")]
     NoSuchDistrict,
     /// No customer of the district has the number.
-    #[error("E6 NoSuchCustomer")]
     NoSuchCustomer,
     /// An item number isn't in ITEM.
-    #[error("E7 NoSuchItem")]
     NoSuchItem,
     /// A value is outside its range.
-    #[error("E8 OutOfRange")]
     OutOfRange,
     /// A job runs, or its answer wasn't taken.
-    #[error("E9 Busy")]
     Busy,
     /// Nothing runs.
-    #[error("E10 NotRunning")]
     NotRunning,
     /// The snapshot is another warehouse's.
-    #[error("E11 NotMine")]
     NotMine,
     /// Lists of rows are no load.
-    #[error("E12 BadLoad {0}")]
     BadLoad(LoadFault),
     /// A text is no query. The number is the place of the byte at which it fails.
-    #[error("E13 BadQuery {0}")]
     BadQuery(u64),
     /// The log's writer failed in this call or in an earlier one.
-    #[error("E14 LogFailed")]
     LogFailed,
     /// Bytes are no log. The number is the place of the first byte of the batch at fault.
-    #[error("E15 LogMalformed {0}")]
     LogMalformed(u64),
     /// The engine takes no more jobs.
-    #[error("E16 Closed")]
     Closed,
     /// The warehouse's queue is full.
-    #[error("E17 QueueFull")]
     QueueFull,
 }
+
+impl fmt::Display for Refusal {
+    ghost output = { λ refusal. Some (refusal_text refusal) };
+
+    fn fmt<W: fmt::Write>(&self, f: &mut fmt::Formatter<W>) -> fmt::Result {
+        match self {
+            Refusal::NoMemory => f.write_str("E1 NoMemory"),
+            Refusal::NoFrame => f.write_str("E2 NoFrame"),
+            Refusal::HistoryFull => f.write_str("E3 HistoryFull"),
+            Refusal::NoSuchWarehouse => f.write_str("E4 NoSuchWarehouse"),
+            Refusal::NoSuchDistrict => f.write_str("E5 NoSuchDistrict"),
+            Refusal::NoSuchCustomer => f.write_str("E6 NoSuchCustomer"),
+            Refusal::NoSuchItem => f.write_str("E7 NoSuchItem"),
+            Refusal::OutOfRange => f.write_str("E8 OutOfRange"),
+            Refusal::Busy => f.write_str("E9 Busy"),
+            Refusal::NotRunning => f.write_str("E10 NotRunning"),
+            Refusal::NotMine => f.write_str("E11 NotMine"),
+            Refusal::BadLoad(fault) => write!(f, "E12 BadLoad {fault}"),
+            Refusal::BadQuery(place) => write!(f, "E13 BadQuery {place}"),
+            Refusal::LogFailed => f.write_str("E14 LogFailed"),
+            Refusal::LogMalformed(place) => write!(f, "E15 LogMalformed {place}"),
+            Refusal::Closed => f.write_str("E16 Closed"),
+            Refusal::QueueFull => f.write_str("E17 QueueFull"),
+        }
+    }
+}
+
+impl Error for Refusal {}
 
 impl From<AllocError> for Refusal {
     ghost from_gives = { λ _ refusal. refusal ≡ NoMemory };

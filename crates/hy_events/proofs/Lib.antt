@@ -1,0 +1,6 @@
+pub mod LineLaws
+pub mod NumberLaws
+pub mod PartLaws
+pub mod PurchaseLaws
+pub mod WhoLaws
+pub mod WriterLaws

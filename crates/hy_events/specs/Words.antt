@@ -1,0 +1,50 @@
+-- The words of a line, and the numbers that words say.
+use Rattle.std.specs.Prelude.{ℕ, zero, suc, ◌^◌, ◌==◌, ◌&&◌, nat_lt, if◌then◌else◌, List, [], ◌∷◌, Option, None, Some, is_some, option_and_then, bytes_eq, decimal}
+use Rattle.std.specs.List.{slice_split}
+use Rattle.std.specs.Str.Parse.{digits_value}
+
+-- a value, and then what follows from it
+infixl 10 ◌>>=◌
+abbrev pub ◌>>=◌ : {A B : Type 0} → Option A → (A → Option B) → Option B
+value >>= next = option_and_then next value
+
+-- what stands between separators: one part more than there are separators, and an empty one between two neighbours
+abbrev pub parts : ℕ → List ℕ → List (List ℕ)
+parts separator bytes = slice_split (λ byte. byte == separator) bytes
+
+-- words stand between spaces, and the fields of a word between colons
+abbrev pub words : List ℕ → List (List ℕ)
+words line = parts 32 line
+
+abbrev pub fields : List ℕ → List (List ℕ)
+fields word = parts 58 word
+
+-- the first of some words, and the words behind it
+abbrev pub first_word : List (List ℕ) → Option (List ℕ)
+first_word [] = None
+first_word (word ∷ later) = Some word
+
+abbrev pub later_words : List (List ℕ) → List (List ℕ)
+later_words [] = []
+later_words (word ∷ later) = later
+
+-- the words from a place on, counted from 0, and the word there
+abbrev pub words_from : ℕ → List (List ℕ) → List (List ℕ)
+words_from zero words = words
+words_from (suc place) words = words_from place (later_words words)
+
+abbrev pub word_at : ℕ → List (List ℕ) → Option (List ℕ)
+word_at place words = first_word (words_from place words)
+
+-- the number below 2^64 that is written so, if one is: decimal digits, the first of them no zero where others follow
+unfoldable pub number_of : List ℕ → Option ℕ
+number_of word =
+    let number = digits_value 10 word in
+    if nat_lt number (2 ^ 64) && bytes_eq word (decimal number) then Some number else None
+
+abbrev pub number_at : ℕ → List (List ℕ) → Option ℕ
+number_at place words = word_at place words >>= number_of
+
+-- a value, where no word stands behind so many
+abbrev pub of_words : {A : Type 0} → ℕ → List (List ℕ) → A → Option A
+of_words count words value = if is_some (word_at count words) then None else Some value

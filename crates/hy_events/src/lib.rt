@@ -1,0 +1,15 @@
+//! The events of a script, and the lines that stand for replies.
+#![tactic(auto)]
+
+mod command;
+mod event;
+mod lines;
+mod parts;
+mod reply;
+
+pub use event::{Event, EventFault, SnapshotName, read_event};
+pub use lines::{Line, Lines};
+pub use reply::write_reply;
+
+#[cfg(test)]
+mod tests;

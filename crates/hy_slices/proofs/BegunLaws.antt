@@ -1,0 +1,76 @@
+-- What is known of a command that a warehouse begins, where items of its lines may be missing.
+use Rattle.std.proofs.Common.{◌≡◌, ℕ, ◌&&◌, Bool, true, cond, List, [], ◌∷◌, map, Option, Some, None, refl, sym, ap₂, ◌∙◌}
+use Rattle.std.specs.List.{list_all, list_any}
+use Rattle.std.specs.Option.{option_or}
+use Rattle.std.proofs.lemmas.Bool.{and_parts, eq-eqb, or_left, or_right}
+use Rattle.hy_rows.specs.Finding.{is_customer}
+use Rattle.hy_rows.specs.Tables.{Tables}
+use Rattle.hy_rows.specs.declared.item.Item.{Item}
+use Rattle.hy_schema.specs.declared.refusal.Refusal.{Refusal}
+use Rattle.hy_schema.specs.declared.refusal.Refusal.TheVariants as refusals
+use Rattle.hy_schema.specs.Related.{is_item}
+use Rattle.hy_commands.specs.declared.command.Command.{Command}
+use Rattle.hy_commands.specs.declared.command.Command.TheVariants as commands
+use Rattle.hy_commands.specs.declared.command.Delivery.{Delivery}
+use Rattle.hy_commands.specs.declared.command.Payment.{Payment}
+use Rattle.hy_commands.specs.declared.command.Purchase.{Purchase}
+use Rattle.hy_commands.specs.declared.command.PurchaseLine.{PurchaseLine}
+use Rattle.hy_commands.specs.NewOrders.{has_item}
+use Rattle.hy_commands.specs.Transactions.{begin_refusal_of, has_items, refusal_of}
+use Rattle.hy_commands.proofs.AcceptedLaws.{IsAccepted, IsAcceptedDelivery, IsAcceptedPayment, IsAcceptedPurchase, accepted-delivery, accepted-not_refused, accepted-payment, accepted-purchase}
+use Rattle.hy_commands.proofs.ListLaws.{found-any}
+
+-- a command that a warehouse begins is refused exactly where an item isn't there
+pub refusal-begun : (items : List Item) (number : ℕ) (command : Command) (tables : Tables) (known : Bool)
+    → begin_refusal_of number command tables ≡ None → has_items items command ≡ known
+    → refusal_of items number command tables ≡ cond known None (Some refusals.NoSuchItem)
+refusal-begun items number command tables known begins has =
+    ap₂ {C = Option Refusal} (λ first test. option_or first (cond test None (Some refusals.NoSuchItem))) begins has
+
+begun : (items : List Item) (number : ℕ) (command : Command) (tables : Tables)
+    → begin_refusal_of number command tables ≡ None → has_items items command ≡ true
+    → IsAccepted items number command tables
+begun items number command tables begins has =
+    accepted-not_refused items number command tables (refusal-begun items number command tables true begins has)
+
+-- for each line an item with its number: what else a purchase has passed doesn't depend on the items
+abbrev item_for : PurchaseLine → Item
+item_for line = record { id = line.item; image = 0; name = []; price = 0 }
+
+known-more : (item : Item) (items : List Item) (lines : List PurchaseLine) → list_all (has_item items) lines ≡ true
+    → list_all (has_item (item ∷ items)) lines ≡ true
+known-more item items [] known = refl
+known-more item items (line ∷ lines) known =
+    let both = and_parts (has_item items line) (list_all (has_item items) lines) known in
+    ap₂ (λ a b. a && b) (or_right (is_item line.item item) (has_item items line) both.0)
+    (known-more item items lines both.1)
+
+known-own : (lines : List PurchaseLine) → list_all (has_item (map item_for lines)) lines ≡ true
+known-own [] = refl
+known-own (line ∷ lines) =
+    ap₂ (λ a b. a && b)
+    (or_left (is_item line.item (item_for line)) (has_item (map item_for lines) line) (eq-eqb line.item line.item refl))
+    (known-more (item_for line) (map item_for lines) lines (known-own lines))
+
+abbrev own_items : Purchase → List Item
+own_items order = map item_for order.lines
+
+pub begun-purchase : (number : ℕ) (order : Purchase) (tables : Tables)
+    → begin_refusal_of number (commands.NewOrder order) tables ≡ None
+    → IsAcceptedPurchase number order
+    × (list_any (is_customer order.warehouse order.district order.customer) tables.customers ≡ true)
+begun-purchase number order tables begins =
+    let passed = begun (own_items order) number (commands.NewOrder order) tables begins (known-own order.lines) in (
+      accepted-purchase (own_items order) number order tables passed,
+      sym (found-any (is_customer order.warehouse order.district order.customer) tables.customers) ∙ passed.customer,
+    )
+
+pub begun-payment : (number : ℕ) (payment : Payment) (tables : Tables)
+    → begin_refusal_of number (commands.Payment payment) tables ≡ None → IsAcceptedPayment number payment
+begun-payment number payment tables begins =
+    accepted-payment [] number payment tables (begun [] number (commands.Payment payment) tables begins refl)
+
+pub begun-delivery : (number : ℕ) (delivery : Delivery) (tables : Tables)
+    → begin_refusal_of number (commands.Delivery delivery) tables ≡ None → IsAcceptedDelivery number delivery
+begun-delivery number delivery tables begins =
+    accepted-delivery [] number delivery tables (begun [] number (commands.Delivery delivery) tables begins refl)

@@ -1,0 +1,199 @@
+-- The numbers of a warehouse between the slices of a command.
+use Rattle.std.proofs.Common.{◌≡◌, ℕ, zero, suc, ◌+◌, ◌-◌, ◌*◌, ◌≤◌, true, List, length, slice_get, Option, Some, None, refl, sym, subst, arith}
+use Rattle.std.specs.Prelude.{All}
+use Rattle.std.specs.Option.{IfSome}
+use Rattle.std.proofs.lemmas.Bool.{and_parts}
+use Rattle.std.proofs.lemmas.List.Sums.{AllPass-from_list_all}
+use Rattle.std.proofs.lemmas.Option.{IfSome_then, get_or_from_slice_get, slice_get_within}
+use Rattle.hy_rows.specs.Finding.{is_district}
+use Rattle.hy_rows.specs.Ranges.{IsBetween}
+use Rattle.hy_rows.specs.Tables.{Lists, Tables, of_warehouse}
+use Rattle.hy_rows.specs.declared.item.Item.{Item}
+use Rattle.hy_rows.proofs.BetweenLaws.{bounds}
+use Rattle.hy_schema.specs.Loads.{IsItemAt, IsLoad, IsWarehouseAt}
+use Rattle.hy_commands.specs.declared.command.Command.{Command}
+use Rattle.hy_commands.specs.declared.command.Command.TheVariants as commands
+use Rattle.hy_commands.specs.declared.command.Commit.{Commit}
+use Rattle.hy_commands.specs.declared.command.Delivery.{Delivery}
+use Rattle.hy_commands.specs.declared.command.Payment.{Payment}
+use Rattle.hy_commands.specs.declared.command.Purchase.{Purchase}
+use Rattle.hy_commands.specs.declared.command.PurchaseLine.{PurchaseLine}
+use Rattle.hy_commands.specs.Commands.{is_line_in_range}
+use Rattle.hy_commands.specs.Growth.{HasGrownBy, IsDistrictUpTo}
+use Rattle.hy_commands.specs.Invariant.{IsSoundWarehouse}
+use Rattle.hy_commands.specs.NewOrders.{order_number}
+use Rattle.hy_commands.specs.Replay.{replay}
+use Rattle.hy_commands.specs.Transactions.{begin_refusal_of, payer}
+use Rattle.hy_commands.proofs.GrowthLaws.{ItemsFit, grown-later, grown-paid, payer-small}
+use Rattle.hy_commands.proofs.Grown.{grown-commits}
+use Rattle.hy_commands.proofs.Kept.{sound-replay}
+use Rattle.hy_commands.proofs.ListLaws.{All-find}
+use Rattle.hy_commands.proofs.SoundLoad.{all-by_place, sound-load}
+use Rattle.hy_slices.specs.Slices.{after_slices, has_item_at, has_items_before, headed_number, is_known, line_behind, lined, slice_count, with_line}
+use Rattle.hy_slices.proofs.BegunLaws.{begun-delivery, begun-payment, begun-purchase}
+use Rattle.hy_slices.proofs.BetweenSlices.{level-slices, number-slices, sound-slices, status-slices}
+use Rattle.hy_slices.proofs.GrowingLaws.{IsGrowing, growing-delivered_in, growing-end, growing-headed, growing-later, growing-lined, growing-start}
+use Rattle.hy_slices.proofs.SliceLaws.{take-more}
+use Rattle.hy_slices.proofs.WholeLaws.{home-district, number-is, whole-sound}
+
+-- what holds of all rows holds of the one at a place
+All-at : {Row : Type 0} (P : Row → Type 0) (rows : List Row) (place : ℕ) (row : Row) → slice_get rows place ≡ Some row
+    → All P rows → P row
+All-at P rows place row is all =
+    subst P (get_or_from_slice_get rows place row row is) (all place row (slice_get_within rows place row is))
+
+module _ (items : List Item) (fits : ItemsFit items) (number : ℕ) (near : number ≤ 16) (n : ℕ) (tables : Tables) (sound : IsSoundWarehouse items number tables) (grown : HasGrownBy n tables) where
+  -- ---- a purchase
+
+  module _ (order : Purchase) (begins : begin_refusal_of number (commands.NewOrder order) tables ≡ None) where
+    abbrev after : ℕ → Tables
+    after done = after_slices items number (commands.NewOrder order) done tables
+
+    number-small : order_number order tables ≤ 1_000_000_000 + n
+    number-small =
+        let passed = begun-purchase number order tables begins in
+        let whole = whole-sound items number tables sound in
+        let home = home-district items number order tables passed.0 passed.1 whole in
+        let next = (All-find (IsDistrictUpTo n) (is_district order.warehouse order.district) tables.districts home.0
+        grown.districts home.1).next_order in
+        let is = number-is items number order tables passed.0 passed.1 whole home.0 home.1 in
+        omega (arith, is, next)
+
+    -- the next line
+    growing-line : (done : ℕ) (state : Tables) (line : Option PurchaseLine) → done + 1 ≤ 15
+        → slice_get order.lines done ≡ line → is_known items line ≡ true
+        → headed_number order state ≤ 1_000_000_000 + (n + 1)
+        → IsGrowing (n + 1) (10 * n) (15 * n + done) state
+        → IsGrowing (n + 1) (10 * n) (15 * n + suc done) (with_line items number order (done + 1) state line)
+    growing-line done state None within is known low growing =
+        growing-later (n + 1) (10 * n) (10 * n) (15 * n + done) (15 * n + suc done) state (omega arith) (omega arith)
+        growing
+    growing-line done state (Some line) within is known low growing =
+        let passed = begun-purchase number order tables begins in
+        let in_range = All-at (λ line. is_line_in_range line ≡ true) order.lines done line is
+        (AllPass-from_list_all is_line_in_range order.lines (passed.0).in_range) in
+        let own = All-at (λ line. line.supply_warehouse ≡ number) order.lines done line is (passed.0).suppliers in
+        let taken : ℕ = headed_number order state in
+        growing-later (n + 1) (10 * n) (10 * n) (15 * n + done + 1) (15 * n + suc done)
+        (lined items number order taken (done + 1) state line) (omega arith) (omega arith)
+        (growing-lined items fits number order taken (done + 1) line (n + 1) low within
+        (bounds 1 10 line.quantity in_range).1 (omega (arith, own, near)) known (10 * n) (15 * n + done) state growing)
+
+    growing-purchase : (done : ℕ) → done ≤ length order.lines
+        → has_items_before items (commands.NewOrder order) (suc done) ≡ true
+        → IsGrowing (n + 1) (10 * n) (15 * n + done) (after (suc done))
+    growing-purchase zero within known =
+        let passed = begun-purchase number order tables begins in
+        growing-later (n + 1) (10 * n) (10 * n) (15 * n) (15 * n + 0) (after 1) (omega arith) (omega arith)
+        (growing-headed number order tables n number-small (passed.0).count (passed.0).moment passed.1 grown)
+    growing-purchase (suc done) within known =
+        let both = and_parts (has_items_before items (commands.NewOrder order) (suc done))
+        (has_item_at items (commands.NewOrder order) (suc done)) known in
+        let few = (bounds 5 15 (length order.lines) ((begun-purchase number order tables begins).0).count).1 in
+        let next = number-slices items number order tables sound begins done in
+        growing-line done (after (suc done)) (line_behind order done) (omega (arith, few)) refl both.1
+        (omega (arith, next, number-small)) (growing-purchase done (omega arith) both.0)
+
+    grown-purchase : (done : ℕ) → done ≤ length order.lines + 1
+        → has_items_before items (commands.NewOrder order) done ≡ true → HasGrownBy (n + 1) (after done)
+    grown-purchase zero within known = grown-later n tables grown
+    grown-purchase (suc done) within known =
+        let few = (bounds 5 15 (length order.lines) ((begun-purchase number order tables begins).0).count).1 in
+        growing-end (n + 1) (10 * n) (15 * n + done) (after (suc done)) (omega arith) (omega (arith, few, within))
+        (growing-purchase done (omega (arith, within)) known)
+
+  -- ---- a payment
+
+  grown-payment : (payment : Payment) (done : ℕ) → begin_refusal_of number (commands.Payment payment) tables ≡ None
+      → done ≤ 2 → HasGrownBy (n + 1) (after_slices items number (commands.Payment payment) done tables)
+  grown-payment payment zero begins within = grown-later n tables grown
+  grown-payment payment (suc done) begins within =
+      let passed = begun-payment number payment tables begins in
+      let customer : ℕ = (payer payment tables).id in
+      let paid = grown-paid payment (payer payment tables).id tables n passed.amount passed.moment
+      (payer-small payment tables n (10 * n) grown.customers) grown in
+      let later = grown-later n tables grown in
+      rest done (omega (arith, within)) paid record {
+        warehouses = paid.warehouses;
+        districts = paid.districts;
+        customers = later.customers;
+        history = paid.history;
+        orders = paid.orders;
+        new_orders = paid.new_orders;
+        order_lines = paid.order_lines;
+        stock = paid.stock;
+      }
+    where
+      rest : (done : ℕ) → done ≤ 1
+          → HasGrownBy (n + 1) (after_slices items number (commands.Payment payment) 2 tables)
+          → HasGrownBy (n + 1) (after_slices items number (commands.Payment payment) 1 tables)
+          → HasGrownBy (n + 1) (after_slices items number (commands.Payment payment) (suc done) tables)
+      rest zero within all first = first
+      rest (suc zero) within all first = all
+      rest (suc (suc done)) within all first = absurd (omega arith)
+
+  -- ---- a delivery
+
+  module _ (delivery : Delivery) (begins : begin_refusal_of number (commands.Delivery delivery) tables ≡ None) where
+    growing-delivery : (done : ℕ)
+        → IsGrowing (n + 1) (10 * n + done) (15 * n) (after_slices items number (commands.Delivery delivery) done tables)
+    growing-delivery zero =
+        growing-later (n + 1) (10 * n) (10 * n + 0) (15 * n) (15 * n) tables (omega arith) (omega arith)
+        (growing-start n tables grown)
+    growing-delivery (suc done) =
+        let passed = begun-delivery number delivery tables begins in
+        let before : Tables = after_slices items number (commands.Delivery delivery) done tables in
+        growing-later (n + 1) (10 * n + done + 1) (10 * n + suc done) (15 * n) (15 * n)
+        (after_slices items number (commands.Delivery delivery) (suc done) tables) (omega arith) (omega arith)
+        (growing-delivered_in items number delivery passed.carrier passed.moment (n + 1) (10 * n + done) (15 * n) before
+        (done + 1) (sound-slices items number delivery tables sound begins done) (growing-delivery done))
+
+    grown-delivery : (done : ℕ) → done ≤ 10
+        → HasGrownBy (n + 1) (after_slices items number (commands.Delivery delivery) done tables)
+    grown-delivery done within =
+        growing-end (n + 1) (10 * n + done) (15 * n) (after_slices items number (commands.Delivery delivery) done tables)
+        (omega (arith, within)) (omega arith) (growing-delivery done)
+
+  -- ---- all commands
+
+  grown-slices : (command : Command) (done : ℕ) → begin_refusal_of number command tables ≡ None
+      → done ≤ slice_count command → has_items_before items command done ≡ true
+      → HasGrownBy (n + 1) (after_slices items number command done tables)
+  grown-slices (commands.NewOrder order) done begins within known = grown-purchase order begins done within known
+  grown-slices (commands.Payment payment) done begins within known = grown-payment payment done begins within
+  grown-slices (commands.OrderStatus status) done begins within known =
+      subst (HasGrownBy (n + 1)) (sym (status-slices items number status tables done)) (grown-later n tables grown)
+  grown-slices (commands.Delivery delivery) done begins within known = grown-delivery delivery begins done within
+  grown-slices (commands.StockLevel level) done begins within known =
+      subst (HasGrownBy (n + 1)) (sym (level-slices items number level tables done)) (grown-later n tables grown)
+
+-- ---- loads
+
+module _ (load : Lists) (is_load : IsLoad load) where
+  items-fit : ItemsFit load.items
+  items-fit =
+      all-by_place (λ row. (row.id ≤ 100_000) × (row.price ≤ 1_000_000)) load.items
+      (λ place. IfSome_then (slice_get load.items place) {P = IsItemAt place}
+      {Q = λ row. (row.id ≤ 100_000) × (row.price ≤ 1_000_000)} (is_load.items.each place)
+      (λ row right. ((bounds 1 100_000 row.id (right.0).id).1, (bounds 1 1_000_000 row.price (right.0).price).1)))
+
+  -- the number of a warehouse is that of its row
+  number-near : (number : ℕ) → IsBetween 1 (length load.tables.warehouses) number → number ≤ 16
+  number-near number between =
+      let ends = bounds 1 (length load.tables.warehouses) number between in
+      let row = take-more load.tables.warehouses (number - 1) (omega (arith, ends.0, ends.1)) in
+      let right : IsWarehouseAt (number - 1) row.0 = subst (λ row. IfSome row (IsWarehouseAt (number - 1))) row.1
+      (is_load.warehouses.each (number - 1)) in
+      omega (arith, ends.0, (bounds 1 16 (row.0).id (right.0).id).1, right.1)
+
+  pub grown-between : (number : ℕ) (commits : List Commit) (command : Command) (done : ℕ)
+      → IsBetween 1 (length load.tables.warehouses) number
+      → begin_refusal_of number command (replay load.items number (of_warehouse number load.tables) commits) ≡ None
+      → done ≤ slice_count command → has_items_before load.items command done ≡ true
+      → HasGrownBy (length commits + 1) (after_slices load.items number command done
+      (replay load.items number (of_warehouse number load.tables) commits))
+  grown-between number commits command done between begins within known =
+      grown-slices load.items items-fit number (number-near number between) (length commits)
+      (replay load.items number (of_warehouse number load.tables) commits)
+      (sound-replay load.items number (of_warehouse number load.tables) commits (sound-load number load is_load between))
+      (grown-commits load is_load number commits between) command done begins within known

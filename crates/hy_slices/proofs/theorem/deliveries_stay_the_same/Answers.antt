@@ -1,0 +1,7 @@
+-- Each slice leaves the undelivered orders of the districts behind it.
+use Rattle.hy_slices.proofs.BetweenSlices.{oldest-before}
+use Rattle.hy_slices.proofs.theorem.deliveries_stay_the_same.Goals as goal
+
+pub returns : goal.returns
+returns c = λ items number delivery tables done district sound begins before between.
+    oldest-before items number delivery tables sound begins done district before

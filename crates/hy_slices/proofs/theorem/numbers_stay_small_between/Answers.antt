@@ -1,0 +1,7 @@
+-- A load's numbers are small, and each commit, and each slice behind it, adds as much as it can.
+use Rattle.hy_slices.proofs.GrowingSlices.{grown-between}
+use Rattle.hy_slices.proofs.theorem.numbers_stay_small_between.Goals as goal
+
+pub returns : goal.returns
+returns c = λ lists number commits command done is_load between begins within known.
+    grown-between lists is_load number commits command done between begins within known

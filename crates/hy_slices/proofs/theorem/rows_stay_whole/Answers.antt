@@ -1,0 +1,8 @@
+-- The head and each line of a purchase keep the rows whole; a payment's first slice is a part of the payment, and each
+-- slice of a delivery keeps the rows sound.
+use Rattle.hy_slices.proofs.BetweenSlices.{whole-slices}
+use Rattle.hy_slices.proofs.theorem.rows_stay_whole.Goals as goal
+
+pub returns : goal.returns
+returns c = λ items number command tables done sound begins within known.
+    whole-slices items number command tables done sound begins within known

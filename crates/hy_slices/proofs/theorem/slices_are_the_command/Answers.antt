@@ -1,0 +1,15 @@
+-- A purchase by induction on its lines; the others compute.
+use Rattle.hy_slices.proofs.SliceLaws.{slices-act, slices-not_refused, slices-refused}
+use Rattle.hy_slices.proofs.theorem.slices_are_the_command.Goals as goal
+
+pub returns-clause-rows : goal.returns-clause-rows
+returns-clause-rows c = λ items number command tables begins known. slices-act items number command tables begins known
+
+pub returns-clause-accepted : goal.returns-clause-accepted
+returns-clause-accepted c =
+    λ items number command tables begins known. slices-not_refused items number command tables begins known
+
+pub returns-clause-refused : goal.returns-clause-refused
+returns-clause-refused c =
+    λ items number command tables done begins within unknown.
+    slices-refused items number command tables done begins unknown

@@ -1,0 +1,3 @@
+pub mod SlotLaws
+pub mod StoreLaws
+pub mod EmptyLaws

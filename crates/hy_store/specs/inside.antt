@@ -1,0 +1,2 @@
+-- What the proofs of this crate speak of, and no public contract.
+pub mod Places

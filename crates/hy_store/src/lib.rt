@@ -1,0 +1,19 @@
+//! The rows of a warehouse and the indexes over them, on the pages of one space.
+#![tactic(auto)]
+
+mod create;
+mod indexes;
+mod keys;
+mod rows;
+
+pub use create::empty_store;
+pub use indexes::{
+    Indexed, find_slot, first_entry, insert_entry, know_entries, read_entries, remove_entry,
+};
+pub use keys::{CustomerKey, LineKey, OrderKey, WaitingKey};
+pub use rows::{
+    Lasting, count_rows, erase_new_order, know_store, push_new_order, push_row, put_row, row_at,
+};
+
+#[cfg(test)]
+mod tests;

@@ -1,0 +1,198 @@
+//! The rows of the tables, each at a place of its list, and the slots of NEW-ORDER.
+
+ghost use Rattle.std.specs.Prelude.{◌≡◌, ◌≢◌, ℕ, ◌<◌, ◌++◌, ◌∷◌, [], Some, None, IfOk, OnOk, IsErrOf, length, map, slice_get, slice_set};
+ghost use Rattle.hy_frames.specs.FrameTable.{free_of};
+ghost use Rattle.hy_rows.specs.Spelling.{HasTables, live_rows, new_order_segment, tables_of};
+ghost use Rattle.hy_space.specs.Space.{owner_bytes};
+ghost use Rattle.hy_undo.specs.PrivatePages.{IsUndoLog};
+ghost use Rattle.hy_relation.specs.Relation.{HasRelation, IsLive, relation_slots};
+ghost use Rattle.hy_store.specs.Stored.{HasStore, Stored, all_segments};
+ghost use Rattle.hy_store.specs.Writes.{WritesStore, stored_in};
+
+use hy_frames::Shortage;
+use hy_relation::Relation;
+use hy_rows::{Customer, District, History, NewOrder, Order, OrderLine, Row, Stock, Warehouse};
+use hy_space::Space;
+use hy_undo::Undo;
+
+/// A row of a table that never loses one: the row of slot k stands at place k of the list.
+pub trait Lasting: Row {
+    /// NEW-ORDER alone loses rows.
+    ghost lasts: { Self.Row.SEGMENT ≢ new_order_segment };
+}
+
+impl Lasting for Warehouse {
+    ghost use Rattle.std.proofs.Common.{rules};
+
+    ghost lasts = { Prim.search rules };
+}
+
+impl Lasting for District {
+    ghost use Rattle.std.proofs.Common.{rules};
+
+    ghost lasts = { Prim.search rules };
+}
+
+impl Lasting for Customer {
+    ghost use Rattle.std.proofs.Common.{rules};
+
+    ghost lasts = { Prim.search rules };
+}
+
+impl Lasting for History {
+    ghost use Rattle.std.proofs.Common.{rules};
+
+    ghost lasts = { Prim.search rules };
+}
+
+impl Lasting for Order {
+    ghost use Rattle.std.proofs.Common.{rules};
+
+    ghost lasts = { Prim.search rules };
+}
+
+impl Lasting for OrderLine {
+    ghost use Rattle.std.proofs.Common.{rules};
+
+    ghost lasts = { Prim.search rules };
+}
+
+impl Lasting for Stock {
+    ghost use Rattle.std.proofs.Common.{rules};
+
+    ghost lasts = { Prim.search rules };
+}
+
+/// What the pages of a store are: that all tables are there, as what they say has them.
+pub fn know_store<const N: usize>(space: &Space<N>)
+    requires { HasStore N (owner_bytes space.now) }
+    ensures tables { HasTables N (owner_bytes space.now) }
+    ensures rows { (stored_in N space.now).tables ≡ tables_of N (owner_bytes space.now) }
+    ensures new_orders { (stored_in N space.now).tables.new_orders
+        ≡ live_rows (stored_in N space.now).new_order_slots }
+{}
+
+/// The segment of each table is a relation.
+fn know_relation<R: Row, const N: usize>(_space: &Space<N>)
+    requires { HasStore N (owner_bytes _space.now) }
+    ensures { HasRelation N R.SEGMENT R.BYTES _space.now }
+{}
+
+/// Where a table never loses a row, each of its slots has one.
+fn know_rows<R: Lasting, const N: usize>(_space: &Space<N>)
+    requires { HasStore N (owner_bytes _space.now) }
+    ensures relation { HasRelation N R.SEGMENT R.BYTES _space.now }
+    ensures slots { relation_slots N R.SEGMENT R.BYTES R.row_of_bytes _space.now
+        ≡ map Some (R.rows_in (stored_in N _space.now).tables) }
+{}
+
+/// How many rows a table has.
+pub fn count_rows<R: Lasting, const N: usize>(space: &Space<N>) -> u64
+    requires { HasStore N (owner_bytes space.now) }
+    ensures { result ≡ length (R.rows_in (stored_in N space.now).tables) }
+{
+    know_rows::<R, N>(space);
+    Relation::<R>::new().slots(space)
+}
+
+/// The row at a place of its table.
+pub fn row_at<R: Lasting, const N: usize>(space: &Space<N>, place: u64) -> R
+    requires store { HasStore N (owner_bytes space.now) }
+    requires there { place < length (R.rows_in (stored_in N space.now).tables) }
+    ensures { slice_get (R.rows_in (stored_in N space.now).tables) place ≡ Some result }
+{
+    know_rows::<R, N>(space);
+    match Relation::<R>::new().get(space, place) {
+        Some(row) => row,
+        None => unreachable!(),
+    }
+}
+
+/// Puts a row in the place of another.
+pub fn put_row<R: Lasting, const N: usize>(
+    space: &mut Space<N>,
+    undo: &mut Undo<N>,
+    place: u64,
+    row: &R,
+) -> Result<(), Shortage>
+    requires store { HasStore N (owner_bytes space.old) }
+    requires there { place < length (R.rows_in (stored_in N space.old).tables) }
+    requires undo_log { IsUndoLog N space.old undo.old }
+    ensures store { OnOk result (HasStore N (owner_bytes space.new)) }
+    ensures put { OnOk result (stored_in N space.new ≡ record (stored_in N space.old) {
+      tables = R.with_rows (stored_in N space.old).tables
+          (slice_set (R.rows_in (stored_in N space.old).tables) place row.now);
+    }) }
+    ensures writes { WritesStore N space.old space.new undo.old undo.new }
+    ensures no_frame { IsErrOf result Shortage.NoFrame → free_of space.new.frames ≡ 0 }
+{
+    know_rows::<R, N>(space);
+    Relation::<R>::new().put(space, undo, place, row)
+}
+
+/// Adds a row behind those of its table, and answers its place.
+pub fn push_row<R: Lasting, const N: usize>(
+    space: &mut Space<N>,
+    undo: &mut Undo<N>,
+    row: &R,
+) -> Result<u64, Shortage>
+    requires store { HasStore N (owner_bytes space.old) }
+    requires undo_log { IsUndoLog N space.old undo.old }
+    ensures store { OnOk result (HasStore N (owner_bytes space.new)) }
+    ensures pushed { OnOk result (stored_in N space.new ≡ record (stored_in N space.old) {
+      tables = R.with_rows (stored_in N space.old).tables
+          (R.rows_in (stored_in N space.old).tables ++ row.now ∷ []);
+    }) }
+    ensures place { IfOk result (λ place. place ≡ length (R.rows_in (stored_in N space.old).tables)) }
+    ensures writes { WritesStore N space.old space.new undo.old undo.new }
+    ensures no_frame { IsErrOf result Shortage.NoFrame → free_of space.new.frames ≡ 0 }
+{
+    know_rows::<R, N>(space);
+    Relation::<R>::new().push(space, undo, row)
+}
+
+/// Adds a row to NEW-ORDER, and answers its slot.
+pub fn push_new_order<const N: usize>(
+    space: &mut Space<N>,
+    undo: &mut Undo<N>,
+    row: &NewOrder,
+) -> Result<u64, Shortage>
+    requires store { HasStore N (owner_bytes space.old) }
+    requires undo_log { IsUndoLog N space.old undo.old }
+    ensures store { OnOk result (HasStore N (owner_bytes space.new)) }
+    ensures pushed { OnOk result (stored_in N space.new ≡ record (stored_in N space.old) {
+      tables = record (stored_in N space.old).tables {
+        new_orders = (stored_in N space.old).tables.new_orders ++ row.now ∷ [];
+      };
+      new_order_slots = (stored_in N space.old).new_order_slots ++ Some row.now ∷ [];
+    }) }
+    ensures slot { IfOk result (λ slot. slot ≡ length (stored_in N space.old).new_order_slots) }
+    ensures writes { WritesStore N space.old space.new undo.old undo.new }
+    ensures no_frame { IsErrOf result Shortage.NoFrame → free_of space.new.frames ≡ 0 }
+{
+    know_relation::<NewOrder, N>(space);
+    Relation::<NewOrder>::new().push(space, undo, row)
+}
+
+/// Erases the row of a slot of NEW-ORDER that has one.
+pub fn erase_new_order<const N: usize>(
+    space: &mut Space<N>,
+    undo: &mut Undo<N>,
+    slot: u64,
+) -> Result<(), Shortage>
+    requires store { HasStore N (owner_bytes space.old) }
+    requires live { IsLive (stored_in N space.old).new_order_slots slot }
+    requires undo_log { IsUndoLog N space.old undo.old }
+    ensures store { OnOk result (HasStore N (owner_bytes space.new)) }
+    ensures erased { OnOk result (stored_in N space.new ≡ record (stored_in N space.old) {
+      tables = record (stored_in N space.old).tables {
+        new_orders = live_rows (slice_set (stored_in N space.old).new_order_slots slot None);
+      };
+      new_order_slots = slice_set (stored_in N space.old).new_order_slots slot None;
+    }) }
+    ensures writes { WritesStore N space.old space.new undo.old undo.new }
+    ensures no_frame { IsErrOf result Shortage.NoFrame → free_of space.new.frames ≡ 0 }
+{
+    know_relation::<NewOrder, N>(space);
+    Relation::<NewOrder>::new().erase(space, undo, slot)
+}
