@@ -1,0 +1,22 @@
+use Rattle.std.proofs.Common.{lit<, slice_get, subst, sym}
+use Rattle.hy_fill.specs.Finds.{IsIndexOf}
+use Rattle.hy_fill.specs.Indexes.{buyer_key_at}
+use Rattle.hy_store.specs.Writes.{stored_in}
+use Rattle.hy_fill.proofs.last_orders.fill_last_orders.Goals as goal
+
+pub give_orders-requires : goal.give_orders-requires
+give_orders-requires g c = (
+  lit< tt,
+  (
+    lit< tt,
+    (
+      c.requires.ready,
+      (
+        subst (IsIndexOf buyer_key_at (slice_get (stored_in g.row.N c.args.space.now).tables.orders)) (sym c.as_slice.ensures.value)
+            (subst (λ orders. IsIndexOf buyer_key_at (slice_get orders) c.in_ok-entries.entries.items) (sym c.requires.orders)
+            c.in_ok-entries.ensures),
+        c.requires.empty,
+      ),
+    ),
+  ),
+)

@@ -1,0 +1,81 @@
+use Rattle.std.proofs.Common.{rules, ◌≡◌, ◌++◌, ◌∷◌, [], ℕ, ◌<◌, List, length, take, get_or, lit<, sym, ap, subst, ◌∙◌}
+use Rattle.std.proofs.lemmas.List.{take_all, take_more}
+use Rattle.std.proofs.lemmas.Option.{slice_get-get_or}
+use Rattle.hy_rows.specs.declared.order.Order.{Order}
+use Rattle.hy_index.specs.declared.key.Entry.{Entry}
+use Rattle.hy_store.specs.declared.keys.CustomerKey.{CustomerKey}
+use Rattle.hy_store.specs.Stored.{Stored}
+use Rattle.hy_store.specs.Writes.{stored_in}
+use Rattle.hy_layout.specs.Finds.{IsIn}
+use Rattle.hy_fill.specs.Indexes.{AreLastOrders}
+use Rattle.hy_fill.specs.inside.LastOrders.{AreLastOf, with_order}
+use Rattle.hy_fill.proofs.EntryLaws.{in-take}
+use Rattle.hy_fill.proofs.LastOrderLaws.{found-within, last-all, last-given, slot-within}
+use Rattle.hy_layout.proofs.MemberLaws.{in-place}
+use Rattle.hy_fill.proofs.last_orders.give_orders.Goals as goal
+
+pub give_order-requires : goal.give_order-requires
+give_order-requires g c =
+    let first : Stored = stored_in g.row.N c.args.space.now in
+    let s : Stored = stored_in g.row.N c.loop-entry.space in
+    let none : Entry CustomerKey = record { key = record { district = 0; customer = 0 }; slot = 0 } in
+    let entries : List (Entry CustomerKey) = c.args.entries.now in
+    let index : ℕ = c.loop-entry.entry-index in
+    let entry : Entry CustomerKey = get_or entries index none in
+    let here : IsIn entry entries =
+    in-place entries index entry (slice_get-get_or entries index none c.loop-entry-test.true) in
+    let same : first.tables.orders ≡ s.tables.orders = sym (ap (λ (x : Stored). x.tables.orders) c.loop-entry.invariant.only) in (
+      lit< tt,
+      (
+        lit< tt,
+        (
+          c.loop-entry.invariant.ready,
+          (
+            subst (λ (orders : List Order). entry.slot < length orders) same
+                (slot-within first.tables.orders entries c.requires.orders entry here),
+            λ slot is. subst (λ (orders : List Order). slot < length orders) same
+                (found-within first.tables.orders entries (take index entries) s.last_orders c.requires.orders
+                (in-take index entries) c.loop-entry.invariant.last_orders entry.key slot is),
+          ),
+        ),
+      ),
+    )
+
+-- one order more
+pub loop-entry-preserved : goal.loop-entry-preserved
+loop-entry-preserved g c =
+    let first : Stored = stored_in g.row.N c.args.space.now in
+    let s : Stored = stored_in g.row.N c.loop-entry.space in
+    let now : Stored = stored_in g.row.N c.give_order.new.space in
+    let none : Entry CustomerKey = record { key = record { district = 0; customer = 0 }; slot = 0 } in
+    let entries : List (Entry CustomerKey) = c.args.entries.now in
+    let index : ℕ = c.loop-entry.entry-index in
+    let entry : Entry CustomerKey = get_or entries index none in
+    let same : s.tables.orders ≡ first.tables.orders = ap (λ (x : Stored). x.tables.orders) c.loop-entry.invariant.only in
+    let last : now.last_orders ≡ with_order first.tables.orders entry s.last_orders =
+    ap (λ (x : Stored). x.last_orders) c.in_ok-give_order.ensures.given
+    ∙ ap (λ (orders : List Order). with_order orders entry s.last_orders) same in
+    record {
+      ready = c.in_ok-give_order.ensures.ready;
+      last_orders = subst (λ (given : List (Entry CustomerKey)). AreLastOf first.tables.orders given now.last_orders)
+          (sym (take_more entries index none c.loop-entry-test.true))
+          (subst (AreLastOf first.tables.orders (take index entries ++ entry ∷ [])) (sym last)
+          (last-given first.tables.orders (take index entries) s.last_orders entry c.loop-entry.invariant.last_orders));
+      only = c.in_ok-give_order.ensures.given
+          ∙ ap (λ (x : Stored). record x { last_orders = with_order s.tables.orders entry s.last_orders })
+          c.loop-entry.invariant.only
+          ∙ ap (λ (last : List (Entry CustomerKey)). record first { last_orders = last })
+          (sym (ap (λ (x : Stored). x.last_orders) c.in_ok-give_order.ensures.given));
+      stays = search rules;
+    }
+
+pub returns-clause-last_orders : goal.returns-clause-last_orders
+returns-clause-last_orders g c =
+    let first : Stored = stored_in g.row.N c.args.space.now in
+    let s : Stored = stored_in g.row.N c.loop-entry.space in
+    let entries : List (Entry CustomerKey) = c.args.entries.now in
+    subst (λ (orders : List Order). AreLastOrders orders s.last_orders)
+    (sym (ap (λ (x : Stored). x.tables.orders) c.loop-entry.invariant.only))
+    (last-all first.tables.orders entries s.last_orders c.requires.orders
+    (subst (λ (given : List (Entry CustomerKey)). AreLastOf first.tables.orders given s.last_orders)
+    (take_all c.loop-entry.entry-index entries c.loop-entry-test.false) c.loop-entry.invariant.last_orders))

@@ -1,0 +1,17 @@
+use Rattle.std.proofs.Common.{◌≡◌, take}
+use Rattle.hy_store.specs.Writes.{stored_in}
+use Rattle.hy_fill.specs.inside.Filling.{IsReady, StaysOpen}
+use Rattle.hy_fill.specs.inside.LastOrders.{AreLastOf}
+use Rattle.hy_fill.proofs.last_orders.give_orders.Given as goal
+
+-- of the orders so far, each customer has one with the greatest number
+abbrev pub invariant-loop-entry : goal.invariant-loop-entry
+invariant-loop-entry g l = record {
+  ready : IsReady g.row.N l.space l.undo;
+  last_orders : AreLastOf (stored_in g.row.N l.fn.space).tables.orders (take l.entry-index l.entries)
+      (stored_in g.row.N l.space).last_orders;
+  only : stored_in g.row.N l.space ≡ record (stored_in g.row.N l.fn.space) {
+    last_orders = (stored_in g.row.N l.space).last_orders;
+  };
+  stays : StaysOpen l.fn.space l.space;
+}

@@ -1,0 +1,4 @@
+pub mod Finds
+pub mod Indexes
+pub mod WorkedRows
+pub mod inside

@@ -1,0 +1,105 @@
+//! The pages that a warehouse begins with.
+
+ghost use Rattle.std.specs.Prelude.{◌≡◌, ◌≤◌, [], IfOk, OnOk, slice_get};
+ghost use Rattle.hy_frames.specs.FrameTable.{IsPageSize, max_frames as most_frames};
+ghost use Rattle.hy_space.specs.Space.{owner_bytes};
+ghost use Rattle.hy_layout.specs.Layout.{own_rows};
+ghost use Rattle.hy_store.specs.Stored.{HasStore, nothing_stored};
+ghost use Rattle.hy_store.specs.Writes.{stored_in};
+ghost use Rattle.hy_fill.specs.Indexes.{HasIndexes, line_key_at, order_key_at, waiting_key_at};
+ghost use Rattle.hy_fill.specs.inside.Filling.{IsReady, StaysOpen, TellsApart, without_indexes};
+
+use crate::entries::fill_index;
+use crate::last_orders::fill_last_orders;
+use crate::rows::{push_new_orders, push_rows};
+use hy_commands::conditions_are_kept;
+use hy_frames::Shortage;
+use hy_layout::Layout;
+use hy_rows::{Customer, District, History, NewOrder, Order, OrderLine, Stock, Warehouse};
+use hy_space::Space;
+use hy_store::{LineKey, OrderKey, WaitingKey, empty_store};
+use hy_undo::Undo;
+use std::alloc::Global;
+
+/// Pages with the loaded rows of a warehouse and their entries in the indexes. Takes n log n time for n rows, however
+/// the load orders them. E2 where `max_frames` is too small for the rows.
+pub fn filled_store<const N: usize>(
+    alloc: Global,
+    layout: &Layout,
+    max_frames: u64,
+) -> Result<Space<N>, Shortage>
+    requires size { IsPageSize N }
+    requires some { 1 ≤ max_frames }
+    requires limit { max_frames ≤ most_frames }
+    ensures store { IfOk result (λ space. HasStore N (owner_bytes space)) }
+    ensures rows { IfOk result (λ space. (stored_in N space).tables ≡ own_rows layout.now) }
+    ensures indexes { IfOk result (λ space. HasIndexes (stored_in N space)) }
+    ensures children { IfOk result (λ space. space.children ≡ []) }
+    ensures limit { IfOk result (λ space. space.frames.max ≡ max_frames) }
+{
+    let mut space = empty_store(alloc, max_frames)?;
+    let mut undo = Undo::new(alloc, &space)?;
+    fill_rows(&mut space, &mut undo, layout)?;
+    fill_indexes(alloc, &mut space, &mut undo, layout)?;
+    Ok(space)
+}
+
+/// Gives an empty store the rows of a warehouse.
+fn fill_rows<const N: usize>(
+    space: &mut Space<N>,
+    undo: &mut Undo<N>,
+    layout: &Layout,
+) -> Result<(), Shortage>
+    requires ready { IsReady N space.old undo.old }
+    requires empty { stored_in N space.old ≡ nothing_stored }
+    ensures ready { OnOk result (IsReady N space.new undo.new) }
+    ensures rows { OnOk result (stored_in N space.new ≡ without_indexes (own_rows layout.now)) }
+    ensures stays { OnOk result (StaysOpen space.old space.new) }
+{
+    let warehouse = layout.warehouse();
+    let tables = layout.load().tables();
+    push_rows(space, undo, tables.list::<Warehouse>(), warehouse)?;
+    push_rows(space, undo, tables.list::<District>(), warehouse)?;
+    push_rows(space, undo, tables.list::<Customer>(), warehouse)?;
+    push_rows(space, undo, tables.list::<History>(), warehouse)?;
+    push_new_orders(space, undo, tables.list::<NewOrder>(), warehouse)?;
+    push_rows(space, undo, tables.list::<Order>(), warehouse)?;
+    push_rows(space, undo, tables.list::<OrderLine>(), warehouse)?;
+    push_rows(space, undo, tables.list::<Stock>(), warehouse)?;
+    Ok(())
+}
+
+/// Gives a store with the rows of a warehouse its indexes.
+fn fill_indexes<const N: usize>(
+    alloc: Global,
+    space: &mut Space<N>,
+    undo: &mut Undo<N>,
+    layout: &Layout,
+) -> Result<(), Shortage>
+    requires ready { IsReady N space.old undo.old }
+    requires rows { stored_in N space.old ≡ without_indexes (own_rows layout.now) }
+    ensures ready { OnOk result (IsReady N space.new undo.new) }
+    ensures rows { OnOk result ((stored_in N space.new).tables ≡ own_rows layout.now) }
+    ensures indexes { OnOk result (HasIndexes (stored_in N space.new)) }
+    ensures stays { OnOk result (StaysOpen space.old space.new) }
+{
+    know_keys(layout);
+    let warehouse = layout.warehouse();
+    let tables = layout.load().tables();
+    fill_index::<OrderKey, Order, N>(alloc, space, undo, tables.list(), warehouse)?;
+    fill_last_orders(alloc, space, undo, tables.list(), warehouse)?;
+    fill_index::<WaitingKey, NewOrder, N>(alloc, space, undo, tables.list(), warehouse)?;
+    fill_index::<LineKey, OrderLine, N>(alloc, space, undo, tables.list(), warehouse)?;
+    Ok(())
+}
+
+/// Does nothing: its contract says that no two orders of a warehouse, undelivered orders or lines have the same key.
+fn know_keys(layout: &Layout)
+    ensures orders { TellsApart order_key_at (slice_get (own_rows layout.now).orders) }
+    ensures waiting { TellsApart waiting_key_at (slice_get (own_rows layout.now).new_orders) }
+    ensures lines { TellsApart line_key_at (slice_get (own_rows layout.now).order_lines) }
+{
+    layout.know_places();
+    layout.load().sound();
+    conditions_are_kept();
+}

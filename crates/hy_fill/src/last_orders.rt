@@ -1,0 +1,111 @@
+//! The last order of each customer.
+
+ghost use Rattle.std.specs.Prelude.{◌≡◌, ◌==◌, ℕ, ◌<◌, [], Some, OnOk, length, slice_get, filter};
+ghost use Rattle.hy_index.specs.Index.{found};
+ghost use Rattle.hy_space.specs.Space.{owner_bytes};
+ghost use Rattle.hy_store.specs.Keys.{is_lesser_customer};
+ghost use Rattle.hy_store.specs.Stored.{HasStore};
+ghost use Rattle.hy_store.specs.Writes.{stored_in};
+ghost use Rattle.hy_fill.specs.Finds.{IsIndexOf};
+ghost use Rattle.hy_fill.specs.Indexes.{AreLastOrders, buyer_key_at};
+ghost use Rattle.hy_fill.specs.inside.Filling.{IsReady, StaysOpen};
+ghost use Rattle.hy_fill.specs.inside.LastOrders.{is_later, with_order};
+
+use crate::entries::{entries_of, insert_lasting};
+use hy_frames::Shortage;
+use hy_index::Entry;
+use hy_rows::Order;
+use hy_space::Space;
+use hy_store::{CustomerKey, find_slot, row_at};
+use hy_undo::Undo;
+use std::alloc::Global;
+
+/// Gives an index without entries the last order of each customer of a warehouse. The orders of the warehouse are in
+/// the store.
+pub(crate) fn fill_last_orders<const N: usize>(
+    alloc: Global,
+    space: &mut Space<N>,
+    undo: &mut Undo<N>,
+    orders: &[Order],
+    warehouse: u8,
+) -> Result<(), Shortage>
+    requires ready { IsReady N space.old undo.old }
+    requires orders { (stored_in N space.old).tables.orders
+        ≡ filter (λ row. row.warehouse == warehouse) orders.now }
+    requires empty { (stored_in N space.old).last_orders ≡ [] }
+    ensures ready { OnOk result (IsReady N space.new undo.new) }
+    ensures last_orders { OnOk result (AreLastOrders (stored_in N space.new).tables.orders
+        (stored_in N space.new).last_orders) }
+    ensures only { OnOk result (stored_in N space.new ≡ record (stored_in N space.old) {
+      last_orders = (stored_in N space.new).last_orders;
+    }) }
+    ensures stays { OnOk result (StaysOpen space.old space.new) }
+{
+    let entries = entries_of::<CustomerKey, Order>(alloc, orders, warehouse)?;
+    give_orders(space, undo, entries.as_slice())
+}
+
+/// Gives customers their last order of those in the store.
+fn give_orders<const N: usize>(
+    space: &mut Space<N>,
+    undo: &mut Undo<N>,
+    entries: &[Entry<CustomerKey>],
+) -> Result<(), Shortage>
+    requires ready { IsReady N space.old undo.old }
+    requires orders { IsIndexOf buyer_key_at (slice_get (stored_in N space.old).tables.orders) entries.now }
+    requires empty { (stored_in N space.old).last_orders ≡ [] }
+    ensures ready { OnOk result (IsReady N space.new undo.new) }
+    ensures last_orders { OnOk result (AreLastOrders (stored_in N space.new).tables.orders
+        (stored_in N space.new).last_orders) }
+    ensures only { OnOk result (stored_in N space.new ≡ record (stored_in N space.old) {
+      last_orders = (stored_in N space.new).last_orders;
+    }) }
+    ensures stays { OnOk result (StaysOpen space.old space.new) }
+{
+    for entry in entries {
+        give_order(space, undo, entry)?;
+    }
+    Ok(())
+}
+
+/// Gives a customer an order, unless the one that the customer has comes later.
+fn give_order<const N: usize>(
+    space: &mut Space<N>,
+    undo: &mut Undo<N>,
+    entry: &Entry<CustomerKey>,
+) -> Result<(), Shortage>
+    requires ready { IsReady N space.old undo.old }
+    requires there { entry.now.slot < length (stored_in N space.old).tables.orders }
+    requires had { (slot : ℕ)
+        → found is_lesser_customer entry.now.key (stored_in N space.old).last_orders ≡ Some slot
+        → slot < length (stored_in N space.old).tables.orders }
+    ensures ready { OnOk result (IsReady N space.new undo.new) }
+    ensures given { OnOk result (stored_in N space.new ≡ record (stored_in N space.old) {
+      last_orders = with_order (stored_in N space.old).tables.orders entry.now
+          (stored_in N space.old).last_orders;
+    }) }
+    ensures stays { OnOk result (StaysOpen space.old space.new) }
+{
+    if has_later(space, entry) {
+        return Ok(());
+    }
+    insert_lasting(space, undo, entry)
+}
+
+/// Whether the order that a customer has comes later than this one.
+fn has_later<const N: usize>(space: &Space<N>, entry: &Entry<CustomerKey>) -> bool
+    requires store { HasStore N (owner_bytes space.now) }
+    requires there { entry.now.slot < length (stored_in N space.now).tables.orders }
+    requires had { (slot : ℕ)
+        → found is_lesser_customer entry.now.key (stored_in N space.now).last_orders ≡ Some slot
+        → slot < length (stored_in N space.now).tables.orders }
+    ensures { result ≡ is_later (stored_in N space.now).tables.orders entry.now
+        (found is_lesser_customer entry.now.key (stored_in N space.now).last_orders) }
+{
+    let Some(slot) = find_slot(space, &entry.key) else {
+        return false;
+    };
+    let row: Order = row_at(space, entry.slot);
+    let last: Order = row_at(space, slot);
+    row.id < last.id
+}

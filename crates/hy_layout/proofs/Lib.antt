@@ -1,0 +1,9 @@
+pub mod MemberLaws
+pub mod PlaceLaws
+pub mod SortedLaws
+pub mod KeyOrders
+pub mod PartLaws
+pub mod NameOrders
+pub mod NumberLaws
+pub mod LoadLaws
+pub mod MeantLaws

@@ -1,0 +1,10 @@
+use Rattle.std.proofs.Common.{rules}
+use Rattle.std.specs.Prelude.{nat_le}
+use Rattle.std.proofs.lemmas.List.Sorted.{IsPartitionPoint-from_clause, IsPartitionedBy-leb}
+use Rattle.hy_layout.proofs.numbers.up_to_warehouse.Goals as goal
+
+pub returns-clause-point : goal.returns-clause-point
+returns-clause-point c =
+    IsPartitionPoint-from_clause (λ row. nat_le row.warehouse c.args.warehouse) c.args.rows.now c.partition_point.result
+    c.partition_point.ensures.partitioned
+    (IsPartitionedBy-leb (λ row. row.warehouse) c.args.rows.now c.args.warehouse c.requires) (λ a r f k. search rules)

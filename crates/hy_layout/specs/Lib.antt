@@ -1,0 +1,4 @@
+pub mod Layout
+pub mod Finds
+pub mod WorkedPlaces
+pub mod inside

@@ -1,0 +1,11 @@
+//! Where the rows of a warehouse stand that no transaction adds or takes away.
+#![tactic(auto)]
+
+mod layout;
+mod names;
+mod numbers;
+
+pub use layout::Layout;
+
+#[cfg(test)]
+mod tests;

@@ -1,0 +1,4 @@
+pub mod LastLaws
+pub mod NamedLaws
+pub mod GatherLaws
+pub mod LevelLaws

@@ -1,0 +1,13 @@
+pub mod SumLaws
+pub mod FindLaws
+pub mod WritesLaws
+pub mod PaymentLaws
+pub mod PurchaseLaws
+pub mod IndexedLaws
+pub mod LexLaws
+pub mod WaitingLaws
+pub mod LineLaws
+pub mod OrderLinesLaws
+pub mod DeliveryLaws
+pub mod DeliverLaws
+pub mod KeptIndexLaws

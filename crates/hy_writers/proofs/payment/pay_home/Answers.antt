@@ -1,0 +1,53 @@
+use Rattle.std.proofs.Common.{◌-◌, ◌∙◌, sym, ap}
+use Rattle.hy_rows.specs.declared.customer.Customer.{Customer}
+use Rattle.hy_commands.specs.Payments.{paid_in}
+use Rattle.hy_commands.specs.Growth.{IsDistrictUpTo, IsWarehouseUpTo}
+use Rattle.hy_store.specs.Writes.{stored_in}
+use Rattle.hy_writers.specs.Limits.{most_commits}
+use Rattle.hy_writers.proofs.PaymentLaws.{home-paid, payer-at}
+use Rattle.hy_writers.proofs.WritesLaws.{all-at, writes-then}
+use Rattle.hy_writers.proofs.payment.pay_home.Goals as goal
+
+-- src/payment.rt:161:30
+pub warehouse_after-requires-clause-row : goal.warehouse_after-requires-clause-row
+warehouse_after-requires-clause-row g c =
+    let tables = (stored_in g.row.N c.args.space.now).tables in
+    all-at (IsWarehouseUpTo most_commits) tables.warehouses 0 c.own_warehouse-warehouse.result c.requires.bounds.warehouses
+    c.own_warehouse-warehouse.ensures.here
+
+-- src/payment.rt:166:10
+pub district_after-requires-clause-row : goal.district_after-requires-clause-row
+district_after-requires-clause-row g c =
+    let tables = (stored_in g.row.N c.args.space.now).tables in
+    all-at (IsDistrictUpTo most_commits) tables.districts (c.args.payment.now.district - 1) c.own_district-district.result
+    c.requires.bounds.districts c.own_district-district.ensures.here
+
+-- src/payment.rt:162:5
+pub returns-in_err-put_row-2-clause-writes : goal.returns-in_err-put_row-2-clause-writes
+returns-in_err-put_row-2-clause-writes g c = writes-then c.put_row.ensures.writes c.put_row-2.ensures.writes
+
+-- src/payment.rt:168:5
+pub returns-in_err-push_row-clause-writes : goal.returns-in_err-push_row-clause-writes
+returns-in_err-push_row-clause-writes g c =
+    writes-then (writes-then c.put_row.ensures.writes c.put_row-2.ensures.writes) c.push_row.ensures.writes
+
+-- src/payment.rt:137:1
+pub returns-clause-paid : goal.returns-clause-paid
+returns-clause-paid g c =
+    let payment = c.args.payment.now in
+    let number = c.args.layout.now.warehouse in
+    let s = stored_in g.row.N c.args.space.now in
+    let payer_is = payer-at number payment s.tables c.args.place c.row_at-payer.result c.requires.payment c.requires.payer
+    c.row_at-payer.ensures in
+    home-paid number (payment.district - 1) c.row_at-payer.result.id payment c.requires.payment s
+    (stored_in g.row.N c.put_row.new.space) (stored_in g.row.N c.put_row-2.new.space)
+    (stored_in g.row.N c.push_row.new.space) c.own_warehouse-warehouse.result c.warehouse_after.result
+    c.own_district-district.result c.district_after.result c.history_for.result c.own_warehouse-warehouse.ensures
+    c.own_district-district.ensures c.warehouse_after.ensures c.district_after.ensures c.history_for.ensures
+    c.in_ok-put_row.ensures.put c.in_ok-put_row-2.ensures.put c.in_ok-push_row.ensures.pushed
+    ∙ ap (λ (row : Customer). record s { tables = paid_in payment row.id s.tables }) (sym payer_is)
+
+-- src/payment.rt:137:1
+pub returns-clause-writes : goal.returns-clause-writes
+returns-clause-writes g c =
+    writes-then (writes-then c.put_row.ensures.writes c.put_row-2.ensures.writes) c.push_row.ensures.writes

@@ -1,0 +1,11 @@
+-- How far the rows of a warehouse can have grown when a transaction meets them: by all commits that may be kept, and by
+-- the one that runs.
+use Rattle.std.specs.Prelude.{ℕ}
+use Rattle.hy_rows.specs.Tables.{Tables}
+use Rattle.hy_commands.specs.Growth.{HasGrownBy}
+
+abbrev pub most_commits : ℕ
+most_commits = 100_000_001
+
+abbrev pub AreInBounds : Tables → Type 0
+AreInBounds tables = HasGrownBy most_commits tables

@@ -1,0 +1,358 @@
+//! Delivery (TPC-C clause 2.7): the oldest undelivered order of a district.
+
+ghost use Rattle.std.specs.Prelude.{◌≡◌, ℕ, ◌+◌, ◌*◌, ◌≤◌, ◌<◌, ◌+ℤ◌, ◌≤ℤ◌, pos, Some, None, Ok, true, List, map, length, slice_get, slice_set, All, IfSome, MatchOption, OnOk, IfOk, IsErrOf};
+ghost use Rattle.hy_frames.specs.FrameTable.{free_of};
+ghost use Rattle.hy_rows.specs.declared.order_line.OrderLine.{OrderLine};
+ghost use Rattle.hy_rows.specs.Limits.{max_carriers, max_line_cents, max_lines};
+ghost use Rattle.hy_rows.specs.Ranges.{IsBetween, IsLineAmount};
+ghost use Rattle.hy_space.specs.Space.{owner_bytes};
+ghost use Rattle.hy_undo.specs.PrivatePages.{IsUndoLog};
+ghost use Rattle.hy_index.specs.declared.key.Entry.{Entry};
+ghost use Rattle.hy_commands.specs.Deliveries.{carried, customer_delivered, delivered_in, delivered_line, oldest, order_cents};
+ghost use Rattle.hy_rows.specs.Spelling.{live_rows};
+ghost use Rattle.hy_schema.specs.Related.{is_line_of};
+ghost use Rattle.hy_index.specs.Index.{found, without};
+ghost use Rattle.hy_relation.specs.Relation.{IsLive};
+ghost use Rattle.hy_commands.specs.Growth.{IsCustomerUpTo, max_order_cents};
+ghost use Rattle.hy_commands.specs.Sorting.{with_all_changed};
+ghost use Rattle.hy_rows.specs.Finding.{is_customer};
+ghost use Rattle.std.specs.List.{list_any};
+ghost use Rattle.hy_commands.specs.declared.command.Who.{Who};
+ghost use Rattle.hy_layout.specs.Layout.{IsMeantAt, KeepsPlaces, own_rows};
+ghost use Rattle.hy_store.specs.Keys.{is_lesser_order, is_lesser_waiting};
+ghost use Rattle.hy_store.specs.Stored.{HasStore};
+ghost use Rattle.hy_store.specs.Writes.{WritesStore, stored_in};
+ghost use Rattle.hy_store.specs.declared.keys.LineKey.{LineKey};
+ghost use Rattle.hy_fill.specs.Indexes.{HasIndexes};
+ghost use Rattle.hy_writers.specs.Limits.{most_commits};
+ghost use Rattle.hy_writers.specs.Deliveries.{ChargesCustomer, DeliversLine, HasLinesOf, walk_over, with_delivery, with_lines};
+ghost use Rattle.hy_writers.specs.Begun.{IsBegunDelivery};
+ghost use Rattle.hy_writers.specs.Waiting.{IsSoundStore, IsWaiting, order_of_entry};
+
+use hy_commands::Delivery;
+use hy_frames::Shortage;
+use hy_index::Entry;
+use hy_layout::Layout;
+use hy_rows::{Customer, Order, OrderLine};
+use hy_space::Space;
+use hy_store::{
+    LineKey, OrderKey, WaitingKey, erase_new_order, find_slot, first_entry, know_entries,
+    know_store, put_row, read_entries, remove_entry, row_at,
+};
+use hy_undo::Undo;
+
+/// Gives the order line at a place its delivery date, and answers the line as it was.
+fn deliver_line<const N: usize>(
+    space: &mut Space<N>,
+    undo: &mut Undo<N>,
+    moment: u64,
+    place: u64,
+) -> Result<OrderLine, Shortage>
+    requires store { HasStore N (owner_bytes space.old) }
+    requires undo_log { IsUndoLog N space.old undo.old }
+    requires there { place < length (stored_in N space.old).tables.order_lines }
+    ensures store { OnOk result (HasStore N (owner_bytes space.new)) }
+    ensures delivered { IfOk result (DeliversLine moment place (stored_in N space.old) (stored_in N space.new)) }
+    ensures writes { WritesStore N space.old space.new undo.old undo.new }
+    ensures no_frame { IsErrOf result Shortage.NoFrame → free_of space.new.frames ≡ 0 }
+{
+    let row = row_at::<OrderLine, N>(space, place);
+    let delivered = OrderLine {
+        delivery_date: moment,
+        ..row
+    };
+    put_row(space, undo, place, &delivered)?;
+    Ok(row)
+}
+
+/// Gives the order lines that entries name their delivery date, and answers what they come to, in cents.
+fn deliver_lines<const N: usize>(
+    space: &mut Space<N>,
+    undo: &mut Undo<N>,
+    moment: u64,
+    entries: &[Entry<LineKey>],
+) -> Result<i64, Shortage>
+    requires store { HasStore N (owner_bytes space.old) }
+    requires undo_log { IsUndoLog N space.old undo.old }
+    requires there { All (λ (entry : Entry LineKey). entry.slot < length (stored_in N space.old).tables.order_lines)
+        entries.now }
+    requires amounts { All (λ (row : OrderLine). IsLineAmount row.amount)
+        (stored_in N space.old).tables.order_lines }
+    requires few { length entries.now ≤ max_lines }
+    ensures store { OnOk result (HasStore N (owner_bytes space.new)) }
+    ensures delivered { OnOk result (stored_in N space.new ≡ with_lines (stored_in N space.old)
+        (walk_over moment (map (λ (entry : Entry LineKey). entry.slot) entries.now) (stored_in N space.old)).rows) }
+    ensures cents { IfOk result (λ cents. cents
+        ≡ (walk_over moment (map (λ (entry : Entry LineKey). entry.slot) entries.now) (stored_in N space.old)).cents) }
+    ensures writes { WritesStore N space.old space.new undo.old undo.new }
+    ensures no_frame { IsErrOf result Shortage.NoFrame → free_of space.new.frames ≡ 0 }
+{
+    let mut cents = 0;
+    for entry in entries {
+        let row = deliver_line(space, undo, moment, entry.slot)?;
+        cents = sum_of(cents, &row);
+    }
+    Ok(cents)
+}
+
+/// The cents of lines and of one more.
+fn sum_of(cents: i64, row: &OrderLine) -> i64
+    requires low { pos 0 ≤ℤ cents }
+    requires high { cents ≤ℤ pos (max_lines * max_line_cents) }
+    requires amount { IsLineAmount row.now.amount }
+    ensures { result ≡ cents +ℤ row.now.amount }
+{
+    let amount = row.amount;
+    cents + amount
+}
+
+/// Gives all lines of an order their delivery date, and answers what they come to, in cents. The entries of the lines
+/// are read into the list.
+fn deliver_order_lines<const N: usize>(
+    space: &mut Space<N>,
+    undo: &mut Undo<N>,
+    moment: u64,
+    order: &Order,
+    entries: &mut Vec<Entry<LineKey>>,
+) -> Result<i64, Shortage>
+    requires store { HasStore N (owner_bytes space.old) }
+    requires undo_log { IsUndoLog N space.old undo.old }
+    requires lines { HasLinesOf order.now.warehouse order.now (stored_in N space.old) }
+    requires district { order.now.district ≤ 10 }
+    ensures store { OnOk result (HasStore N (owner_bytes space.new)) }
+    ensures delivered { OnOk result (stored_in N space.new ≡ with_lines (stored_in N space.old)
+        (with_all_changed (is_line_of order.now) (delivered_line moment)
+        (stored_in N space.old).tables.order_lines)) }
+    ensures cents { IfOk result (λ cents. cents
+        ≡ order_cents order.now (stored_in N space.old).tables.order_lines) }
+    ensures writes { WritesStore N space.old space.new undo.old undo.new }
+    ensures no_frame { IsErrOf result Shortage.NoFrame → free_of space.new.frames ≡ 0 }
+{
+    know_entries::<LineKey, N>(space);
+    let low = LineKey {
+        order: order.id,
+        district: order.district,
+        number: 0,
+    };
+    let high = LineKey {
+        district: order.district + 1,
+        ..low
+    };
+    read_entries(space, &low, &high, entries)?;
+    deliver_lines(space, undo, moment, entries)
+}
+
+/// Takes the row of NEW-ORDER that an entry names, and the entry.
+fn take_waiting<const N: usize>(
+    space: &mut Space<N>,
+    undo: &mut Undo<N>,
+    waiting: &Entry<WaitingKey>,
+) -> Result<(), Shortage>
+    requires store { HasStore N (owner_bytes space.old) }
+    requires undo_log { IsUndoLog N space.old undo.old }
+    requires live { IsLive (stored_in N space.old).new_order_slots waiting.now.slot }
+    ensures store { OnOk result (HasStore N (owner_bytes space.new)) }
+    ensures taken { OnOk result (stored_in N space.new ≡ record (stored_in N space.old) {
+      tables = record (stored_in N space.old).tables {
+        new_orders = live_rows (slice_set (stored_in N space.old).new_order_slots waiting.now.slot None);
+      };
+      new_order_slots = slice_set (stored_in N space.old).new_order_slots waiting.now.slot None;
+      waiting = without is_lesser_waiting waiting.now.key (stored_in N space.old).waiting;
+    }) }
+    ensures writes { WritesStore N space.old space.new undo.old undo.new }
+    ensures no_frame { IsErrOf result Shortage.NoFrame → free_of space.new.frames ≡ 0 }
+{
+    erase_new_order(space, undo, waiting.slot)?;
+    remove_entry(space, undo, &waiting.key)
+}
+
+/// The customer after an order of some cents was delivered.
+fn customer_after(row: &Customer, cents: i64) -> Customer
+    requires row { IsCustomerUpTo most_commits (10 * most_commits) row.now }
+    requires low { pos 0 ≤ℤ cents }
+    requires high { cents ≤ℤ pos max_order_cents }
+    ensures { result ≡ customer_delivered cents row.now }
+{
+    let Customer {
+        balance,
+        delivery_count,
+        ..
+    } = *row;
+    Customer {
+        balance: balance + cents,
+        delivery_count: delivery_count + 1,
+        ..*row
+    }
+}
+
+/// The customer at a place owes some cents more, and has one delivery more.
+fn charge<const N: usize>(
+    space: &mut Space<N>,
+    undo: &mut Undo<N>,
+    place: u64,
+    cents: i64,
+) -> Result<(), Shortage>
+    requires store { HasStore N (owner_bytes space.old) }
+    requires undo_log { IsUndoLog N space.old undo.old }
+    requires there { place < length (stored_in N space.old).tables.customers }
+    requires customers { All (IsCustomerUpTo most_commits (10 * most_commits))
+        (stored_in N space.old).tables.customers }
+    requires low { pos 0 ≤ℤ cents }
+    requires high { cents ≤ℤ pos max_order_cents }
+    ensures store { OnOk result (HasStore N (owner_bytes space.new)) }
+    ensures charged { OnOk result (ChargesCustomer cents place (stored_in N space.old) (stored_in N space.new)) }
+    ensures writes { WritesStore N space.old space.new undo.old undo.new }
+    ensures no_frame { IsErrOf result Shortage.NoFrame → free_of space.new.frames ≡ 0 }
+{
+    let row = row_at::<Customer, N>(space, place);
+    put_row(space, undo, place, &customer_after(&row, cents))
+}
+
+/// An order after a delivery.
+fn order_after(row: &Order, carrier: u64) -> Order
+    requires { IsBetween 1 max_carriers carrier }
+    ensures { result ≡ carried carrier row.now }
+{
+    Order {
+        carrier: carrier as u8,
+        ..*row
+    }
+}
+
+/// Delivers the order of an entry: it, its lines and its customer. The entries of its lines are read into the list.
+fn deliver_order<const N: usize>(
+    layout: &Layout,
+    space: &mut Space<N>,
+    undo: &mut Undo<N>,
+    delivery: &Delivery,
+    waiting: &Entry<WaitingKey>,
+    entries: &mut Vec<Entry<LineKey>>,
+) -> Result<(), Shortage>
+    requires store { HasStore N (owner_bytes space.old) }
+    requires sound { IsSoundStore layout.now (stored_in N space.old) }
+    requires waiting { IsWaiting layout.now.warehouse (stored_in N space.old) waiting.now }
+    requires delivery { IsBegunDelivery layout.now.warehouse delivery.now }
+    requires undo_log { IsUndoLog N space.old undo.old }
+    ensures store { OnOk result (HasStore N (owner_bytes space.new)) }
+    ensures delivered { OnOk result (stored_in N space.new ≡ with_delivery delivery.now
+        (order_of_entry layout.now.warehouse (stored_in N space.old) waiting.now) waiting.now.slot
+        (stored_in N space.old)) }
+    ensures writes { WritesStore N space.old space.new undo.old undo.new }
+    ensures no_frame { IsErrOf result Shortage.NoFrame → free_of space.new.frames ≡ 0 }
+{
+    know_store(space);
+    know_entries::<OrderKey, N>(space);
+    know_entries::<WaitingKey, N>(space);
+    let place = order_place(layout, space, waiting);
+    let order = row_at::<Order, N>(space, place);
+    let customer = buyer_place(layout, space, &order);
+    take_waiting(space, undo, waiting)?;
+    put_row(space, undo, place, &order_after(&order, delivery.carrier))?;
+    let cents = deliver_order_lines(space, undo, delivery.at, &order, entries)?;
+    charge(space, undo, customer, cents)
+}
+
+/// The place of the order of an entry.
+fn order_place<const N: usize>(
+    layout: &Layout,
+    space: &Space<N>,
+    waiting: &Entry<WaitingKey>,
+) -> u64
+    requires store { HasStore N (owner_bytes space.now) }
+    requires sound { IsSoundStore layout.now (stored_in N space.now) }
+    requires waiting { IsWaiting layout.now.warehouse (stored_in N space.now) waiting.now }
+    ensures found { found is_lesser_order
+        (record { order = waiting.now.key.order; district = waiting.now.key.district })
+        (stored_in N space.now).orders ≡ Some result }
+    ensures there { result < length (stored_in N space.now).tables.orders }
+{
+    know_store(space);
+    know_entries::<OrderKey, N>(space);
+    let key = OrderKey {
+        order: waiting.key.order,
+        district: waiting.key.district,
+    };
+    match find_slot(space, &key) {
+        Some(place) => place,
+        None => unreachable!(),
+    }
+}
+
+/// The place of the customer of an order.
+fn buyer_place<const N: usize>(layout: &Layout, space: &Space<N>, order: &Order) -> u64
+    requires store { HasStore N (owner_bytes space.now) }
+    requires places { KeepsPlaces (own_rows layout.now) (stored_in N space.now).tables }
+    requires buyer { list_any (is_customer layout.now.warehouse order.now.district order.now.customer)
+        (stored_in N space.now).tables.customers ≡ true }
+    ensures { IsMeantAt layout.now.warehouse order.now.district (Who.Number order.now.customer)
+        (stored_in N space.now).tables.customers result }
+{
+    know_store(space);
+    match layout.place_of_number(order.district.into(), order.customer.into()) {
+        Some(place) => place,
+        None => unreachable!(),
+    }
+}
+
+/// Delivers the oldest undelivered order of a district, and answers its number; 0 where there is none. The entries of
+/// its lines are read into the list.
+pub fn deliver_in<const N: usize>(
+    layout: &Layout,
+    space: &mut Space<N>,
+    undo: &mut Undo<N>,
+    delivery: &Delivery,
+    district: u8,
+    entries: &mut Vec<Entry<LineKey>>,
+) -> Result<u32, Shortage>
+    requires store { HasStore N (owner_bytes space.old) }
+    requires sound { IsSoundStore layout.now (stored_in N space.old) }
+    requires delivery { IsBegunDelivery layout.now.warehouse delivery.now }
+    requires undo_log { IsUndoLog N space.old undo.old }
+    ensures store { OnOk result (HasStore N (owner_bytes space.new)) }
+    ensures delivered { OnOk result ((stored_in N space.new).tables
+        ≡ delivered_in delivery.now (stored_in N space.old).tables district) }
+    ensures indexes { OnOk result (HasIndexes (stored_in N space.new)) }
+    ensures number { IfOk result (λ number. number
+        ≡ oldest layout.now.warehouse district (stored_in N space.old).tables) }
+    ensures writes { WritesStore N space.old space.new undo.old undo.new }
+    ensures no_frame { IsErrOf result Shortage.NoFrame → free_of space.new.frames ≡ 0 }
+{
+    know_store(space);
+    know_entries::<OrderKey, N>(space);
+    know_entries::<WaitingKey, N>(space);
+    match waiting_in(layout, space, district) {
+        Some(waiting) => {
+            deliver_order(layout, space, undo, delivery, &waiting, entries)?;
+            Ok(waiting.key.order)
+        }
+        None => Ok(0),
+    }
+}
+
+/// The entry of the oldest undelivered order of a district, if there is one.
+fn waiting_in<const N: usize>(
+    layout: &Layout,
+    space: &Space<N>,
+    district: u8,
+) -> Option<Entry<WaitingKey>>
+    requires store { HasStore N (owner_bytes space.now) }
+    requires sound { IsSoundStore layout.now (stored_in N space.now) }
+    ensures waiting { IfSome result (IsWaiting layout.now.warehouse (stored_in N space.now)) }
+    ensures oldest { MatchOption result (oldest layout.now.warehouse district (stored_in N space.now).tables ≡ 0)
+        (λ waiting. (waiting.key.district ≡ district)
+        × (oldest layout.now.warehouse district (stored_in N space.now).tables ≡ waiting.key.order)) }
+{
+    know_store(space);
+    know_entries::<WaitingKey, N>(space);
+    let key = WaitingKey { district, order: 0 };
+    match first_entry(space, &key) {
+        Some(found) => {
+            if found.key.district == district {
+                Some(found)
+            } else {
+                None
+            }
+        }
+        None => None,
+    }
+}

@@ -1,0 +1,55 @@
+//! Rows that stand at a place that never changes.
+
+ghost use Rattle.std.specs.Prelude.{◌≡◌, ◌-◌, ◌<◌, Some, length, map, slice_get};
+ghost use Rattle.hy_rows.specs.Finding.{is_district, is_warehouse};
+ghost use Rattle.hy_rows.specs.Ranges.{IsBetween};
+ghost use Rattle.hy_schema.specs.Keys.{AreUnique, IsOneWarehouse};
+ghost use Rattle.hy_space.specs.Space.{owner_bytes};
+ghost use Rattle.hy_commands.specs.Invariant.{stock_key};
+ghost use Rattle.hy_commands.specs.NewOrders.{is_stock};
+ghost use Rattle.hy_layout.specs.Layout.{KeepsPlaces, own_rows};
+ghost use Rattle.hy_store.specs.Stored.{HasStore};
+ghost use Rattle.hy_store.specs.Writes.{stored_in};
+ghost use Rattle.hy_writers.specs.Changes.{IsFoundAt};
+
+use hy_layout::Layout;
+use hy_rows::{District, Stock, Warehouse};
+use hy_space::Space;
+use hy_store::row_at;
+
+/// The row of WAREHOUSE.
+pub(crate) fn own_warehouse<const N: usize>(layout: &Layout, space: &Space<N>) -> Warehouse
+    requires store { HasStore N (owner_bytes space.now) }
+    requires rows { IsOneWarehouse layout.now.warehouse (stored_in N space.now).tables }
+    ensures { IsFoundAt (is_warehouse layout.now.warehouse) (stored_in N space.now).tables.warehouses 0 result }
+{
+    row_at::<Warehouse, N>(space, 0)
+}
+
+/// The row of a district.
+pub(crate) fn own_district<const N: usize>(
+    layout: &Layout,
+    space: &Space<N>,
+    district: u64,
+) -> District
+    requires store { HasStore N (owner_bytes space.now) }
+    requires rows { IsOneWarehouse layout.now.warehouse (stored_in N space.now).tables }
+    requires district { IsBetween 1 10 district }
+    ensures { IsFoundAt (is_district layout.now.warehouse district)
+        (stored_in N space.now).tables.districts (district - 1) result }
+{
+    row_at::<District, N>(space, district - 1)
+}
+
+/// The stock of an item.
+pub(crate) fn own_stock<const N: usize>(layout: &Layout, space: &Space<N>, item: u64) -> Stock
+    requires store { HasStore N (owner_bytes space.now) }
+    requires unique { AreUnique (map stock_key (stored_in N space.now).tables.stock) }
+    requires places { KeepsPlaces (own_rows layout.now) (stored_in N space.now).tables }
+    requires item { IsBetween 1 (length layout.now.load.items) item }
+    ensures { IsFoundAt (is_stock layout.now.warehouse item)
+        (stored_in N space.now).tables.stock (item - 1) result }
+{
+    layout.know_places();
+    row_at::<Stock, N>(space, item - 1)
+}

@@ -1,0 +1,216 @@
+//! Payment (TPC-C clause 2.5): the home warehouse, its district and the history; then the customer.
+
+ghost use Rattle.std.specs.Prelude.{◌≡◌, ◌+◌, ◌*◌, ◌≤◌, ◌+ℤ◌, ◌-ℤ◌, ◌<◌, pos, ◌++◌, codes, length, OnOk, IfOk, IsErrOf};
+ghost use Rattle.arrayvec.specs.ArrayVec.{array_vec_len};
+ghost use Rattle.hy_frames.specs.FrameTable.{free_of};
+ghost use Rattle.hy_rows.specs.Limits.{max_payment};
+ghost use Rattle.hy_schema.specs.Keys.{IsOneWarehouse};
+ghost use Rattle.hy_space.specs.Space.{owner_bytes};
+ghost use Rattle.hy_undo.specs.PrivatePages.{IsUndoLog};
+ghost use Rattle.hy_commands.specs.declared.reply.Reply.{Reply};
+ghost use Rattle.hy_commands.specs.Growth.{IsCustomerUpTo, IsDistrictUpTo, IsMoneyUpTo, IsWarehouseUpTo};
+ghost use Rattle.hy_commands.specs.Payments.{customer_paid, district_paid, paid_by, paid_in, warehouse_paid};
+ghost use Rattle.hy_commands.specs.Transactions.{payer};
+ghost use Rattle.hy_layout.specs.Layout.{IsMeantAt};
+ghost use Rattle.hy_store.specs.Stored.{HasStore};
+ghost use Rattle.hy_store.specs.Writes.{WritesStore, stored_in};
+ghost use Rattle.hy_writers.specs.Begun.{IsBegunPayment};
+ghost use Rattle.hy_writers.specs.Limits.{AreInBounds, most_commits};
+ghost use Rattle.hy_writers.specs.Payments.{history_for, payment_reply};
+
+use crate::finds::{own_district, own_warehouse};
+use arrayvec::ArrayVec;
+use hy_commands::{Payment, Reply};
+use hy_frames::Shortage;
+use hy_layout::Layout;
+use hy_rows::{Customer, District, History, Text, Warehouse};
+use hy_space::Space;
+use hy_store::{push_row, put_row, row_at};
+use hy_undo::Undo;
+
+/// An amount that rises by some cents.
+fn raised(amount: i64, cents: u64) -> i64
+    requires amount { IsMoneyUpTo (max_payment * most_commits) amount }
+    requires cents { cents ≤ max_payment }
+    ensures { result ≡ amount +ℤ pos cents }
+{
+    amount + cents as i64
+}
+
+/// A warehouse after a payment of some cents.
+fn warehouse_after(row: &Warehouse, cents: u64) -> Warehouse
+    requires row { IsWarehouseUpTo most_commits row.now }
+    requires cents { cents ≤ max_payment }
+    ensures { result ≡ warehouse_paid cents row.now }
+{
+    Warehouse {
+        ytd: raised(row.ytd, cents),
+        ..*row
+    }
+}
+
+/// A district after a payment of some cents.
+fn district_after(row: &District, cents: u64) -> District
+    requires row { IsDistrictUpTo most_commits row.now }
+    requires cents { cents ≤ max_payment }
+    ensures { result ≡ district_paid cents row.now }
+{
+    District {
+        ytd: raised(row.ytd, cents),
+        ..*row
+    }
+}
+
+/// A customer after a payment of some cents.
+fn customer_after(row: &Customer, cents: u64) -> Customer
+    requires row { IsCustomerUpTo most_commits (10 * most_commits) row.now }
+    requires cents { cents ≤ max_payment }
+    ensures { result ≡ customer_paid cents row.now }
+{
+    let Customer {
+        balance,
+        ytd_payment,
+        payment_count,
+        ..
+    } = *row;
+    Customer {
+        balance: balance - cents as i64,
+        ytd_payment: ytd_payment + cents as i64,
+        payment_count: payment_count + 1,
+        ..*row
+    }
+}
+
+/// H_DATA: W_NAME, four spaces and D_NAME.
+fn information(warehouse: &Warehouse, district: &District) -> Text<24>
+    requires warehouse { length warehouse.now.name ≤ 10 }
+    requires district { length district.now.name ≤ 10 }
+    ensures { result ≡ warehouse.now.name ++ codes "    " ++ district.now.name }
+{
+    let mut bytes: ArrayVec<u8, 24> = ArrayVec::new();
+    push_all(&mut bytes, warehouse.name.as_bytes());
+    push_all(&mut bytes, b"    ");
+    push_all(&mut bytes, district.name.as_bytes());
+    match Text::new(bytes.as_slice()) {
+        Some(text) => text,
+        None => unreachable!(),
+    }
+}
+
+/// Puts bytes behind others.
+fn push_all(text: &mut ArrayVec<u8, 24>, bytes: &[u8])
+    requires { array_vec_len text.old + length bytes.now ≤ 24 }
+    ensures text { text.new.items ≡ text.old.items ++ bytes.now }
+    ensures len { array_vec_len text.new ≡ array_vec_len text.old + length bytes.now }
+{
+    match text.try_extend_from_slice(bytes) {
+        Ok(()) => {}
+        Err(_) => unreachable!(),
+    }
+}
+
+/// The row of HISTORY for a payment of a customer.
+fn history_for(
+    payment: &Payment,
+    customer: u16,
+    warehouse: &Warehouse,
+    district: &District,
+) -> History
+    requires payment { IsBegunPayment payment.now.warehouse payment.now }
+    requires home { payment.now.warehouse < 256 }
+    requires warehouse { length warehouse.now.name ≤ 10 }
+    requires district { length district.now.name ≤ 10 }
+    ensures { result ≡ history_for payment.now customer warehouse.now district.now }
+{
+    History {
+        customer,
+        customer_district: payment.customer_district as u8,
+        customer_warehouse: payment.customer_warehouse as u8,
+        district: payment.district as u8,
+        warehouse: payment.warehouse as u8,
+        date: payment.at,
+        amount: payment.amount as i64,
+        information: information(warehouse, district),
+    }
+}
+
+/// The first slice: W_YTD and D_YTD rise by the amount, and the payment of the customer at a place enters the history.
+pub fn pay_home<const N: usize>(
+    layout: &Layout,
+    space: &mut Space<N>,
+    undo: &mut Undo<N>,
+    payment: &Payment,
+    place: u64,
+) -> Result<(), Shortage>
+    requires store { HasStore N (owner_bytes space.old) }
+    requires rows { IsOneWarehouse layout.now.warehouse (stored_in N space.old).tables }
+    requires bounds { AreInBounds (stored_in N space.old).tables }
+    requires undo_log { IsUndoLog N space.old undo.old }
+    requires payment { IsBegunPayment layout.now.warehouse payment.now }
+    requires payer { IsMeantAt layout.now.warehouse payment.now.customer_district payment.now.who
+        (stored_in N space.old).tables.customers place }
+    ensures store { OnOk result (HasStore N (owner_bytes space.new)) }
+    ensures paid { OnOk result (stored_in N space.new ≡ record (stored_in N space.old) {
+      tables = paid_in payment.now (payer payment.now (stored_in N space.old).tables).id (stored_in N space.old).tables;
+    }) }
+    ensures writes { WritesStore N space.old space.new undo.old undo.new }
+    ensures no_frame { IsErrOf result Shortage.NoFrame → free_of space.new.frames ≡ 0 }
+{
+    let warehouse = own_warehouse(layout, space);
+    let district = own_district(layout, space, payment.district);
+    let payer = row_at::<Customer, N>(space, place);
+    put_row(space, undo, 0, &warehouse_after(&warehouse, payment.amount))?;
+    put_row(
+        space,
+        undo,
+        payment.district - 1,
+        &district_after(&district, payment.amount),
+    )?;
+    push_row(
+        space,
+        undo,
+        &history_for(payment, payer.id, &warehouse, &district),
+    )?;
+    Ok(())
+}
+
+/// The second slice, for the customer at a place: the balance falls by the amount, what was paid rises by it, and the
+/// number of payments by one. The reply has the customer's number, and the balance in cents.
+pub fn pay_customer<const N: usize>(
+    layout: &Layout,
+    space: &mut Space<N>,
+    undo: &mut Undo<N>,
+    payment: &Payment,
+    place: u64,
+) -> Result<Reply, Shortage>
+    requires store { HasStore N (owner_bytes space.old) }
+    requires rows { IsOneWarehouse layout.now.warehouse (stored_in N space.old).tables }
+    requires bounds { AreInBounds (stored_in N space.old).tables }
+    requires undo_log { IsUndoLog N space.old undo.old }
+    requires payment { IsBegunPayment layout.now.warehouse payment.now }
+    requires payer { IsMeantAt layout.now.warehouse payment.now.customer_district payment.now.who
+        (stored_in N space.old).tables.customers place }
+    ensures store { OnOk result (HasStore N (owner_bytes space.new)) }
+    ensures paid { OnOk result (stored_in N space.new ≡ record (stored_in N space.old) {
+      tables = paid_by payment.now (payer payment.now (stored_in N space.old).tables).id (stored_in N space.old).tables;
+    }) }
+    ensures reply { IfOk result (λ reply. reply
+        ≡ payment_reply payment.now (payer payment.now (stored_in N space.old).tables)) }
+    ensures writes { WritesStore N space.old space.new undo.old undo.new }
+    ensures no_frame { IsErrOf result Shortage.NoFrame → free_of space.new.frames ≡ 0 }
+{
+    let before = row_at::<Customer, N>(space, place);
+    let row = customer_after(&before, payment.amount);
+    put_row(space, undo, place, &row)?;
+    Ok(reply_for(&row))
+}
+
+/// The reply to a payment, from the customer's row after it.
+fn reply_for(row: &Customer) -> Reply
+    ensures { result ≡ Reply.Payment row.now.id row.now.balance }
+{
+    Reply::Payment {
+        customer: row.id,
+        balance: row.balance,
+    }
+}
