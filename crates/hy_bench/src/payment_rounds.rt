@@ -1,9 +1,10 @@
 //! Rounds over a partition of one warehouse.
 
+use hy_commands::{Command, Payment, Reply, Who};
 use hy_loads::Load;
 use hy_partition::{Job, Partition};
 use hy_rows::Warehouse;
-use hy_schema::{Command, Payment, Refusal, Reply, Who};
+use hy_schema::Refusal;
 use hy_tables::generated;
 use std::alloc::Global;
 
@@ -48,8 +49,8 @@ fn pay(partition: &mut Partition<SIZE>) -> Result<(), Refusal> {
     partition.finish_running();
     match partition.take_done() {
         Some(done) => match done.open() {
-            Reply::Payment { .. } => Ok(()),
             Reply::Refused(refusal) => Err(refusal),
+            _ => Ok(()),
         },
         None => Err(Refusal::NotRunning),
     }

@@ -34,5 +34,7 @@ module _ (directory : List ℕ) (size : Size) (old new : Option FilesByPath) (Un
   )
   generate_fault (files.CannotWrite table) (fault.Refused refusal) is ends sized unprinted = absurd (is)
   generate_fault (files.CannotWrite table) (fault.CannotRead path) is ends sized unprinted = absurd (is)
+  generate_fault (files.CannotWrite table) (fault.CannotReadFile path) is ends sized unprinted = absurd (is)
+  generate_fault (files.CannotWrite table) (fault.BadEvent number) is ends sized unprinted = absurd (is)
   generate_fault (files.CannotWrite table) (fault.Writer error) is ends sized unprinted = absurd (is)
   generate_fault (files.CannotRead table) made is ends sized unprinted = absurd (ends)

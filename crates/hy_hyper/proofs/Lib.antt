@@ -1,3 +1,4 @@
+pub mod ScriptLaws
 pub mod CheckLaws
 pub mod FirstLaws
 pub mod GenerateLaws

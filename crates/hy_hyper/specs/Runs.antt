@@ -16,6 +16,8 @@ use Rattle.hy_hyper.specs.declared.generate.Size.{Size}
 use Rattle.hy_hyper.specs.Check.{IsCheckFault, IsChecked}
 use Rattle.hy_hyper.specs.Faults.{Explains}
 use Rattle.hy_hyper.specs.First.{IsFirstFault, IsFirstPrinted}
+use Rattle.hy_hyper.specs.declared.script.Limits.{Limits}
+use Rattle.hy_hyper.specs.Script.{IsScriptDone, IsScriptFaultOf}
 use Rattle.hy_hyper.specs.Generate.{IsGenerateFault, IsGenerated, IsSize}
 
 abbrev pub KnownFiles : Type 0
@@ -32,19 +34,28 @@ size_of warehouses customers items = record {
   items = items;
 }
 
+-- the limits that `script` is given
+abbrev pub limits_of : ℕ → ℕ → Limits
+limits_of frames kept = record { frames = frames; kept = kept }
+
 -- a command line was done: it printed what it found behind the bytes that were there
 abbrev pub IsDone : Line → KnownFiles → KnownBytes → Type 0
 IsDone (line.First amount) files bytes = IsFirstPrinted amount bytes.0 bytes.1
 IsDone (line.Generate directory warehouses customers items) files bytes =
     IsGenerated directory.now (size_of warehouses customers items) files.1 bytes.0 bytes.1
 IsDone (line.Check directory) files bytes = IsChecked directory.now files.0 bytes.0 bytes.1
+IsDone (line.Script directory file frames kept) files bytes =
+    IsScriptDone directory.now file.now (limits_of frames kept) files.0 bytes.0 bytes.1
 
--- why a command line isn't done; where it is refused, nothing is printed
-abbrev pub IsFaultOf : Line → KnownFiles → Type 0 → RunFault → Type 0
-IsFaultOf (line.First amount) files unprinted why = IsFirstFault amount unprinted why
-IsFaultOf (line.Generate directory warehouses customers items) files unprinted why =
+-- why a command line isn't done; where it is refused, nothing is printed, but for a script's answers to the events
+-- before a bad one
+abbrev pub IsFaultOf : Line → KnownFiles → KnownBytes → Type 0 → RunFault → Type 0
+IsFaultOf (line.First amount) files bytes unprinted why = IsFirstFault amount unprinted why
+IsFaultOf (line.Generate directory warehouses customers items) files bytes unprinted why =
     IsGenerateFault directory.now (size_of warehouses customers items) files unprinted why
-IsFaultOf (line.Check directory) files unprinted why = IsCheckFault directory.now files.0 unprinted why
+IsFaultOf (line.Check directory) files bytes unprinted why = IsCheckFault directory.now files.0 unprinted why
+IsFaultOf (line.Script directory file frames kept) files bytes unprinted why =
+    IsScriptFaultOf directory.now file.now (limits_of frames kept) files.0 bytes.0 bytes.1 unprinted why
 
 -- `gen` alone writes files, those of its folder, where there is a database of its size
 abbrev pub MayWrite : Line → KnownFiles → Type 0
@@ -63,7 +74,7 @@ Completes words files bytes = (line : Line) × Says words line × IsDone line fi
 -- this is why the words aren't done: their command line isn't, or memory is refused
 abbrev pub IsWhyUndone : List (List ℕ) → KnownFiles → RunFault → Type 0
 IsWhyUndone words files why =
-    (why ≡ fault.Refused refusals.NoMemory) ⊎ ((line : Line) × Says words line × IsFaultOf line files ⊤ why)
+    (why ≡ fault.Refused refusals.NoMemory) ⊎ ((line : Line) × (bytes : KnownBytes) × Says words line × IsFaultOf line files bytes ⊤ why)
 
 -- the words aren't done, and the line that says why stands behind the bytes that were there
 abbrev pub ExplainsRefusal : List (List ℕ) → KnownFiles → KnownBytes → Type 0
@@ -72,6 +83,11 @@ ExplainsRefusal words files bytes = (why : RunFault) × IsWhyUndone words files 
 -- the words say a command line that is done as far as its print
 abbrev pub AreDoneUnprinted : List (List ℕ) → KnownFiles → Type 0
 AreDoneUnprinted words files = (error : Error) × IsWhyUndone words files (fault.Writer error)
+
+-- a script whose answers, up to a bad event, stand behind the bytes that were there
+abbrev pub EndsAtBadEvent : List (List ℕ) → KnownFiles → KnownBytes → Type 0
+EndsAtBadEvent words files bytes =
+    (line : Line) × (number : ℕ) × Says words line × IsFaultOf line files bytes ⊥ (fault.BadEvent number)
 
 -- the exit status of a run that ended so
 abbrev pub status_of : Ending → ℕ

@@ -1,9 +1,8 @@
 -- Worked examples, which the checker computes: the payment of `first`, and what `check` prints.
 use Rattle.std.specs.Prelude.{◌≡◌, pos, Some, length, refl}
 use Rattle.hy_schema.specs.declared.refusal.Refusal.TheVariants as refusals
-use Rattle.hy_schema.specs.Transactions.{refusal_of}
 use Rattle.hy_rows.specs.Tables.{of_warehouse}
-use Rattle.hy_hyper.specs.First.{IsYtdAfter, first_command}
+use Rattle.hy_hyper.specs.First.{IsYtdAfter, first_refusal_of}
 use Rattle.hy_hyper.specs.Generated.{generated}
 
 -- with three customers in each district, each has paid once, and the one item is in stock
@@ -22,8 +21,8 @@ pub first-ytd : IsYtdAfter 100 (pos 30_100)
 first-ytd = (refl, refl)
 
 -- a cent less than the least payment, and a cent more than the greatest
-pub less-refused : refusal_of 1 (first_command 99) (generated 3) ≡ Some refusals.OutOfRange
+pub less-refused : first_refusal_of 99 ≡ Some refusals.OutOfRange
 less-refused = refl
 
-pub more-refused : refusal_of 1 (first_command 500_001) (generated 3) ≡ Some refusals.OutOfRange
+pub more-refused : first_refusal_of 500_001 ≡ Some refusals.OutOfRange
 more-refused = refl

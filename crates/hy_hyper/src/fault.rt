@@ -3,10 +3,11 @@
 ghost use Rattle.std.specs.Prelude.{◌≡◌, Some};
 ghost use Rattle.hy_schema.specs.declared.refusal.Refusal.TheVariants as refusals;
 ghost use Rattle.hy_hyper.specs.declared.fault.RunFault.TheVariants as fault;
-ghost use Rattle.hy_hyper.specs.Faults.{IsAboutFiles, fault_text, path_text};
+ghost use Rattle.hy_hyper.specs.Faults.{IsAboutFiles, IsOfScript, fault_text, path_text};
 
 use hy_place::{FileFault, file_name};
 use hy_schema::{Refusal, Table};
+use hy_script::ScriptFault;
 use std::alloc::AllocError;
 use std::{fmt, io};
 
@@ -36,6 +37,10 @@ pub enum RunFault<'a> {
     Refused(Refusal),
     /// A file can't be read.
     CannotRead(FilePath<'a>),
+    /// The file of a script can't be read.
+    CannotReadFile(&'a str),
+    /// The line of this number of a script is a bad event.
+    BadEvent(u64),
     /// A file can't be written.
     CannotWrite(FilePath<'a>),
     /// The writer of what is found failed.
@@ -79,6 +84,18 @@ impl From<io::Error> for RunFault<'_> {
     }
 }
 
+impl From<ScriptFault> for RunFault<'_> {
+    ghost from_gives = { IsOfScript };
+
+    fn from(found: ScriptFault) -> Self {
+        match found {
+            ScriptFault::Refused(refusal) => RunFault::Refused(refusal),
+            ScriptFault::BadEvent(line) => RunFault::BadEvent(line),
+            ScriptFault::Output(error) => RunFault::Writer(error),
+        }
+    }
+}
+
 impl fmt::Display for RunFault<'_> {
     ghost output = { fault_text };
 
@@ -86,6 +103,8 @@ impl fmt::Display for RunFault<'_> {
         match self {
             RunFault::Refused(refusal) => write!(f, "refused {refusal}"),
             RunFault::CannotRead(path) => write!(f, "cannot read {path}"),
+            RunFault::CannotReadFile(path) => write!(f, "cannot read {path}"),
+            RunFault::BadEvent(line) => write!(f, "bad event on line {line}"),
             RunFault::CannotWrite(path) => write!(f, "cannot write {path}"),
             RunFault::Writer(error) => write!(f, "{error}"),
         }

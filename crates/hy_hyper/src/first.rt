@@ -5,12 +5,13 @@ ghost use Rattle.hy_schema.specs.declared.refusal.Refusal.{Refusal};
 ghost use Rattle.hy_partition.specs.Steps.{Accepts, Refuses};
 ghost use Rattle.hy_hyper.specs.First.{HasTwoSlices, IsFirstFault, IsFirstPrinted, IsFirstRefusal, IsPaid, IsPayRefusal, IsYtdAfter, first_payment, ytds, ytds_of};
 ghost use Rattle.hy_partition.specs.Partition.{rows_now};
-ghost use Rattle.hy_partition.specs.Slices.{all_writes};
 ghost use Rattle.hy_undo.specs.UndoLog.{empty_log};
 
 use crate::fault::RunFault;
+use hy_commands::{Command, Payment, Reply, Who};
 use hy_partition::{Job, Partition, Progress, Snapshot};
-use hy_schema::{Command, Payment, Refusal, Reply, Warehouse, Who};
+use hy_rows::Warehouse;
+use hy_schema::Refusal;
 use hy_tables::generate;
 use std::alloc::Global;
 use std::io;
@@ -73,8 +74,8 @@ fn pay(partition: &mut Partition<PAGE_BYTES>, payment: Payment) -> Result<(), Re
         unreachable!();
     };
     match done.open() {
-        Reply::Payment { .. } => Ok(()),
         Reply::Refused(refusal) => Err(refusal),
+        _ => Ok(()),
     }
 }
 
@@ -82,8 +83,8 @@ fn pay(partition: &mut Partition<PAGE_BYTES>, payment: Payment) -> Result<(), Re
 fn run_slices(partition: &mut Partition<PAGE_BYTES>)
     requires { IsSomeAnd partition.old.running HasTwoSlices }
     ensures { IsSomeAnd partition.old.running
-        (λ job. Accepts (all_writes job.command) job.command partition.old partition.new
-        ⊎ Refuses (all_writes job.command) partition.old partition.new) }
+        (λ job. Accepts job.command partition.old partition.new
+        ⊎ Refuses job.command partition.old partition.new) }
 {
     match partition.step() {
         Ok(Progress::More) => {

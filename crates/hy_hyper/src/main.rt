@@ -7,6 +7,7 @@ mod fault;
 mod first;
 mod generate;
 mod run;
+mod script;
 mod system;
 
 use std::process::ExitCode;
@@ -15,6 +16,8 @@ use std::process::ExitCode;
 mod example;
 #[cfg(test)]
 mod file_tests;
+#[cfg(test)]
+mod script_tests;
 #[cfg(test)]
 mod shelf;
 #[cfg(test)]

@@ -1,17 +1,18 @@
 //! The program, from its words to the way in which it ended.
 
 ghost use Rattle.std.specs.Prelude.{◌≡◌, ◌⊎◌, IfErr, OnOk};
-ghost use Rattle.hy_words.specs.CommandLine.{AreTaken, texts_of};
+ghost use Rattle.hy_words.specs.CommandLine.{AreTaken, HasLimits, texts_of};
 ghost use Rattle.hy_words.specs.declared.words.Line.TheVariants as line;
 ghost use Rattle.hy_hyper.specs.declared.ending.Ending.{Ending};
 ghost use Rattle.hy_hyper.specs.Faults.{Explains};
-ghost use Rattle.hy_hyper.specs.Runs.{AreDoneUnprinted, Completes, ExplainsRefusal, IsDone, IsFaultOf, KeepsFiles, MayWrite};
+ghost use Rattle.hy_hyper.specs.Runs.{AreDoneUnprinted, Completes, EndsAtBadEvent, ExplainsRefusal, IsDone, IsFaultOf, KeepsFiles, MayWrite};
 
 use crate::check::run_check;
 use crate::ending::Ending;
 use crate::fault::RunFault;
 use crate::first::run_first;
 use crate::generate::{Size, run_generate};
+use crate::script::{Limits, run_script_file};
 use hy_place::Place;
 use hy_schema::Refusal;
 use hy_words::{Line, LineFault, read_words};
@@ -37,12 +38,16 @@ pub fn run_words<F: Place, O: io::Write, X: io::Write>(
     ensures refused { result ≡ Ending.Refused →
         ExplainsRefusal (texts_of words.entry.now) (F.files place.old, F.files place.new)
         (X.contents err.old, X.contents err.new) }
-    ensures refused_unprinted { result ≡ Ending.Refused → out.new ≡ out.old }
+    ensures refused_unprinted { result ≡ Ending.Refused → (out.new ≡ out.old)
+        ⊎ EndsAtBadEvent (texts_of words.entry.now) (F.files place.old, F.files place.new)
+        (O.contents out.old, O.contents out.new) }
 
     // What was refused printed nothing, even where that couldn't be explained.
     ensures writer_failed { result ≡ Ending.WriterFailed →
         (out.new ≡ out.old)
-        ⊎ AreDoneUnprinted (texts_of words.entry.now) (F.files place.old, F.files place.new) }
+        ⊎ AreDoneUnprinted (texts_of words.entry.now) (F.files place.old, F.files place.new)
+        ⊎ EndsAtBadEvent (texts_of words.entry.now) (F.files place.old, F.files place.new)
+        (O.contents out.old, O.contents out.new) }
 
     ensures at_fault { result ≡ Ending.NoLine → ¬ (AreTaken (texts_of words.entry.now)) }
     ensures no_line { result ≡ Ending.NoLine → (place.new ≡ place.old) × (out.new ≡ out.old) }
@@ -85,12 +90,14 @@ fn run_line<'a, F: Place, O: io::Write>(
     place: &mut F,
     out: &mut O,
 ) -> Result<(), RunFault<'a>>
+    requires { HasLimits line }
     ensures files { (F.files place.new ≡ F.files place.old)
         ⊎ MayWrite line.entry (F.files place.old, F.files place.new) }
     ensures done { OnOk result
         (IsDone line.entry (F.files place.old, F.files place.new) (O.contents out.old, O.contents out.new)) }
     ensures fault { IfErr result
-        (IsFaultOf line.entry (F.files place.old, F.files place.new) (out.new ≡ out.old)) }
+        (IsFaultOf line.entry (F.files place.old, F.files place.new) (O.contents out.old, O.contents out.new)
+        (out.new ≡ out.old)) }
 {
     match line {
         Line::First { amount } => run_first(alloc, amount, out),
@@ -108,5 +115,14 @@ fn run_line<'a, F: Place, O: io::Write>(
             run_generate(alloc, directory, size, place, out)
         }
         Line::Check { directory } => run_check(alloc, directory, place, out),
+        Line::Script {
+            directory,
+            file,
+            frames,
+            kept,
+        } => {
+            let limits = Limits { frames, kept };
+            run_script_file(alloc, directory, file, limits, place, out)
+        }
     }
 }

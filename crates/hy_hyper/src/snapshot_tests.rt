@@ -4,8 +4,10 @@ ghost use Rattle.hy_frames.specs.FrameTable.{IsPageSize};
 ghost use Rattle.hy_partition.specs.Steps.{Closes, Forks};
 ghost use Rattle.hy_hyper.specs.Open.{Holds, KeepsOpen};
 
+use hy_commands::{Command, Payment, Reply, Who};
 use hy_partition::{Job, Partition, Progress, Snapshot};
-use hy_schema::{Command, Payment, Refusal, Reply, Warehouse, Who};
+use hy_rows::Warehouse;
+use hy_schema::Refusal;
 use hy_tables::generate;
 use std::process::Abort;
 use std::test::Fail;
@@ -34,16 +36,17 @@ fn payment(amount: u64) -> Job {
     }))
 }
 
-/// The reply to an accepted payment of customer 1, with the balance after it in cents.
-fn paid(balance: i64) -> Reply {
-    Reply::Payment {
-        customer: 1,
-        balance,
+/// The balance that a reply to a payment tells, in cents, or why it was refused.
+fn balance_of(reply: Reply) -> Result<i64, Refusal> {
+    match reply {
+        Reply::Payment { balance, .. } => Ok(balance),
+        Reply::Refused(refusal) => Err(refusal),
+        _ => Err(Refusal::OutOfRange),
     }
 }
 
-/// The reply to a payment.
-fn pay<const N: usize>(partition: &mut Partition<N>, amount: u64) -> Result<Reply, Refusal>
+/// The balance after a payment, or why it was refused.
+fn pay<const N: usize>(partition: &mut Partition<N>, amount: u64) -> Result<i64, Refusal>
     ensures { KeepsOpen partition.old partition.new }
 {
     if let Err((_job, refusal)) = partition.begin(payment(amount)) {
@@ -51,7 +54,7 @@ fn pay<const N: usize>(partition: &mut Partition<N>, amount: u64) -> Result<Repl
     }
     partition.finish_running();
     match partition.take_done() {
-        Some(done) => Ok(done.open()),
+        Some(done) => balance_of(done.open()),
         None => Err(Refusal::NotRunning),
     }
 }
@@ -63,18 +66,18 @@ fn slice<const N: usize>(partition: &mut Partition<N>) -> Result<Progress, Refus
     partition.step()
 }
 
-/// The reply that waits to be taken.
-fn answer<const N: usize>(partition: &mut Partition<N>) -> Result<Reply, Refusal>
+/// The balance of the answer that waits to be taken, or why it was refused.
+fn answer<const N: usize>(partition: &mut Partition<N>) -> Result<i64, Refusal>
     ensures { KeepsOpen partition.old partition.new }
 {
     match partition.take_done() {
-        Some(done) => Ok(done.open()),
+        Some(done) => balance_of(done.open()),
         None => Err(Refusal::NotRunning),
     }
 }
 
-/// The last slice of the payment that runs, and its reply.
-fn pay_rest<const N: usize>(partition: &mut Partition<N>) -> Result<Reply, Refusal>
+/// The last slice of the payment that runs, and the balance after it.
+fn pay_rest<const N: usize>(partition: &mut Partition<N>) -> Result<i64, Refusal>
     ensures { KeepsOpen partition.old partition.new }
 {
     match slice(partition) {
@@ -93,13 +96,12 @@ fn pay_half<const N: usize>(partition: &mut Partition<N>, amount: u64) -> Result
     slice(partition)
 }
 
-/// A partition with the first slice of a payment of 100 cents done, and so many frames free.
-fn half_done<const N: usize>(rt: &(impl Abort + AllocGlobal), free: u64) -> Partition<N>
-    requires { IsPageSize N }
-{
-    let mut partition: Partition<N> = begun(rt);
+/// A partition with the first slice of a payment of 100 cents done, and so many frames free. The slice has written the
+/// pages of its warehouse and of its district, and two of HISTORY.
+fn half_done(rt: &(impl Abort + AllocGlobal), free: u64) -> Partition<4096> {
+    let mut partition: Partition<4096> = begun(rt);
     assert_eq!(rt; pay_half(&mut partition, 100), Ok(Progress::More));
-    assert_eq!(rt; partition.touched(), 2);
+    assert_eq!(rt; partition.touched(), 4);
     let used = FRAMES.saturating_sub(partition.free());
     assert!(rt; partition.set_max(used.saturating_add(free)).is_ok());
     assert_eq!(rt; partition.free(), free);
@@ -142,7 +144,7 @@ fn stays<const N: usize>(rt: &(impl Abort + AllocGlobal)) -> Result<(), Fail>
 {
     let mut partition: Partition<N> = begun(rt);
     let first = take(rt, &mut partition);
-    assert_eq!(rt; pay(&mut partition, 100), Ok(paid(-1100)));
+    assert_eq!(rt; pay(&mut partition, 100), Ok(-1100));
     let second = take(rt, &mut partition);
     partition.spells(&second);
     assert!(rt; ytd(rt, &first) == 30_000 && first.commits() == 0);
@@ -153,8 +155,11 @@ fn stays<const N: usize>(rt: &(impl Abort + AllocGlobal)) -> Result<(), Fail>
     Ok(())
 }
 
-/// Three snapshots with payments between them, closed in another order than they were opened.
-fn closed_in_another_order<const N: usize>(rt: &(impl Abort + AllocGlobal)) -> Result<(), Fail>
+/// Three snapshots with payments between them, closed in another order than they were opened. HISTORY grows by some pages.
+fn closed_in_another_order<const N: usize>(
+    rt: &(impl Abort + AllocGlobal),
+    grown: u64,
+) -> Result<(), Fail>
     requires { IsPageSize N }
 {
     let mut partition: Partition<N> = begun(rt);
@@ -169,37 +174,34 @@ fn closed_in_another_order<const N: usize>(rt: &(impl Abort + AllocGlobal)) -> R
     close(&mut partition, third);
     assert_eq!(rt; ytd(rt, &first), 30_000);
     close(&mut partition, first);
-    assert!(rt; partition.shared() == 0 && partition.free() == free);
+    assert!(rt; partition.shared() == 0 && partition.free().saturating_add(grown) == free);
     Ok(())
 }
 
-/// A payment that finds no free frame, beside a snapshot, and once the snapshot is closed.
-fn without_a_frame<const N: usize>(rt: &(impl Abort + AllocGlobal)) -> Result<(), Fail>
+/// A payment that finds one free frame, beside a snapshot, and once the snapshot is closed. HISTORY grows by some pages.
+fn without_a_frame<const N: usize>(rt: &(impl Abort + AllocGlobal), grown: u64) -> Result<(), Fail>
     requires { IsPageSize N }
 {
     let mut partition: Partition<N> = begun(rt);
     let used = FRAMES.saturating_sub(partition.free());
-    assert!(rt; partition.set_max(used).is_ok() && partition.free() == 0);
+    assert!(rt; partition.set_max(used.saturating_add(1)).is_ok() && partition.free() == 1);
     let first = take(rt, &mut partition);
-    assert_eq!(rt;
-        pay(&mut partition, 100),
-        Ok(Reply::Refused(Refusal::NoFrame))
-    );
+    assert_eq!(rt; pay(&mut partition, 100), Err(Refusal::NoFrame));
     let second = take(rt, &mut partition);
     assert!(rt; ytd(rt, &first) == 30_000 && ytd(rt, &second) == 30_000);
     assert!(rt; partition.kept().is_empty());
     close(&mut partition, first);
     close(&mut partition, second);
-    assert_eq!(rt; pay(&mut partition, 100), Ok(paid(-1100)));
+    assert_eq!(rt; pay(&mut partition, 100), Ok(-1100));
     let third = take(rt, &mut partition);
     assert_eq!(rt; ytd(rt, &third), 30_100);
     close(&mut partition, third);
-    assert!(rt; partition.shared() == 0 && partition.free() == 0);
+    assert!(rt; partition.shared() == 0 && partition.free().saturating_add(grown) == 1);
     Ok(())
 }
 
-/// Many snapshots, each with a payment beside it.
-fn many<const N: usize>(rt: &(impl Abort + AllocGlobal)) -> Result<(), Fail>
+/// Many snapshots, each with a payment beside it. HISTORY grows by some pages.
+fn many<const N: usize>(rt: &(impl Abort + AllocGlobal), grown: u64) -> Result<(), Fail>
     requires { IsPageSize N }
 {
     let mut partition: Partition<N> = begun(rt);
@@ -210,7 +212,7 @@ fn many<const N: usize>(rt: &(impl Abort + AllocGlobal)) -> Result<(), Fail>
         assert!(rt; partition.free() < free && partition.shared() > 0);
         close(&mut partition, snapshot);
     }
-    assert!(rt; partition.free() == free && partition.shared() == 0);
+    assert!(rt; partition.free().saturating_add(grown) == free && partition.shared() == 0);
     assert_eq!(rt; partition.kept().len(), 50);
     Ok(())
 }
@@ -226,8 +228,8 @@ fn without_free_frames<const N: usize>(
     assert!(rt; partition.set_max(used).is_ok() && partition.free() == 0);
 }
 
-/// Snapshots before, between and after the slices of a payment, closed in another order.
-fn between_slices<const N: usize>(rt: &(impl Abort + AllocGlobal)) -> Result<(), Fail>
+/// Snapshots before, between and after the slices of a payment, closed in another order. HISTORY grows by some pages.
+fn between_slices<const N: usize>(rt: &(impl Abort + AllocGlobal), grown: u64) -> Result<(), Fail>
     requires { IsPageSize N }
 {
     let mut partition: Partition<N> = begun(rt);
@@ -235,7 +237,7 @@ fn between_slices<const N: usize>(rt: &(impl Abort + AllocGlobal)) -> Result<(),
     let first = take(rt, &mut partition);
     assert_eq!(rt; pay_half(&mut partition, 100), Ok(Progress::More));
     let second = take(rt, &mut partition);
-    assert_eq!(rt; pay_rest(&mut partition), Ok(paid(-1100)));
+    assert_eq!(rt; pay_rest(&mut partition), Ok(-1100));
     let third = take(rt, &mut partition);
     assert!(rt; second.commits() == 0 && third.commits() == 1);
     close(&mut partition, second);
@@ -243,27 +245,30 @@ fn between_slices<const N: usize>(rt: &(impl Abort + AllocGlobal)) -> Result<(),
     close(&mut partition, third);
     assert_eq!(rt; ytd(rt, &first), 30_000);
     close(&mut partition, first);
-    assert!(rt; partition.shared() == 0 && partition.free() == free);
+    assert!(rt; partition.shared() == 0 && partition.free().saturating_add(grown) == free);
     Ok(())
 }
 
-/// Snapshots between the slices of two payments, the later one closed first.
-fn between_two_payments<const N: usize>(rt: &(impl Abort + AllocGlobal)) -> Result<(), Fail>
+/// Snapshots between the slices of two payments, the later one closed first. HISTORY grows by some pages.
+fn between_two_payments<const N: usize>(
+    rt: &(impl Abort + AllocGlobal),
+    grown: u64,
+) -> Result<(), Fail>
     requires { IsPageSize N }
 {
     let mut partition: Partition<N> = begun(rt);
     let free = partition.free();
     assert_eq!(rt; pay_half(&mut partition, 100), Ok(Progress::More));
     let first = take(rt, &mut partition);
-    assert_eq!(rt; pay_rest(&mut partition), Ok(paid(-1100)));
+    assert_eq!(rt; pay_rest(&mut partition), Ok(-1100));
     assert_eq!(rt; pay_half(&mut partition, 500), Ok(Progress::More));
     let second = take(rt, &mut partition);
-    assert_eq!(rt; pay_rest(&mut partition), Ok(paid(-1600)));
+    assert_eq!(rt; pay_rest(&mut partition), Ok(-1600));
     assert!(rt; ytd(rt, &first) == 30_000 && ytd(rt, &second) == 30_100);
     close(&mut partition, second);
     assert_eq!(rt; ytd(rt, &first), 30_000);
     close(&mut partition, first);
-    assert!(rt; partition.shared() == 0 && partition.free() == free);
+    assert!(rt; partition.shared() == 0 && partition.free().saturating_add(grown) == free);
     Ok(())
 }
 
@@ -275,10 +280,7 @@ fn refused_between_slices<const N: usize>(rt: &(impl Abort + AllocGlobal)) -> Re
     assert_eq!(rt; pay_half(&mut partition, 100), Ok(Progress::More));
     let first = take(rt, &mut partition);
     without_free_frames(rt, &mut partition);
-    assert_eq!(rt;
-        pay_rest(&mut partition),
-        Ok(Reply::Refused(Refusal::NoFrame))
-    );
+    assert_eq!(rt; pay_rest(&mut partition), Err(Refusal::NoFrame));
     let second = take(rt, &mut partition);
     assert!(rt; ytd(rt, &first) == 30_000 && ytd(rt, &second) == 30_000);
     assert!(rt; partition.kept().is_empty() && partition.touched() == 0);
@@ -296,28 +298,28 @@ fn first_snapshot_stays(rt: HostRuntime) -> Result<(), Fail> {
 
 #[test]
 fn forks_closed_in_another_order(rt: HostRuntime) -> Result<(), Fail> {
-    closed_in_another_order::<256>(&rt)?;
-    closed_in_another_order::<4096>(&rt)
+    closed_in_another_order::<256>(&rt, 1)?;
+    closed_in_another_order::<4096>(&rt, 0)
 }
 
 #[test]
 fn a_write_without_a_frame(rt: HostRuntime) -> Result<(), Fail> {
-    without_a_frame::<256>(&rt)?;
-    without_a_frame::<4096>(&rt)
+    without_a_frame::<256>(&rt, 1)?;
+    without_a_frame::<4096>(&rt, 0)
 }
 
 #[test]
 fn frames_come_back(rt: HostRuntime) -> Result<(), Fail> {
-    many::<256>(&rt)?;
-    many::<4096>(&rt)
+    many::<256>(&rt, 10)?;
+    many::<4096>(&rt, 0)
 }
 
 #[test]
 fn forks_between_slices(rt: HostRuntime) -> Result<(), Fail> {
-    between_slices::<256>(&rt)?;
-    between_slices::<4096>(&rt)?;
-    between_two_payments::<256>(&rt)?;
-    between_two_payments::<4096>(&rt)
+    between_slices::<256>(&rt, 1)?;
+    between_slices::<4096>(&rt, 0)?;
+    between_two_payments::<256>(&rt, 1)?;
+    between_two_payments::<4096>(&rt, 0)
 }
 
 #[test]
@@ -328,27 +330,24 @@ fn rollback_without_frames(rt: HostRuntime) -> Result<(), Fail> {
 
 #[test]
 fn thin_half_done(rt: HostRuntime) -> Result<(), Fail> {
-    let mut partition: Partition<4096> = half_done(&rt, 3);
+    let mut partition: Partition<4096> = half_done(&rt, 5);
     let snapshot = take(&rt, &mut partition);
     assert!(rt; ytd(&rt, &snapshot) == 30_000 && partition.free() == 1);
-    assert_eq!(rt; pay_rest(&mut partition), Ok(paid(-1100)));
+    assert_eq!(rt; pay_rest(&mut partition), Ok(-1100));
     assert_eq!(rt; partition.free(), 0);
     close(&mut partition, snapshot);
-    let mut partition: Partition<4096> = half_done(&rt, 2);
+    let mut partition: Partition<4096> = half_done(&rt, 4);
     let snapshot = take(&rt, &mut partition);
     assert!(rt; ytd(&rt, &snapshot) == 30_000 && partition.free() == 0);
-    assert_eq!(rt;
-        pay_rest(&mut partition),
-        Ok(Reply::Refused(Refusal::NoFrame))
-    );
+    assert_eq!(rt; pay_rest(&mut partition), Err(Refusal::NoFrame));
     close(&mut partition, snapshot);
-    let mut partition: Partition<4096> = half_done(&rt, 1);
+    let mut partition: Partition<4096> = half_done(&rt, 3);
     match partition.fork() {
-        Ok(_) => panic!(rt; "two pages in one frame"),
+        Ok(_) => panic!(rt; "four pages in three frames"),
         Err(refusal) => assert_eq!(rt; refusal, Refusal::NoFrame),
     }
-    assert!(rt; partition.shared() == 0 && partition.free() == 1 && partition.touched() == 2);
-    assert_eq!(rt; pay_rest(&mut partition), Ok(paid(-1100)));
+    assert!(rt; partition.shared() == 0 && partition.free() == 3 && partition.touched() == 4);
+    assert_eq!(rt; pay_rest(&mut partition), Ok(-1100));
     Ok(())
 }
 
@@ -359,75 +358,54 @@ fn slices_one_by_one(rt: HostRuntime) -> Result<(), Fail> {
     assert!(rt; partition.begin(payment(100)).is_ok());
     assert!(rt; !partition.at_last() && partition.touched() == 0);
     assert_eq!(rt; partition.step(), Ok(Progress::More));
-    assert!(rt; partition.at_last() && partition.touched() == 2 && partition.kept().is_empty());
+    assert!(rt; partition.at_last() && partition.touched() == 4 && partition.kept().is_empty());
     match partition.begin(payment(200)) {
         Ok(()) => panic!(rt; "a second job began"),
         Err((job, refusal)) => {
             assert_eq!(rt; refusal, Refusal::Busy);
-            assert_eq!(rt; job.refuse(refusal).open(), Reply::Refused(Refusal::Busy));
+            assert_eq!(rt; balance_of(job.refuse(refusal).open()), Err(Refusal::Busy));
         }
     }
     assert_eq!(rt; partition.step(), Ok(Progress::Finished));
     assert!(rt; partition.touched() == 0 && partition.kept().len() == 1);
     let done = partition.take_done().expect(&rt, "an answer");
-    assert_eq!(rt; done.open(), paid(-1100));
+    assert_eq!(rt; balance_of(done.open()), Ok(-1100));
     assert!(rt; partition.take_done().is_none());
     partition.headline();
     Ok(())
 }
 
+/// A payment of an amount in a district of a warehouse, by the customer of a district of a warehouse, at a moment.
+fn of(
+    warehouse: u64,
+    district: u64,
+    customer_warehouse: u64,
+    customer_district: u64,
+    customer: u64,
+    amount: u64,
+    at: u64,
+) -> Payment {
+    Payment {
+        warehouse,
+        district,
+        customer_warehouse,
+        customer_district,
+        who: Who::Number(customer),
+        amount,
+        at,
+    }
+}
+
 #[test]
 fn refuses_in_order(rt: HostRuntime) -> Result<(), Fail> {
     let mut partition: Partition<4096> = begun(&rt);
-    let right = Payment {
-        warehouse: 1,
-        district: 1,
-        customer_warehouse: 1,
-        customer_district: 1,
-        who: Who::Number(1),
-        amount: 100,
-        at: 1,
-    };
     let cases: [(Payment, Refusal); 6] = [
-        (
-            Payment {
-                amount: 99,
-                warehouse: 2,
-                ..right
-            },
-            Refusal::OutOfRange,
-        ),
-        (Payment { at: 0, ..right }, Refusal::OutOfRange),
-        (
-            Payment {
-                warehouse: 2,
-                district: 11,
-                ..right
-            },
-            Refusal::NoSuchWarehouse,
-        ),
-        (
-            Payment {
-                customer_warehouse: 2,
-                ..right
-            },
-            Refusal::NoSuchWarehouse,
-        ),
-        (
-            Payment {
-                customer_district: 11,
-                who: Who::Number(4),
-                ..right
-            },
-            Refusal::NoSuchDistrict,
-        ),
-        (
-            Payment {
-                who: Who::Number(4),
-                ..right
-            },
-            Refusal::NoSuchCustomer,
-        ),
+        (of(2, 1, 1, 1, 1, 99, 1), Refusal::OutOfRange),
+        (of(1, 1, 1, 1, 1, 100, 0), Refusal::OutOfRange),
+        (of(2, 11, 1, 1, 1, 100, 1), Refusal::NoSuchWarehouse),
+        (of(1, 1, 2, 1, 1, 100, 1), Refusal::NoSuchWarehouse),
+        (of(1, 1, 1, 11, 4, 100, 1), Refusal::NoSuchDistrict),
+        (of(1, 1, 1, 1, 4, 100, 1), Refusal::NoSuchCustomer),
     ];
     for (payment, refusal) in cases {
         match partition.begin(Job::new(Command::Payment(payment))) {
@@ -441,15 +419,15 @@ fn refuses_in_order(rt: HostRuntime) -> Result<(), Fail> {
 #[test]
 fn limits_of_a_partition(rt: HostRuntime) -> Result<(), Fail> {
     let load = generate(rt.alloc(), 1, 3, 1).expect(&rt, "a load");
-    match Partition::<4096>::new(rt.alloc(), &load, 1, 12, 1) {
-        Ok(_) => panic!(rt; "thirteen pages in twelve frames"),
+    match Partition::<4096>::new(rt.alloc(), &load, 1, 16, 1) {
+        Ok(_) => panic!(rt; "seventeen pages in sixteen frames"),
         Err(refusal) => assert_eq!(rt; refusal, Refusal::NoFrame),
     }
-    let mut partition = Partition::<4096>::new(rt.alloc(), &load, 1, 13, 1).expect(
+    let mut partition = Partition::<4096>::new(rt.alloc(), &load, 1, 17, 1).expect(
         &rt,
         "a partition",
     );
-    assert!(rt; partition.free() == 0 && partition.set_max(12) == Err(Refusal::OutOfRange));
+    assert!(rt; partition.free() == 0 && partition.set_max(16) == Err(Refusal::OutOfRange));
     assert!(rt; pay(&mut partition, 100).is_ok());
     assert_eq!(rt; pay(&mut partition, 100), Err(Refusal::HistoryFull));
     Ok(())

@@ -38,14 +38,8 @@ impl Model for Load {
 }
 
 impl Load {
-    ghost use Rattle.std.specs.Prelude.{◌≡◌, ◌⊎◌, ℕ, List, length, IfOk, MatchResult};
-    ghost use Rattle.hy_schema.specs.declared.command.Commit.{Commit};
-    ghost use Rattle.hy_rows.specs.Tables.{of_warehouse};
-    ghost use Rattle.hy_schema.specs.Keys.{HasUniqueKeys};
-    ghost use Rattle.hy_rows.specs.Ranges.{IsBetween};
-    ghost use Rattle.hy_schema.specs.Conditions.{IsConsistent};
-    ghost use Rattle.hy_schema.specs.Replay.{replay};
-    ghost use Rattle.hy_schema.specs.Loads.{IsLoad, HasFault};
+    ghost use Rattle.std.specs.Prelude.{◌≡◌, IfOk, MatchResult};
+    ghost use Rattle.hy_schema.specs.Loads.{IsLoad};
 
     /// The load with these lists. E12 names the first wrong row of the first wrong list, in the order WAREHOUSE,
     /// DISTRICT, CUSTOMER, ITEM, STOCK, ORDER, NEW-ORDER, ORDER-LINE, HISTORY, or else the first broken consistency
@@ -106,28 +100,6 @@ impl Load {
         ensures { IsLoad self.now }
     {
         let _lists = &self.lists;
-    }
-
-    /// No two rows of WAREHOUSE, DISTRICT or CUSTOMER have the same key, in a load and in what a list of commits makes
-    /// of a warehouse of it.
-    pub fn keys_are_unique(&self)
-        ensures loaded { HasUniqueKeys self.now.tables }
-        ensures kept { (warehouse : ℕ) (commits : List Commit)
-            → IsBetween 1 (length self.now.tables.warehouses) warehouse
-            → HasUniqueKeys (replay warehouse (of_warehouse warehouse self.now.tables) commits) }
-    {
-        self.sound();
-    }
-
-    /// Each warehouse of a load has one row of WAREHOUSE, its ten districts in order and its customers, and meets the
-    /// consistency conditions 1 and 12 (TPC-C clause 3.3.2), after any list of commits.
-    pub fn conditions_are_kept(&self)
-        ensures { (warehouse : ℕ) (commits : List Commit)
-            → IsBetween 1 (length self.now.tables.warehouses) warehouse
-            → IsConsistent warehouse
-            (replay warehouse (of_warehouse warehouse self.now.tables) commits) }
-    {
-        self.sound();
     }
 }
 

@@ -11,13 +11,15 @@ use Rattle.hy_space.proofs.TableLaws.{same_bytes, same_child_bytes}
 use Rattle.hy_undo.specs.UndoLog.{undone}
 use Rattle.hy_undo.specs.Touched.{touched}
 use Rattle.hy_undo.specs.PrivatePages.{IsUndoLog}
+use Rattle.hy_undo.specs.Fork.{IsAsBefore}
 use Rattle.hy_undo.proofs.PrivatePageLaws.{IsUndoLog-kept, KeepsPages-unseen}
+use Rattle.hy_tpcc.specs.Executor.{ExecutorState}
 use Rattle.hy_partition.specs.Partition.{PartitionState, commits_of, rows_now}
 use Rattle.hy_partition.specs.Snapshots.{SnapshotState}
 use Rattle.hy_partition.specs.inside.Soundness.{IsSound}
 use Rattle.hy_partition.specs.Steps.{Forks, KeepsOthers, StaysUnforked}
-use Rattle.hy_partition.proofs.SoundLaws.{sound-forked, sound-snapshots, snapshot_fresh}
-use Rattle.hy_partition.proofs.StepLaws.{spells-kept_more}
+use Rattle.hy_partition.proofs.SoundLaws.{sound-forked, sound-snapshots, snapshot_fresh, spells-store}
+use Rattle.hy_partition.proofs.SpellLaws.{spells-kept_more}
 
 -- what holds of a space in which pages may be lent now
 unchanged_bytes : (old new : SpaceState) → IsUnchanged old new → owner_bytes new ≡ owner_bytes old
@@ -31,8 +33,42 @@ unchanged_child_bytes old new same child =
     ap (option_map (table_bytes new.frames)) (unchanged_child old new same child)
     ∙ same_child_bytes old.frames new.frames (child_table old child) (λ f more. same.pages f)
 
+-- a fork that the undo log refused: all is as before
+module _ (n places : ℕ) (executor : ExecutorState) (p : PartitionState) (sound : IsSound n places executor p)
+    (same : SpaceState) (before : IsAsBefore p.space same) where
+  pub sound-as_before : (snapshots : List (Option ℕ)) → snapshots ≡ p.snapshots
+      → IsSound n places executor (record p { space = same; snapshots = snapshots })
+  sound-as_before snapshots stay =
+      let after : PartitionState = record p { space = same } in
+      subst (λ (all : List (Option ℕ)). IsSound n places executor (record p { space = same; snapshots = all })) (sym stay)
+      (sound-snapshots n places executor p sound same p.snapshots before.owner
+      (IsUndoLog-kept n p.space same p.undo (KeepsPages-unseen p.space same before.owner.bytes before.kept) sound.undo_log)
+      (λ other. spells-kept_more n p after refl [] (sym (append-nil p.kept)) other refl (before.bytes other)
+      (sound.snapshots other)))
+
+  pub stays-as_before : (snapshots : List (Option ℕ)) → snapshots ≡ p.snapshots
+      → same.frames.max ≡ p.space.frames.max
+      → StaysUnforked p (record p { space = same; snapshots = snapshots })
+  stays-as_before snapshots stay limit = record {
+    job = record {
+      load = refl;
+      warehouse = refl;
+      kept = refl;
+      max_kept = refl;
+      running = refl;
+      undo = refl;
+      finished = refl;
+      owner = before.owner;
+    };
+    snapshots = λ other. ap (λ (all : List (Option ℕ)). slice_index_or all other None) stay;
+    tables = before.tables;
+    bytes = before.bytes;
+    counts = before.counts;
+    max_frames = limit;
+  }
+
 -- with pages of n bytes: the child was opened with the running transaction undone in it, and its pages may have got holds
-module _ (n places customer : ℕ) (p : PartitionState) (sound : IsSound n places customer p) (mid held : SpaceState) (child : ℕ)
+module _ (n places : ℕ) (executor : ExecutorState) (p : PartitionState) (sound : IsSound n places executor p) (mid held : SpaceState) (child : ℕ)
     (least : IsLeastFree p.space child) (bytes : child_bytes mid child ≡ Some (undone (owner_bytes p.space) p.undo)) (others : SameForOthers p.space mid child) (owner : SameForOwner p.space mid)
     (log : IsUndoLog n mid p.undo) (lent : IsUnchanged mid held) (kept : KeepsOwn mid held) where
   held_owner : SameForOwner p.space held
@@ -52,37 +88,38 @@ module _ (n places customer : ℕ) (p : PartitionState) (sound : IsSound n place
 
   -- the pages of the child have the tables
   pub whole : (seen : List (List (List ℕ))) → child_bytes mid child ≡ Some seen → HasTables n seen
-  whole seen is = subst (λ (pages : List (List (List ℕ))). HasTables n pages) (some_same (sym bytes ∙ is)) sound.live.whole
+  whole seen is = subst (λ (pages : List (List (List ℕ))). HasTables n pages) (some_same (sym bytes ∙ is)) sound.live.store.tables
     where
       some_same : {one other : List (List (List ℕ))} → Some one ≡ Some other → one ≡ other
       some_same same = cc
 
   -- a snapshot stands at the child's place
   pub sound-opened : (snapshots : List (Option ℕ)) → slice_index_or snapshots child None ≡ Some (length p.kept)
-      → ((other : ℕ) → other ≢ child → slice_index_or snapshots other None ≡ commits_of p other) → IsSound n places customer (record p { space = held; snapshots = snapshots })
+      → ((other : ℕ) → other ≢ child → slice_index_or snapshots other None ≡ commits_of p other) → IsSound n places executor (record p { space = held; snapshots = snapshots })
   sound-opened snapshots commits others_commits =
-      sound-forked n places customer p sound held snapshots child held_owner held_others held_log held_bytes commits others_commits
+      sound-forked n places executor p sound held snapshots child held_owner held_others held_log held_bytes commits others_commits
 
   pub forks : (snapshots : List (Option ℕ)) (snapshot : SnapshotState) → slice_index_or snapshots child None ≡ Some (length p.kept)
       → ((other : ℕ) → other ≢ child → slice_index_or snapshots other None ≡ commits_of p other)
       → free_of mid.frames + touched p.undo ≡ free_of p.space.frames → mid.frames.max ≡ p.space.frames.max
-      → snapshot.warehouse ≡ p.warehouse → snapshot.child ≡ child → snapshot.commits ≡ length p.kept → child_bytes mid child ≡ Some snapshot.bytes
+      → snapshot.items ≡ p.load.items → snapshot.warehouse ≡ p.warehouse → snapshot.child ≡ child → snapshot.commits ≡ length p.kept → child_bytes mid child ≡ Some snapshot.bytes
       → Forks n p (record p { space = held; snapshots = snapshots }) snapshot
-  forks snapshots snapshot commits others_commits free limit warehouse at count seen =
+  forks snapshots snapshot commits others_commits free limit items warehouse at count seen =
       let seen_is : snapshot.bytes ≡ undone (owner_bytes p.space) p.undo = some_same (sym seen ∙ bytes) in
       let after : PartitionState = record p { space = held; snapshots = snapshots } in
       record {
+        items = items;
         warehouse = warehouse;
         child = subst (λ (c : ℕ). IsLeastFree p.space c) (sym at) least;
-        fresh = ap (commits_of p) at ∙ snapshot_fresh n places customer p sound child least.closed;
+        fresh = ap (commits_of p) at ∙ snapshot_fresh n places executor p sound child least.closed;
         commits = count;
         bytes = seen_is;
-        spells = subst (λ (pages : List (List (List ℕ))). Spells n pages (rows_now p)) (sym seen_is) sound.live;
+        spells = subst (λ (pages : List (List (List ℕ))). Spells n pages (rows_now p)) (sym seen_is) (spells-store sound.live);
         open_bytes = ap (child_bytes held) at ∙ unchanged_child_bytes mid held lent child ∙ seen;
         open_commits = ap (commits_of after) at ∙ commits ∙ ap Some (sym count);
         free = omega (arith, free, lent.free);
         max_frames = lent.limit ∙ limit;
-        job = record { warehouse = refl; loaded = refl; kept = refl; max_kept = refl; running = refl; undo = refl; finished = refl; owner = held_owner };
+        job = record { load = refl; warehouse = refl; kept = refl; max_kept = refl; running = refl; undo = refl; finished = refl; owner = held_owner };
         others = subst (λ (c : ℕ). KeepsOthers p after c) (sym at) (record { bytes = held_others; commits = others_commits });
       }
     where
@@ -108,18 +145,18 @@ module _ (n places customer : ℕ) (p : PartitionState) (sound : IsSound n place
       | inr apart ↦ still.bytes other apart ∙ held_others.bytes other apart
     ]
 
-    pub sound-unforked : (snapshots : List (Option ℕ)) → snapshots ≡ p.snapshots → IsSound n places customer (record p { space = closed; snapshots = snapshots })
+    pub sound-unforked : (snapshots : List (Option ℕ)) → snapshots ≡ p.snapshots → IsSound n places executor (record p { space = closed; snapshots = snapshots })
     sound-unforked snapshots same =
         let after : PartitionState = record p { space = closed } in
-        subst (λ (all : List (Option ℕ)). IsSound n places customer (record p { space = closed; snapshots = all })) (sym same)
-        (sound-snapshots n places customer p sound closed p.snapshots closed_owner
+        subst (λ (all : List (Option ℕ)). IsSound n places executor (record p { space = closed; snapshots = all })) (sym same)
+        (sound-snapshots n places executor p sound closed p.snapshots closed_owner
         (IsUndoLog-kept n held closed p.undo (KeepsPages-unseen held closed owner_still.bytes kept_still) held_log)
-        (λ other. spells-kept_more n p after refl refl [] (sym (append-nil p.kept)) other refl (closed_bytes other) (sound.snapshots other)))
+        (λ other. spells-kept_more n p after refl [] (sym (append-nil p.kept)) other refl (closed_bytes other) (sound.snapshots other)))
 
     pub stays_unforked : (snapshots : List (Option ℕ)) → snapshots ≡ p.snapshots → ((f : ℕ) → count_of mid.frames f ≡ count_of p.space.frames f + child_times f (child_table mid child)) → mid.frames.max ≡ p.space.frames.max
         → DropsUsers held.frames closed.frames (λ f. child_times f (child_table held child)) → StaysUnforked p (record p { space = closed; snapshots = snapshots })
     stays_unforked snapshots same users limit drops = record {
-      job = record { warehouse = refl; loaded = refl; kept = refl; max_kept = refl; running = refl; undo = refl; finished = refl; owner = closed_owner };
+      job = record { load = refl; warehouse = refl; kept = refl; max_kept = refl; running = refl; undo = refl; finished = refl; owner = closed_owner };
       snapshots = λ other. ap (λ (all : List (Option ℕ)). slice_index_or all other None) same;
       tables = closed_table;
       bytes = closed_bytes;

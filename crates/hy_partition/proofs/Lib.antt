@@ -1,11 +1,9 @@
 pub mod SnapshotLaws
-pub mod GrowthLaws
-pub mod SliceLaws
-pub mod StepLaws
+pub mod ReplayLaws
+pub mod SpellLaws
 pub mod UndoLaws
-pub mod EmptyLaws
 pub mod SoundLaws
-pub mod LoadLaws
 pub mod StepsToLaws
 pub mod FinishLaws
 pub mod ForkLaws
+pub mod ScheduleLaws

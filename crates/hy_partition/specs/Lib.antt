@@ -1,9 +1,10 @@
 pub mod Limits
 pub mod Jobs
-pub mod Slices
 pub mod Snapshots
 pub mod Partition
 pub mod Headline
 pub mod Steps
+pub mod Schedules
 pub mod WorkedRows
+pub mod WorkedSchedules
 pub mod inside

@@ -1,10 +1,12 @@
 -- Snapshots.
 use Rattle.std.specs.Prelude.{ℕ, List}
+use Rattle.hy_rows.specs.declared.item.Item.{Item}
 use Rattle.hy_frames.specs.FrameTable.{IsPageSize}
 use Rattle.hy_rows.specs.Spelling.{HasTables}
 
--- the warehouse, the child of its page tables, the number of commits, and the bytes of the pages by segment
+-- the items of the load, the warehouse, the child of its page tables, the number of commits, and the bytes of the pages by segment
 pub record SnapshotState : Type 0 where
+  pub items : List Item
   pub warehouse : ℕ
   pub child : ℕ
   pub commits : ℕ

@@ -1,57 +1,56 @@
 -- What the calls on a partition do to it.
-use Rattle.std.specs.Prelude.{◌≡◌, ◌≢◌, ℕ, ◌+◌, ◌≤◌, ◌||◌, ◌==◌, ◌⊎◌, if◌then◌else◌, Bool, true, false, is_some, IsSome, [], ◌∷◌, ◌++◌, length, Option, None, Some}
+use Rattle.std.specs.Prelude.{◌≡◌, ◌≢◌, ℕ, ◌+◌, ◌&&◌, ◌||◌, ◌==◌, ◌⊎◌, not, if◌then◌else◌, Bool, true, false, is_some, [], ◌++◌, length, Option, None, Some}
 use Rattle.std.specs.Option.{option_or}
-use Rattle.hy_schema.specs.declared.command.Command.{Command}
-use Rattle.hy_schema.specs.declared.command.Commit.TheVariants as commits
-use Rattle.hy_schema.specs.declared.command.Reply.{Reply}
-use Rattle.hy_schema.specs.declared.command.Reply.TheVariants as replies
+use Rattle.hy_rows.specs.Spelling.{Spells}
+use Rattle.hy_rows.specs.Tables.{Lists}
 use Rattle.hy_schema.specs.declared.refusal.Refusal.{Refusal}
 use Rattle.hy_schema.specs.declared.refusal.Refusal.TheVariants as refusals
-use Rattle.hy_rows.specs.Tables.{Tables, of_warehouse}
-use Rattle.hy_schema.specs.Transactions.{act, refusal_of}
-use Rattle.hy_rows.specs.Spelling.{Spells}
+use Rattle.hy_commands.specs.declared.command.Command.{Command}
+use Rattle.hy_commands.specs.declared.reply.Reply.{Reply}
+use Rattle.hy_commands.specs.declared.reply.Reply.TheVariants as replies
+use Rattle.hy_commands.specs.Commands.{is_reader, kept_of}
+use Rattle.hy_commands.specs.Transactions.{begin_refusal_of}
 use Rattle.hy_frames.specs.FrameTable.{count_of, free_of}
 use Rattle.hy_space.specs.Space.{SameForChildren, SameForOwner, SameForOthers, IsLeastFree, DropsUsers, owner_bytes, child_bytes, child_table, child_times}
-use Rattle.hy_partition.specs.declared.job.Progress.{Progress}
-use Rattle.hy_partition.specs.declared.job.Progress.TheVariants as progress
 use Rattle.hy_undo.specs.UndoLog.{undone, empty_log}
 use Rattle.hy_undo.specs.Touched.{touched}
-use Rattle.hy_undo.specs.Writes.{TakesFrames}
-use Rattle.hy_partition.specs.Partition.{PartitionState, rows_now, commits_of}
-use Rattle.hy_partition.specs.Jobs.{RunningJob}
-use Rattle.hy_partition.specs.Slices.{is_last, writes}
+use Rattle.hy_partition.specs.declared.job.Progress.{Progress}
+use Rattle.hy_partition.specs.declared.job.Progress.TheVariants as progress
+use Rattle.hy_partition.specs.Partition.{PartitionState, commits_of, outcome_now, refusal_now, rows_now}
+use Rattle.hy_partition.specs.Jobs.{RunningJob, is_last}
 use Rattle.hy_partition.specs.Snapshots.{SnapshotState}
 
 -- a job runs, or its reply wasn't taken
 abbrev pub is_busy : PartitionState → Bool
 is_busy p = is_some p.running || is_some p.finished
 
--- why a command isn't begun, the first that holds of these: another job is there; the warehouse refuses the command;
--- the kept list is full
+-- no commit more may be kept
+abbrev pub is_full : PartitionState → Bool
+is_full p = length p.kept == p.max_kept
+
+-- why a command isn't begun, the first that holds of these: another job is there; the warehouse doesn't begin the
+-- command; the kept list is full, where the command doesn't only read
 abbrev pub begin_refusal : PartitionState → Command → Option Refusal
 begin_refusal p command =
     if is_busy p then Some refusals.Busy
-    else option_or (refusal_of p.warehouse command (rows_now p))
-    (if length p.kept == p.max_kept then Some refusals.HistoryFull else None)
+    else option_or (begin_refusal_of p.warehouse command (rows_now p))
+    (if not (is_reader command) && is_full p then Some refusals.HistoryFull else None)
 
--- what no job changes: the warehouse, the rows that it began from, the limits, and every snapshot with its bytes
+-- what no job changes: the load, the warehouse, the limits, and every snapshot with its bytes
 pub record KeepsRest (old new : PartitionState) : Type 0 where
+  pub load : new.load ≡ old.load
   pub warehouse : new.warehouse ≡ old.warehouse
-  pub loaded : new.loaded ≡ old.loaded
   pub max_kept : new.max_kept ≡ old.max_kept
   pub snapshots : new.snapshots ≡ old.snapshots
   pub children : SameForChildren old.space new.space
   pub max_frames : new.space.frames.max ≡ old.space.frames.max
 
--- a slice was done, and more are to come: what is kept and what undoing gives stay, a record was kept for each write
--- of the slice at most, and a frame was taken for each at most
+-- a slice was done, and more are to come: what is kept and what undoing gives stay
 pub record Continues (job : RunningJob) (old new : PartitionState) : Type 0 where
   pub running : new.running ≡ Some (record job { slices = job.slices + 1 })
   pub finished : new.finished ≡ old.finished
   pub kept : new.kept ≡ old.kept
   pub bytes : undone (owner_bytes new.space) new.undo ≡ undone (owner_bytes old.space) old.undo
-  pub records : length new.undo.images ≤ length old.undo.images + writes job.command job.slices
-  pub frames : TakesFrames (writes job.command job.slices) old.space new.space
   pub rest : KeepsRest old new
 
 -- the job ended with a reply, which waits to be taken
@@ -61,44 +60,31 @@ pub record Ends (old new : PartitionState) (reply : Reply) : Type 0 where
   pub finished : new.finished ≡ Some (record { reply = reply })
   pub rest : KeepsRest old new
 
--- with so many writes the command was accepted: it is kept, once and behind all others, the reply is the warehouse's
--- to it, and a frame was taken for each write at most
-pub record Accepts (most : ℕ) (command : Command) (old new : PartitionState) : Type 0 where
-  pub accepted : refusal_of old.warehouse command (rows_now old) ≡ None
-  pub kept : new.kept ≡ old.kept ++ commits.Local command ∷ []
-  pub ends : Ends old new (act old.warehouse command (rows_now old)).reply
-  pub frames : TakesFrames most old.space new.space
+-- the command was accepted: it is kept, once and behind all others, where it doesn't only read, and the reply is the
+-- warehouse's to it
+pub record Accepts (command : Command) (old new : PartitionState) : Type 0 where
+  pub accepted : refusal_now old command ≡ None
+  pub kept : new.kept ≡ old.kept ++ kept_of command
+  pub ends : Ends old new (outcome_now old command).reply
 
--- some snapshot is open
-abbrev pub HasSnapshot : PartitionState → Type 0
-HasSnapshot p = (child : ℕ) × IsSome (commits_of p child)
-
--- no more frames are free than so many writes may take, and some snapshot is open
-pub record LacksFrames (most : ℕ) (p : PartitionState) : Type 0 where
-  pub few : free_of p.space.frames ≤ most
-  pub open_snapshot : HasSnapshot p
-
--- with so many writes the command was refused for want of memory, or of a frame where too few were free and a snapshot
--- was open: what is kept stays, the pages are as they were when the job began, and a frame was taken for each write at
--- most
-pub record Refuses (most : ℕ) (old new : PartitionState) : Type 0 where
+-- the command was refused: what is kept stays, and the pages are as they were when the job began. The reply is that an
+-- item isn't there, where the warehouse refuses the command for it, or that memory or a frame lacked
+pub record Refuses (command : Command) (old new : PartitionState) : Type 0 where
   pub kept : new.kept ≡ old.kept
   pub bytes : owner_bytes new.space ≡ undone (owner_bytes old.space) old.undo
-  pub frames : free_of old.space.frames ≤ free_of new.space.frames + most
-  pub reason : Ends old new (replies.Refused refusals.NoMemory)
-      ⊎ (Ends old new (replies.Refused refusals.NoFrame) × LacksFrames most old)
+  pub reason : ((refusal_now old command ≡ Some refusals.NoSuchItem) × Ends old new (replies.Refused refusals.NoSuchItem))
+      ⊎ Ends old new (replies.Refused refusals.NoFrame) ⊎ Ends old new (replies.Refused refusals.NoMemory)
 
 -- what one step of a job does: the last slice finishes it, and so does a refusal
 abbrev pub StepsTo : RunningJob → PartitionState → PartitionState → Progress → Type 0
 StepsTo job old new progress.More = (is_last job ≡ false) × Continues job old new
 StepsTo job old new progress.Finished =
-    ((is_last job ≡ true) × Accepts (writes job.command job.slices) job.command old new)
-    ⊎ Refuses (writes job.command job.slices) old new
+    ((is_last job ≡ true) × Accepts job.command old new) ⊎ Refuses job.command old new
 
 -- what no snapshot changes: the warehouse with its job
 pub record KeepsJob (old new : PartitionState) : Type 0 where
+  pub load : new.load ≡ old.load
   pub warehouse : new.warehouse ≡ old.warehouse
-  pub loaded : new.loaded ≡ old.loaded
   pub kept : new.kept ≡ old.kept
   pub max_kept : new.max_kept ≡ old.max_kept
   pub running : new.running ≡ old.running
@@ -114,6 +100,7 @@ pub record KeepsOthers (old new : PartitionState) (child : ℕ) : Type 0 where
 -- a snapshot of all that is kept was taken, under the least free number, with the running job undone in it: it took a
 -- frame for each page that the job has touched
 pub record Forks (n : ℕ) (old new : PartitionState) (snapshot : SnapshotState) : Type 0 where
+  pub items : snapshot.items ≡ old.load.items
   pub warehouse : snapshot.warehouse ≡ old.warehouse
   pub child : IsLeastFree old.space snapshot.child
   pub fresh : commits_of old snapshot.child ≡ None
@@ -151,9 +138,9 @@ pub record Closes (old new : PartitionState) (child : ℕ) : Type 0 where
   pub others : KeepsOthers old new child
 
 -- a partition with the rows of one warehouse of a load, with nothing kept and no snapshot
-pub record Begins (load : Tables) (number frames commits : ℕ) (p : PartitionState) : Type 0 where
+pub record Begins (lists : Lists) (number frames commits : ℕ) (p : PartitionState) : Type 0 where
+  pub load : p.load ≡ lists
   pub warehouse : p.warehouse ≡ number
-  pub loaded : p.loaded ≡ of_warehouse number load
   pub kept : p.kept ≡ []
   pub max_kept : p.max_kept ≡ commits
   pub running : p.running ≡ None

@@ -1,7 +1,6 @@
--- A small partition, which the checker computes: one warehouse without districts, on pages of 32 bytes, in the middle
--- of a payment of 1.00. W_YTD is written already; a snapshot that was taken before has the old page.
-use Rattle.std.specs.Prelude.{◌≡◌, ℕ, suc, pos, Bool, true, false, Some, None, List, [], ◌∷◌, ◌++◌, ◌+◌, ◌-◌, ◌&&◌, nat_lt, codes, count_by, length, map, replicate, refl}
-use Rattle.std.specs.List.{list_all, range_with_len}
+-- What the calls do at their edges, and a small partition in the middle of a payment, which the checker computes.
+use Rattle.std.specs.Prelude.{◌≡◌, ℕ, suc, pos, negsuc, Bool, true, false, Some, None, List, [], ◌∷◌, ◌++◌, ◌+◌, ◌-◌, ◌&&◌, nat_lt, codes, count_by, length, replicate, refl}
+use Rattle.std.specs.List.{list_all}
 use Rattle.std.proofs.Common.{zero, ◌<◌, ◌≤◌, ◌==◌, inl, inr, ap, ap₂, sym, ◌∙◌, subst, arith, lit<, lit≤}
 use Rattle.std.proofs.lemmas.Bool.{and_parts, cases_lt, eqb-true}
 use Rattle.std.proofs.lemmas.Bool.Decides.{nat_tests}
@@ -10,74 +9,174 @@ use Rattle.std.proofs.lemmas.List.Elements.{All-nil, All-cons}
 use Rattle.std.proofs.lemmas.List.Sums.{sum_by-cons}
 use Rattle.hy_page.specs.Bytes.{overwritten}
 use Rattle.hy_frames.specs.FrameTable.{Frame, count_of, empty_frame}
+use Rattle.hy_rows.specs.declared.history.History.{History}
 use Rattle.hy_rows.specs.declared.warehouse.Warehouse.{Warehouse}
-use Rattle.hy_schema.specs.declared.command.Command.TheVariants as commands
-use Rattle.hy_schema.specs.Conditions.{MeetsConditions}
-use Rattle.hy_rows.specs.Rows.{warehouse_bytes}
-use Rattle.hy_schema.specs.Transactions.{accepted}
-use Rattle.hy_rows.specs.WorkedRows.{fresh}
-use Rattle.hy_schema.specs.WorkedRows.{payment_of}
-use Rattle.hy_rows.specs.Spelling.{HasSlots, IsTable, Spells, list_at, segments, used_slots}
+use Rattle.hy_rows.specs.Rows.{history_bytes, warehouse_bytes}
+use Rattle.hy_rows.specs.Spelling.{HasSlots, IsTable, Spells, list_at, tables_of, used_slots}
 use Rattle.hy_rows.specs.Tables.{no_rows}
 use Rattle.hy_rows.specs.inside.Places.{segment_there}
+use Rattle.hy_schema.specs.declared.refusal.Refusal.TheVariants as refusals
+use Rattle.hy_commands.specs.declared.command.Command.{Command}
+use Rattle.hy_commands.specs.declared.command.Commit.{Commit}
+use Rattle.hy_commands.specs.declared.command.Commit.TheVariants as commits
+use Rattle.hy_commands.specs.declared.command.Who.TheVariants as who
+use Rattle.hy_commands.specs.declared.reply.Reply.TheVariants as replies
+use Rattle.hy_commands.specs.Commands.{kept_of}
+use Rattle.hy_commands.specs.Invariant.{MeetsOwnConditions}
+use Rattle.hy_commands.specs.WorkedSample.{five_of_each, items, level, payment, sample, status}
+use Rattle.hy_slices.specs.Slices.{after_slices}
 use Rattle.hy_space.specs.Space.{CountsAreExact, NoFrameTwice, maps, owner_bytes, child_bytes, times}
 use Rattle.hy_undo.specs.UndoLog.{undone, page_counts}
 use Rattle.hy_undo.specs.Touched.{touched}
-use Rattle.hy_partition.specs.Slices.{after_slices, is_last, slice}
-use Rattle.hy_partition.specs.Partition.{PartitionState, rows_now}
+use Rattle.hy_partition.specs.Jobs.{is_last}
+use Rattle.hy_partition.specs.Partition.{PartitionState, outcome_now, rows_now}
 use Rattle.hy_partition.specs.Headline.{Headline, SpellsBeginning}
+use Rattle.hy_partition.specs.Steps.{begin_refusal}
 
--- the warehouse before and after the payment
+-- ---- which command begins
+
+-- the warehouse of `hy_commands` after some commits, of which so many may be kept; its pages don't matter here
+abbrev with_kept : List Commit → ℕ → PartitionState
+with_kept kept max_kept = record {
+  load = record { items = items; tables = sample };
+  warehouse = 1;
+  kept = kept;
+  max_kept = max_kept;
+  running = None;
+  undo = record { counts = []; images = [] };
+  finished = None;
+  space = record { owner = []; children = []; frames = record { max = 1; frames = [] } };
+  snapshots = [];
+}
+
+abbrev pay : Command
+pay = payment (who.Number 1) 2_500
+
+abbrev full : PartitionState
+full = with_kept (commits.Local pay ∷ []) 1
+
+-- a command that only reads begins on a full list, and another one doesn't
+reader_on_a_full_list : begin_refusal full (status 1) ≡ None
+reader_on_a_full_list = refl
+
+level_on_a_full_list : begin_refusal full level ≡ None
+level_on_a_full_list = refl
+
+payment_on_a_full_list : begin_refusal full pay ≡ Some refusals.HistoryFull
+payment_on_a_full_list = refl
+
+payment_with_room : begin_refusal (with_kept (commits.Local pay ∷ []) 2) pay ≡ None
+payment_with_room = refl
+
+-- what the warehouse refuses comes before that, and a job or an answer that is there comes first
+other_customer_on_a_full_list : begin_refusal full (payment (who.Number 9) 2_500) ≡ Some refusals.NoSuchCustomer
+other_customer_on_a_full_list = refl
+
+busy_with_a_job : begin_refusal (record full { running = Some (record { command = status 1; slices = 0 }) }) (status 1)
+    ≡ Some refusals.Busy
+busy_with_a_job = refl
+
+busy_with_an_answer : begin_refusal
+    (record full { finished = Some (record { reply = replies.Refused refusals.NoMemory }) }) (status 1)
+    ≡ Some refusals.Busy
+busy_with_an_answer = refl
+
+-- ---- what is kept and answered
+
+-- a command that only reads adds nothing
+kept_of_reader : full.kept ++ kept_of (status 1) ≡ full.kept
+kept_of_reader = refl
+
+kept_of_payment : full.kept ++ kept_of pay ≡ commits.Local pay ∷ commits.Local pay ∷ []
+kept_of_payment = refl
+
+-- the reply is that behind all that is kept: -10.00 and two payments of 25.00
+second_reply : (outcome_now full pay).reply ≡ replies.Payment 1 (negsuc 5_999)
+second_reply = refl
+
+-- a purchase of five lines has six slices, and a command that only reads has one
+last_of_five_lines : is_last (record { command = five_of_each 1; slices = 5 }) ≡ true
+last_of_five_lines = refl
+
+not_last_of_five_lines : is_last (record { command = five_of_each 1; slices = 4 }) ≡ false
+not_last_of_five_lines = refl
+
+last_of_reader : is_last (record { command = status 1; slices = 0 }) ≡ true
+last_of_reader = refl
+
+-- ---- a small partition: one warehouse without districts, on pages of 64 bytes. The first slice of a payment of 1.00 is
+-- done: W_YTD is written, and HISTORY has a row on a page more. A snapshot that was taken before has the old pages
+
+abbrev half_paid : Command
+half_paid = payment (who.Number 1) 100
+
+-- the warehouse before and after the slice, and the new row of HISTORY
 abbrev pub before : Warehouse
 before = record { id = 1; name = codes "W1"; tax = 500; ytd = pos 0 }
 
 abbrev pub after : Warehouse
 after = record before { ytd = pos 100 }
 
--- a page with its one row, a page that counts one slot, and a page of a table without rows
-abbrev pub page_of_row : Warehouse → List ℕ
-page_of_row row = 1 ∷ warehouse_bytes row ++ replicate 10 0
+abbrev new_row : History
+new_row = record {
+  customer = 0;
+  customer_district = 1;
+  customer_warehouse = 1;
+  district = 2;
+  warehouse = 1;
+  date = 7;
+  amount = pos 100;
+  information = codes "W1    ";
+}
+
+-- a page with a row, a page that counts one slot, and a page of a table without rows
+abbrev pub page_of_row : List ℕ → List ℕ
+page_of_row row = 1 ∷ row ++ replicate (63 - length row) 0
 
 abbrev pub page_of_count : List ℕ
-page_of_count = 1 ∷ replicate 31 0
+page_of_count = 1 ∷ replicate 63 0
 
 abbrev pub page_of_zeros : List ℕ
-page_of_zeros = replicate 32 0
+page_of_zeros = replicate 64 0
 
--- how many tables have no rows: all but WAREHOUSE
-abbrev pub empty_tables : ℕ
-empty_tables = segments - 1
-
--- the frame numbers of their pages, of the live pages, and of the snapshot's
-abbrev pub empty_segments : List (List ℕ)
-empty_segments = map (λ frame. frame ∷ []) (range_with_len 3 empty_tables)
-
+-- the frame numbers of the live pages, and of the snapshot's: of WAREHOUSE two pages, of HISTORY, segment 3, one and then
+-- two, and of each other table one
 abbrev pub live_table : List (List ℕ)
-live_table = (0 ∷ 2 ∷ []) ∷ empty_segments
+live_table =
+    (0 ∷ 2 ∷ []) ∷ (6 ∷ []) ∷ (7 ∷ []) ∷ (4 ∷ 5 ∷ []) ∷ (8 ∷ []) ∷ (9 ∷ []) ∷ (10 ∷ []) ∷ (11 ∷ []) ∷ []
 
 abbrev pub snapshot_table : List (List ℕ)
-snapshot_table = (0 ∷ 1 ∷ []) ∷ empty_segments
+snapshot_table =
+    (0 ∷ 1 ∷ []) ∷ (6 ∷ []) ∷ (7 ∷ []) ∷ (3 ∷ []) ∷ (8 ∷ []) ∷ (9 ∷ []) ∷ (10 ∷ []) ∷ (11 ∷ []) ∷ []
 
--- frame 1 is the snapshot's, frame 2 the owner's alone; the others have two users, the owner and the snapshot
+-- frames 1 and 3 are the snapshot's, frames 2, 4 and 5 the owner's alone; the others have two users
 abbrev pub small : PartitionState
 small = record {
+  load = record { items = []; tables = record no_rows { warehouses = before ∷ [] } };
   warehouse = 1;
-  loaded = record no_rows { warehouses = before ∷ [] };
   kept = [];
   max_kept = 5;
-  running = Some (record { command = commands.Payment (payment_of 100); slices = 1 });
-  undo = record { counts = 2 ∷ replicate empty_tables 1; images = record { segment = 0; page = 1; offset = 1; bytes = warehouse_bytes before } ∷ [] };
+  running = Some (record { command = half_paid; slices = 1 });
+  undo = record {
+    counts = 2 ∷ replicate 7 1;
+    images =
+        record { segment = 0; page = 1; offset = 1; bytes = warehouse_bytes before }
+        ∷ record { segment = 3; page = 0; offset = 0; bytes = replicate 8 0 } ∷ [];
+  };
   finished = None;
   space = record {
     owner = live_table;
     children = Some snapshot_table ∷ [];
     frames = record {
-      max = 10;
+      max = 20;
       frames =
           record { count = 2; bytes = page_of_count; lent = true }
-          ∷ record { count = 1; bytes = page_of_row before; lent = true }
-          ∷ record { count = 1; bytes = page_of_row after; lent = false }
-          ∷ replicate empty_tables (record { count = 2; bytes = page_of_zeros; lent = true });
+          ∷ record { count = 1; bytes = page_of_row (warehouse_bytes before); lent = true }
+          ∷ record { count = 1; bytes = page_of_row (warehouse_bytes after); lent = false }
+          ∷ record { count = 1; bytes = page_of_zeros; lent = true }
+          ∷ record { count = 1; bytes = page_of_count; lent = false }
+          ∷ record { count = 1; bytes = page_of_row (history_bytes new_row); lent = false }
+          ∷ replicate 6 (record { count = 2; bytes = page_of_zeros; lent = true });
     };
   };
   snapshots = Some 0 ∷ [];
@@ -87,9 +186,14 @@ small = record {
 pub small-overwritten : overwritten (1 ∷ 2 ∷ 3 ∷ 4 ∷ 5 ∷ []) 1 (8 ∷ 9 ∷ []) ≡ 1 ∷ 8 ∷ 9 ∷ 4 ∷ 5 ∷ []
 small-overwritten = refl
 
--- the payment wrote its row over the old one
-pub small-written : overwritten (page_of_row before) 1 (warehouse_bytes after) ≡ page_of_row after
+-- the slice wrote its row over the old one
+pub small-written : overwritten (page_of_row (warehouse_bytes before)) 1 (warehouse_bytes after)
+    ≡ page_of_row (warehouse_bytes after)
 small-written = refl
+
+-- the live pages spell the rows after the slice
+pub small-live : tables_of 64 (owner_bytes small.space) ≡ after_slices [] 1 half_paid 1 (rows_now small)
+small-live = refl
 
 -- the owner maps frame 2 and not frame 1
 pub small-maps_2 : maps 2 small.space.owner ≡ true
@@ -102,36 +206,31 @@ small-maps_1 = refl
 pub small-undone : Some (undone (owner_bytes small.space) small.undo) ≡ child_bytes small.space 0
 small-undone = refl
 
--- the job has touched one page, and no page came
-pub small-touched : touched small.undo ≡ 1
+-- the job has touched two pages, and has a page more
+pub small-touched : touched small.undo ≡ 2
 small-touched = refl
 
-pub small-counts : page_counts small.space ≡ small.undo.counts
+pub small-counts : page_counts small.space ≡ 2 ∷ 1 ∷ 1 ∷ 2 ∷ replicate 4 1
 small-counts = refl
 
 -- the consistency conditions hold of the rows that are kept
-pub small-conditions : MeetsConditions (rows_now small)
+pub small-conditions : MeetsOwnConditions (rows_now small)
 small-conditions = record {
   condition_1 = refl;
+  condition_2 = refl;
+  condition_3 = refl;
+  condition_4 = refl;
+  condition_5 = refl;
+  condition_6 = refl;
+  condition_7 = refl;
+  condition_8 = refl;
+  condition_9 = refl;
   condition_12 = refl;
 }
 
 -- the payment's next slice is its last
-pub small-is_last : is_last (record { command = commands.Payment (payment_of 100); slices = 1 }) ≡ true
+pub small-is_last : is_last (record { command = half_paid; slices = 1 }) ≡ true
 small-is_last = refl
-
--- on the fresh load the first slice of a payment gives no reply, and both together are the accepted payment
-pub fresh-first_slice : (slice (commands.Payment (payment_of 100)) 0 fresh).reply ≡ None
-fresh-first_slice = refl
-
-pub fresh-second_slice : (slice (commands.Payment (payment_of 100)) 1
-    (after_slices (commands.Payment (payment_of 100)) 1 fresh)).reply
-    ≡ Some (accepted (commands.Payment (payment_of 100)) fresh).reply
-fresh-second_slice = refl
-
-pub fresh-both_slices : after_slices (commands.Payment (payment_of 100)) 2 fresh
-    ≡ (accepted (commands.Payment (payment_of 100)) fresh).tables
-fresh-both_slices = refl
 
 -- how many frames there are
 abbrev frame_count : ℕ
@@ -199,22 +298,22 @@ width_is same = cc
 
 -- the pages of the snapshot spell the warehouse before the payment
 abbrev pub pages_before : List (List (List ℕ))
-pages_before = (page_of_count ∷ page_of_row before ∷ []) ∷ replicate empty_tables (page_of_zeros ∷ [])
+pages_before = (page_of_count ∷ page_of_row (warehouse_bytes before) ∷ []) ∷ replicate 7 (page_of_zeros ∷ [])
 
-spelled : Spells 32 pages_before (rows_now small)
+spelled : Spells 64 pages_before (rows_now small)
 spelled = record { whole = record { all_segments = lit≤ tt; slots = slots }; rows = refl }
   where
-    slots : (segment row_bytes : ℕ) → IsTable segment row_bytes → HasSlots 32 row_bytes (list_at pages_before segment)
-    slots zero row_bytes table = subst (λ width. HasSlots 32 width (list_at pages_before 0)) (width_is table)
+    slots : (segment row_bytes : ℕ) → IsTable segment row_bytes → HasSlots 64 row_bytes (list_at pages_before segment)
+    slots zero row_bytes table = subst (λ width. HasSlots 64 width (list_at pages_before 0)) (width_is table)
         (record { first = lit< tt; slots = lit≤ tt })
     slots (suc segment) row_bytes table =
-        let there : segment < empty_tables = omega (arith, segment_there (suc segment) row_bytes table) in
+        let there : segment < 7 = omega (arith, segment_there (suc segment) row_bytes table) in
         let none : used_slots (page_of_zeros ∷ []) ≡ 0 = refl in
-        subst (HasSlots 32 row_bytes) (sym (get_or-replicate empty_tables segment (page_of_zeros ∷ []) [] there))
+        subst (HasSlots 64 row_bytes) (sym (get_or-replicate 7 segment (page_of_zeros ∷ []) [] there))
         (record { first = lit< tt; slots = omega (arith, none) })
 
 -- the headline holds of it
-pub small-headline : Headline 32 small
+pub small-headline : Headline 64 small
 small-headline = record {
   frame_counts_are_exact = record { counts = counts; once = once };
   open_snapshots_spell_a_beginning = snapshots;
@@ -223,6 +322,6 @@ small-headline = record {
   replay_meets_the_conditions = small-conditions;
 }
   where
-    snapshots : (child : ℕ) → SpellsBeginning 32 small child
+    snapshots : (child : ℕ) → SpellsBeginning 64 small child
     snapshots zero = (lit≤ tt, spelled)
     snapshots (suc child) = refl

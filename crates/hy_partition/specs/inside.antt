@@ -1,6 +1,4 @@
-pub mod Rows
-pub mod Finds
+pub mod Room
 pub mod Shortages
-pub mod Growth
 pub mod Soundness
 pub mod Views

@@ -1,10 +1,12 @@
 //! Jobs: commands that are handed to a partition, and their replies.
 
 ghost use Rattle.std.specs.Prelude.{◌≡◌, ◌+◌, ◌<◌};
-ghost use Rattle.hy_schema.specs.declared.command.Reply.TheVariants as replies;
-ghost use Rattle.hy_partition.specs.Slices.{slice_count};
+ghost use Rattle.hy_commands.specs.declared.reply.Reply.TheVariants as replies;
+ghost use Rattle.hy_slices.specs.Slices.{slice_count};
 
-use hy_schema::{Command, Refusal, Reply};
+use hy_commands::{Command, Reply};
+use hy_rows::DISTRICTS_PER_WAREHOUSE;
+use hy_schema::Refusal;
 use std::marker::Model;
 
 /// A command on its way to a partition. It can't be cloned, so that it is done once at most.
@@ -98,7 +100,7 @@ pub enum Progress {
 }
 
 /// A command that runs, and how many of its slices are done.
-#[derive(Clone, Copy, Debug)]
+#[derive(Debug, Drop)]
 pub struct Running {
     command: Command,
     slices: u64,
@@ -111,12 +113,10 @@ impl Model for Running {
     ghost Value = { RunningJob };
 
     ghost view = { λ running. record { command = running.command; slices = running.slices } };
-
-    ghost inverse = { λ job. record { command = job.command; slices = job.slices } };
 }
 
 impl Running {
-    ghost use Rattle.hy_partition.specs.Slices.{is_last};
+    ghost use Rattle.hy_partition.specs.Jobs.{is_last};
 
     /// A command of which no slice is done.
     pub(crate) fn new(command: Command) -> Running
@@ -126,10 +126,10 @@ impl Running {
     }
 
     /// The command.
-    pub(crate) fn command(&self) -> Command
-        ensures { result ≡ self.now.command }
+    pub(crate) fn command(&self) -> &Command
+        ensures { result.now ≡ self.now.command }
     {
-        self.command
+        &self.command
     }
 
     /// How many slices are done.
@@ -140,13 +140,35 @@ impl Running {
     }
 
     /// The job after one slice more.
-    pub(crate) fn next(&self) -> Running
-        requires { self.now.slices < slice_count self.now.command }
-        ensures { result ≡ record self.now { slices = self.now.slices + 1 } }
+    pub(crate) fn next(self) -> Running
+        requires { self.slices < slice_count self.command }
+        ensures { result ≡ record self { slices = self.slices + 1 } }
     {
+        let Running { command, slices } = self;
         Running {
-            command: self.command,
-            slices: self.slices + 1,
+            command,
+            slices: slices + 1,
+        }
+    }
+
+    /// The command, to be kept.
+    pub(crate) fn into_command(self) -> Command
+        ensures { result ≡ self.command }
+    {
+        let Running { command, slices: _ } = self;
+        command
+    }
+
+    /// The answer to a job of which a slice was refused.
+    pub(crate) fn refuse(self, refusal: Refusal) -> Done
+        ensures { result ≡ record { reply = replies.Refused refusal } }
+    {
+        let Running {
+            command: _,
+            slices: _,
+        } = self;
+        Done {
+            reply: Reply::Refused(refusal),
         }
     }
 
@@ -155,7 +177,7 @@ impl Running {
         requires { self.now.slices < slice_count self.now.command }
         ensures { result ≡ is_last self.now }
     {
-        self.slices + 1 == slice_count(&self.command)
+        slice_count(&self.command) - self.slices == 1
     }
 }
 
@@ -164,6 +186,9 @@ fn slice_count(command: &Command) -> u64
     ensures { result ≡ slice_count command.now }
 {
     match command {
+        Command::NewOrder(order) => order.lines.as_slice().len() as u64 + 1,
         Command::Payment(_) => 2,
+        Command::OrderStatus(_) | Command::StockLevel(_) => 1,
+        Command::Delivery(_) => u64::from(DISTRICTS_PER_WAREHOUSE),
     }
 }

@@ -1,16 +1,13 @@
 //! One warehouse: transactions in slices, snapshots of what was committed, and the list of commits.
 #![tactic(auto)]
 
-mod fill;
 mod job;
-mod keyed;
 mod partition;
-mod payment;
-mod places;
 mod refusals;
-mod slices;
+mod schedules;
 mod snapshot;
 
 pub use job::{Done, Job, Progress};
 pub use partition::Partition;
+pub use schedules::{calls_are_events, every_schedule};
 pub use snapshot::Snapshot;

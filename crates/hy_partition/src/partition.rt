@@ -1,26 +1,30 @@
 //! The partition of one warehouse.
 
-ghost use Rattle.std.specs.Prelude.{◌≡◌, ◌≢◌, ℕ, ◌+◌, ◌<◌, ◌≤◌, vec_capacity, slice_index_or, ◌↔◌, ◌⊎◌, IsTrue, IsSome, IsSomeAnd, List, length, take, Option, Some, None, Ok, Err, IfOk, IfErr, IsOk, IsOkAnd, OnOk, OnErr, MatchOption, MatchResult};
+ghost use Rattle.std.specs.Prelude.{◌≡◌, ◌≢◌, ℕ, ◌+◌, ◌++◌, ◌<◌, ◌≤◌, false, vec_capacity, slice_index_or, ◌↔◌, ◌⊎◌, IsTrue, IsSome, IsSomeAnd, List, length, take, Option, Some, None, Ok, Err, IfOk, IfErr, IsOk, IsOkAnd, OnOk, OnErr, MatchOption, MatchResult};
 ghost use Rattle.hy_frames.specs.FrameTable.{free_of, shared_of, IsLimitFor, IsPageSize, max_frames as most_frames};
 ghost use Rattle.hy_schema.specs.declared.refusal.Refusal.{Refusal};
+ghost use Rattle.hy_commands.specs.Commands.{is_reader, kept_of};
 ghost use Rattle.hy_space.specs.Space.{SameForChildren};
 ghost use Rattle.hy_partition.specs.Headline.{Headline};
 ghost use Rattle.hy_partition.specs.Partition.{PartitionState, commits_of, rows_after, rows_now};
 ghost use Rattle.hy_partition.specs.Limits.{most_kept};
-ghost use Rattle.hy_partition.specs.Slices.{all_writes, is_last};
+ghost use Rattle.hy_partition.specs.inside.Room.{room_refusal};
+ghost use Rattle.hy_partition.specs.Jobs.{is_last};
 ghost use Rattle.hy_undo.specs.Touched.{touched};
 ghost use Rattle.hy_undo.specs.PrivatePages.{IsUndoLog};
 ghost use Rattle.hy_rows.specs.Spelling.{Spells};
 ghost use Rattle.hy_partition.specs.Steps.{begin_refusal, Accepts, Begins, Closes, Forks, IsOpen, KeepsJob, Refuses, StaysUnforked, StepsTo};
 
-use crate::fill::pages_with;
 use crate::job::{Done, Job, Progress, Running};
 use crate::refusals::refusal_of_shortage;
-use crate::slices::{find_customer, run_slice};
 use crate::snapshot::Snapshot;
+use hy_commands::{Command, Commit};
+use hy_fill::filled_store;
+use hy_layout::Layout;
 use hy_loads::Load;
-use hy_schema::{Commit, Refusal, Reply, Tables};
+use hy_schema::Refusal;
 use hy_space::Space;
+use hy_tpcc::Executor;
 use hy_undo::Undo;
 use std::alloc::Global;
 use std::marker::Model;
@@ -28,12 +32,10 @@ use std::marker::Model;
 /// One warehouse: its rows on pages of `N` bytes, the commits that are kept, the job that runs, and the open snapshots.
 #[derive(Drop)]
 pub struct Partition<const N: usize> {
-    warehouse: u8,
-    loaded: Tables,
+    executor: Executor,
     kept: Vec<Commit>,
     max_kept: u64,
     running: Option<Running>,
-    customer: u64,
     undo: Undo<N>,
     finished: Option<Done>,
     space: Space<N>,
@@ -52,7 +54,7 @@ impl<const N: usize> Model for Partition<N> {
 
     ghost view = { partition_of };
 
-    ghost invariant = { λ p. IsSound N (vec_capacity p.kept) p.customer (partition_of p) };
+    ghost invariant = { λ p. IsSound N (vec_capacity p.kept) p.executor (partition_of p) };
 }
 
 impl<const N: usize> Partition<N> {
@@ -72,22 +74,20 @@ impl<const N: usize> Partition<N> {
         requires kept { max_kept ≤ most_kept }
         requires first { 1 ≤ warehouse }
         requires last { warehouse ≤ length load.now.tables.warehouses }
-        ensures begins { IfOk result (Begins load.now.tables warehouse max_frames max_kept) }
+        ensures begins { IfOk result (Begins load.now warehouse max_frames max_kept) }
         ensures refused { IfErr result
             (λ refusal. (refusal ≡ Refusal.NoMemory) ⊎ (refusal ≡ Refusal.NoFrame)) }
     {
         load.sound();
-        let loaded = load.tables().of_warehouse(alloc, warehouse)?;
-        match pages_with(alloc, &loaded, max_frames) {
+        let layout = Layout::new(alloc, load, warehouse)?;
+        match filled_store(alloc, &layout, max_frames) {
             Ok(space) => {
                 let undo = Undo::new(alloc, &space)?;
                 Ok(Partition {
-                    warehouse,
-                    loaded,
+                    executor: Executor::new(alloc, layout),
                     kept: Vec::new(alloc),
                     max_kept,
                     running: None,
-                    customer: 0,
                     undo,
                     finished: None,
                     space,
@@ -105,62 +105,61 @@ impl<const N: usize> Partition<N> {
         self.space.sound();
     }
 
-    /// Begins a job, and makes room for its commit. A refusal gives the job back and changes nothing. It is the first
-    /// of these that holds: E9 where a job runs or its answer wasn't taken; E8, E4, E5, E6 of the command; E3 where as
-    /// many commits are kept as may be; E1.
+    /// Begins a job, and makes room for its commit, if it will have one. A refusal gives the job back and changes
+    /// nothing. It is the first of these that holds: E9 where a job runs or its answer wasn't taken; E8, E4, E5, E6 of the
+    /// command; E3 where the command doesn't only read and as many commits are kept as may be; E1.
     pub fn begin(&mut self, job: Job) -> Result<(), (Job, Refusal)>
         ensures begun { OnOk result (self.new
             ≡ record self.old { running = Some (record { command = job.command; slices = 0 }) }) }
         ensures accepted { OnOk result (begin_refusal self.old job.command ≡ None) }
         ensures refused { IfErr result
             (λ refused. (begin_refusal self.old job.command ≡ Some refused.1)
-            ⊎ ((begin_refusal self.old job.command ≡ None) × (refused.1 ≡ Refusal.NoMemory))) }
+            ⊎ ((begin_refusal self.old job.command ≡ None) × (is_reader job.command ≡ false)
+            × (refused.1 ≡ Refusal.NoMemory))) }
         ensures back { IfErr result (λ refused. refused.0 ≡ job) }
         ensures err { OnErr result (self.new ≡ self.old) }
     {
         if self.running.is_some() || self.finished.is_some() {
             return Err((job, Refusal::Busy));
         }
-        let customer = match find_customer(self.warehouse, &self.space, job.command()) {
-            Ok(customer) => customer,
-            Err(refusal) => return Err((job, refusal)),
-        };
-        if self.kept.len() as u64 == self.max_kept {
-            return Err((job, Refusal::HistoryFull));
+        if let Err(refusal) = self.executor.begin(&self.space, job.command()) {
+            return Err((job, refusal));
         }
-        if self.kept.reserve(1).is_err() {
-            return Err((job, Refusal::NoMemory));
+        if let Err(refusal) = make_room(&mut self.kept, self.max_kept, job.command()) {
+            return Err((job, refusal));
         }
-        self.running = Some(Running::new(job.into_command()));
-        self.customer = customer;
+        put(&mut self.running, Running::new(job.into_command()));
         Ok(())
     }
 
-    /// Does one slice of the job that runs. The last one accepts the command; a slice that is refused for want of
-    /// memory or of a frame undoes what was done. In both cases the reply waits to be taken. E10 where nothing runs.
+    /// Does one slice of the job that runs. The last one accepts the command; a slice that is refused, since an item
+    /// isn't there or for want of memory or of a frame, undoes what was done. In both cases the reply waits to be taken.
+    /// E10 where nothing runs.
     pub fn step(&mut self) -> Result<Progress, Refusal>
         ensures { MatchOption self.old.running ((result ≡ Err Refusal.NotRunning) × (self.new ≡ self.old))
             (λ job. IsOkAnd result (StepsTo job self.old self.new)) }
     {
-        let Some(running) = self.running else {
+        let Some(running) = self.running.take() else {
             return Err(Refusal::NotRunning);
         };
-        match run_slice(&mut self.space, &mut self.undo, &running, self.customer) {
+        let done = running.slices();
+        match self
+            .executor
+            .slice(&mut self.space, &mut self.undo, running.command(), done)
+        {
             Ok(None) => {
-                self.running = Some(running.next());
+                put(&mut self.running, running.next());
                 Ok(Progress::More)
             }
             Ok(Some(reply)) => {
-                self.kept.push_reserved(Commit::Local(running.command()));
+                keep_command(&mut self.kept, running.into_command());
                 self.undo.commit(&self.space);
-                self.running = None;
-                self.finished = Some(Done::new(reply));
+                put(&mut self.finished, Done::new(reply));
                 Ok(Progress::Finished)
             }
-            Err(shortage) => {
+            Err(refusal) => {
                 self.undo.roll_back(&mut self.space);
-                self.running = None;
-                self.finished = Some(Done::new(Reply::Refused(refusal_of_shortage(shortage))));
+                put(&mut self.finished, running.refuse(refusal));
                 Ok(Progress::Finished)
             }
         }
@@ -169,8 +168,7 @@ impl<const N: usize> Partition<N> {
     /// Steps until nothing runs.
     pub fn finish_running(&mut self)
         ensures { MatchOption self.old.running (self.new ≡ self.old)
-            (λ job. Accepts (all_writes job.command) job.command self.old self.new
-            ⊎ Refuses (all_writes job.command) self.old self.new) }
+            (λ job. Accepts job.command self.old self.new ⊎ Refuses job.command self.old self.new) }
     {
         while self.running.is_some() {
             let _progress = self.step();
@@ -199,6 +197,11 @@ impl<const N: usize> Partition<N> {
         if self.space.free() < self.undo.touched() {
             return Err(Refusal::NoFrame);
         }
+        let layout = self.executor.layout();
+        let Ok(load) = layout.load().share() else {
+            return Err(Refusal::NoMemory);
+        };
+        let warehouse = layout.warehouse();
         if self.snapshots.reserve(1).is_err() {
             return Err(Refusal::NoMemory);
         }
@@ -211,7 +214,7 @@ impl<const N: usize> Partition<N> {
         };
         let commits = self.kept.len() as u64;
         open_snapshot(&mut self.snapshots, child, commits);
-        Ok(Snapshot::new(self.warehouse, child, commits, pages))
+        Ok(Snapshot::new(load, warehouse, child, commits, pages))
     }
 
     /// That an open snapshot's bytes, and so the rows that it lists, are those of the first `commits()` kept commits.
@@ -236,7 +239,7 @@ impl<const N: usize> Partition<N> {
             (λ refused. (refused.0 ≡ snapshot.entry) × (refused.1 ≡ Refusal.NotMine)) }
         ensures err { OnErr result (self.new ≡ self.old) }
     {
-        if snapshot.warehouse() != self.warehouse {
+        if snapshot.warehouse() != self.warehouse() {
             return Err((snapshot, Refusal::NotMine));
         }
         let child = snapshot.spend();
@@ -259,7 +262,7 @@ impl<const N: usize> Partition<N> {
     pub fn warehouse(&self) -> u8
         ensures { result ≡ self.now.warehouse }
     {
-        self.warehouse
+        self.executor.layout().warehouse()
     }
 
     /// The commits that are kept, in order.
@@ -307,6 +310,45 @@ impl<const N: usize> Partition<N> {
             Err(_) => Err(Refusal::OutOfRange),
         }
     }
+}
+
+/// Makes room for the commit of a command that doesn't only read. E3 where the list is full; E1.
+fn make_room(kept: &mut Vec<Commit>, max_kept: u64, command: &Command) -> Result<(), Refusal>
+    ensures kept { kept.new.items ≡ kept.old.items }
+    ensures room { OnOk result (is_reader command.now ≡ false
+        → (length kept.old.items ≢ max_kept) × (length kept.old.items < vec_capacity kept.new)) }
+    ensures accepted { OnOk result
+        (room_refusal command.now (length kept.old.items) max_kept ≡ None) }
+    ensures refused { IfErr result
+        (λ refusal. (room_refusal command.now (length kept.old.items) max_kept ≡ Some refusal)
+        ⊎ ((room_refusal command.now (length kept.old.items) max_kept ≡ None)
+        × (is_reader command.now ≡ false) × (refusal ≡ Refusal.NoMemory))) }
+{
+    if command.is_reader() {
+        return Ok(());
+    }
+    if kept.len() as u64 == max_kept {
+        return Err(Refusal::HistoryFull);
+    }
+    kept.reserve(1)?;
+    Ok(())
+}
+
+/// Keeps a command behind all others, if it doesn't only read.
+fn keep_command(kept: &mut Vec<Commit>, command: Command)
+    requires { is_reader command ≡ false → length kept.old.items < vec_capacity kept.old }
+    ensures { kept.new.items ≡ kept.old.items ++ kept_of command }
+{
+    if !command.is_reader() {
+        kept.push_reserved(Commit::Local(command));
+    }
+}
+
+/// Puts a value at a place.
+fn put<T: Drop>(place: &mut Option<T>, value: T)
+    ensures { place.new ≡ Some value }
+{
+    *place = Some(value);
 }
 
 /// Notes a snapshot's number of commits.

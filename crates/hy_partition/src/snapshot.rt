@@ -5,14 +5,16 @@ ghost use Rattle.hy_rows.specs.Spelling.{list_at, segments, tables_of};
 ghost use Rattle.hy_partition.specs.Snapshots.{IsWhole};
 
 use hy_frames::Hold;
+use hy_loads::Load;
 use hy_relation::Relation;
-use hy_schema::Row;
+use hy_rows::{Item, Row};
 use std::alloc::{AllocError, Global};
 use std::marker::Model;
 
 /// The rows of a warehouse after a number of its commits. It has a hold on its pages, so that no lock is needed to
 /// read it, and nothing changes it. It must be given back to its partition by `close`.
 pub struct Snapshot<const N: usize> {
+    load: Load,
     warehouse: u8,
     child: u64,
     commits: u64,
@@ -27,6 +29,7 @@ impl<const N: usize> Model for Snapshot<N> {
     ghost Value = { SnapshotState };
 
     ghost view = { λ snapshot. record {
+      items = snapshot.load.items;
       warehouse = snapshot.warehouse;
       child = snapshot.child;
       commits = snapshot.commits;
@@ -37,8 +40,9 @@ impl<const N: usize> Model for Snapshot<N> {
 }
 
 impl<const N: usize> Snapshot<N> {
-    /// A snapshot with these pages.
+    /// A snapshot of a warehouse of the load with these pages.
     pub(crate) fn new(
+        load: Load,
         warehouse: u8,
         child: u64,
         commits: u64,
@@ -46,6 +50,7 @@ impl<const N: usize> Snapshot<N> {
     ) -> Snapshot<N>
         requires { IsWhole N (map (λ segment. segment.items) pages.items) }
         ensures { result ≡ record {
+          items = load.items;
           warehouse = warehouse;
           child = child;
           commits = commits;
@@ -54,11 +59,26 @@ impl<const N: usize> Snapshot<N> {
         } }
     {
         Snapshot {
+            load,
             warehouse,
             child,
             commits,
             pages,
         }
+    }
+
+    /// The child of the page tables, which is to be closed.
+    pub(crate) fn spend(self) -> u64
+        ensures { result ≡ self.entry.child }
+    {
+        let Snapshot {
+            load: _,
+            warehouse: _,
+            child,
+            commits: _,
+            pages: _,
+        } = self;
+        child
     }
 
     /// The number of the warehouse.
@@ -68,24 +88,18 @@ impl<const N: usize> Snapshot<N> {
         self.warehouse
     }
 
-    /// The child of the page tables, which is to be closed.
-    pub(crate) fn spend(self) -> u64
-        ensures { result ≡ self.entry.child }
-    {
-        let Snapshot {
-            warehouse: _,
-            child,
-            commits: _,
-            pages: _,
-        } = self;
-        child
-    }
-
     /// How many commits there were.
     pub fn commits(&self) -> u64
         ensures { result ≡ self.now.commits }
     {
         self.commits
+    }
+
+    /// The items of the load.
+    pub fn items(&self) -> &[Item]
+        ensures { result.now ≡ self.now.items }
+    {
+        self.load.list()
     }
 
     /// The rows of one table. Only memory can lack.

@@ -122,15 +122,3 @@ finds-key key test (x ∷ xs) keys found same finds =
       | true ↦ λ this. (x, refl)
       | false ↦ λ later. finds-key key test xs (map key xs) found refl later
     ] here
-
--- a filter once more
-pub filter-again : {Row : Type 0} (test : Row → Bool) (rows : List Row)
-    → filter test (filter test rows) ≡ filter test rows
-filter-again test [] = refl
-filter-again test (row ∷ rows) =
-    elim (test row) as (λ b. test row ≡ b
-    → filter test (cond b (row ∷ filter test rows) (filter test rows))
-    ≡ cond b (row ∷ filter test rows) (filter test rows)) [
-      | true ↦ λ pass. rw pass (ap (λ others. row ∷ others) (filter-again test rows))
-      | false ↦ λ skip. filter-again test rows
-    ] refl

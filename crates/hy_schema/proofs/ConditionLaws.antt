@@ -1,39 +1,15 @@
--- The tests of the conditions as statements on each row, and what the rows of one warehouse alone say.
-use Rattle.std.proofs.Common.{◌≡◌, ℕ, zero, suc, ◌+ℤ◌, ◌==◌, Bool, true, false, cond, List, [], ◌∷◌, ◌++◌, filter, refl, ap, ap₂, ◌∙◌}
-use Rattle.std.specs.Prelude.{All, IfSome, slice_get, not, Some, None, option_map, ◌&&◌}
+-- Rows that break none of the conditions meet them all, and what was delivered to a customer is seen in the rows of the
+-- customer's warehouse alone.
+use Rattle.std.proofs.Common.{◌≡◌, ℕ, ◌==◌, Bool, true, false, cond, List, [], ◌∷◌, ◌++◌, filter, refl, ap, ap₂, ◌∙◌}
+use Rattle.std.specs.Prelude.{not, Some, None, option_map, ◌&&◌}
 use Rattle.std.specs.List.{flat_map, list_all, find}
 use Rattle.std.proofs.lemmas.Bool.{and_parts, eq-eqb, eqb-true}
-use Rattle.std.specs.Bool.{Decides}
-use Rattle.std.proofs.lemmas.Bool.Decides.{Decides-by_and, Decides-int_eq}
 use Rattle.hy_rows.specs.Tables.{Tables}
-use Rattle.hy_rows.specs.declared.warehouse.Warehouse.{Warehouse}
-use Rattle.hy_rows.specs.declared.district.District.{District}
 use Rattle.hy_rows.specs.declared.customer.Customer.{Customer}
 use Rattle.hy_rows.specs.declared.order.Order.{Order}
 use Rattle.hy_rows.specs.declared.order_line.OrderLine.{OrderLine}
-use Rattle.hy_schema.specs.Conditions.{MeetsConditions, column_sum, conditions, delivered_amount, first_broken, is_consistent, is_balanced, is_sum_of_districts, ytd_of_districts}
+use Rattle.hy_schema.specs.Conditions.{column_sum, conditions, delivered_amount, first_broken, is_consistent}
 use Rattle.hy_schema.specs.Related.{is_delivered, is_line_of, is_order_by, lines_of, orders_by}
-
--- condition 1 of one warehouse, and of all
-abbrev pub IsSumOfDistricts : List District → Warehouse → Type 0
-IsSumOfDistricts districts row = row.ytd ≡ ytd_of_districts row.id districts
-
-pub condition_1-decides : (districts : List District) (rows : List Warehouse)
-    → Decides (list_all (is_sum_of_districts districts) rows) (All (IsSumOfDistricts districts) rows)
-condition_1-decides districts rows =
-    Decides-by_and (is_sum_of_districts districts) (IsSumOfDistricts districts) (list_all (is_sum_of_districts districts))
-    (λ row. Decides-int_eq row.ytd (ytd_of_districts row.id districts)) refl (λ row rows. refl) rows
-
--- condition 12 of one customer, and of all
-abbrev pub IsBalanced : List Order → List OrderLine → Customer → Type 0
-IsBalanced orders lines row = row.balance +ℤ row.ytd_payment ≡ delivered_amount orders lines row
-
-pub condition_12-decides : (orders : List Order) (lines : List OrderLine) (rows : List Customer)
-    → Decides (list_all (is_balanced orders lines) rows) (All (IsBalanced orders lines) rows)
-condition_12-decides orders lines rows =
-    Decides-by_and (is_balanced orders lines) (IsBalanced orders lines) (list_all (is_balanced orders lines))
-    (λ row. Decides-int_eq (row.balance +ℤ row.ytd_payment) (delivered_amount orders lines row))
-    refl (λ row rows. refl) rows
 
 -- rows that break none of some conditions meet them all
 all-unbroken : (tables : Tables) (tests : List (ℕ × (Tables → Bool)))
@@ -49,21 +25,6 @@ all-unbroken tables (first ∷ tests) unbroken = elim (first.1 tables) as (λ b.
 
 pub consistent-unbroken : (tables : Tables) → first_broken tables ≡ None → is_consistent tables ≡ true
 consistent-unbroken tables unbroken = all-unbroken tables conditions unbroken
-
--- each of some conditions is met where all are
-met-at : (tables : Tables) (tests : List (ℕ × (Tables → Bool))) (place : ℕ)
-    → list_all (λ condition. condition.1 tables) tests ≡ true
-    → IfSome (slice_get tests place) (λ condition. condition.1 tables ≡ true)
-met-at tables [] place all = tt
-met-at tables (first ∷ tests) zero all = (and_parts (first.1 tables) (list_all (λ condition. condition.1 tables) tests) all).0
-met-at tables (first ∷ tests) (suc place) all =
-    met-at tables tests place
-    (and_parts (first.1 tables) (list_all (λ condition. condition.1 tables) tests) all).1
-
-pub meets-unbroken : (tables : Tables) → first_broken tables ≡ None → MeetsConditions tables
-meets-unbroken tables unbroken =
-    let all = consistent-unbroken tables unbroken in
-    record { condition_1 = met-at tables conditions 0 all; condition_12 = met-at tables conditions 10 all }
 
 -- where each row that passes a test passes another, filtering by the other first changes nothing
 pub filter-implied : {Row : Type 0} (test other : Row → Bool) → ((row : Row) → test row ≡ true → other row ≡ true)

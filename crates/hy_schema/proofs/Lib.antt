@@ -1,4 +1,3 @@
-pub mod WorkedRanges
 pub mod ChangedLists
 pub mod ConditionLaws
 pub mod KeyLaws

@@ -1,7 +1,7 @@
 -- Consistency conditions 1 to 10 and 12 (TPC-C clause 3.3.2) over the lists of one or of all warehouses, as tests that the
 -- checker can compute. Condition 11 describes the first population alone. Condition 10 looks at payments for a customer in
 -- any warehouse, so that it is one of all warehouses together; the others hold of each by itself too.
-use Rattle.std.specs.Prelude.{ℕ, ◌+◌, ◌-◌, ℤ, pos, ◌+ℤ◌, ◌-ℤ◌, min, max, ◌==◌, ◌&&◌, Bool, true, not, IsTrue, if◌then◌else◌, Option, List, [], ◌∷◌, map, length, filter, fold, find, option_map}
+use Rattle.std.specs.Prelude.{ℕ, ◌+◌, ◌-◌, ℤ, pos, ◌+ℤ◌, ◌-ℤ◌, min, max, ◌==◌, ◌&&◌, Bool, true, not, if◌then◌else◌, Option, List, [], ◌∷◌, map, length, filter, fold, find, option_map}
 use Rattle.std.specs.List.{list_all, sum}
 use Rattle.std.proofs.Common.{int_eq}
 use Rattle.hy_rows.specs.declared.warehouse.Warehouse.{Warehouse}
@@ -12,7 +12,6 @@ use Rattle.hy_rows.specs.declared.new_order.NewOrder.{NewOrder}
 use Rattle.hy_rows.specs.declared.order.Order.{Order}
 use Rattle.hy_rows.specs.declared.order_line.OrderLine.{OrderLine}
 use Rattle.hy_rows.specs.Tables.{Tables}
-use Rattle.hy_schema.specs.Keys.{IsOneWarehouse}
 use Rattle.hy_schema.specs.Related.{delivered_to, is_undelivered, lines_of, lines_of_district, new_orders_of, orders_of, payments_by, payments_in, payments_in_district}
 
 -- the sum of a column of signed numbers
@@ -152,13 +151,3 @@ is_consistent tables = list_all (λ condition. condition.1 tables) conditions
 abbrev pub first_broken : Tables → Option ℕ
 first_broken tables =
     option_map (λ condition. condition.0) (find (λ condition. not (condition.1 tables)) conditions)
-
--- the conditions that a payment keeps by itself, while it leaves HISTORY as it is
-pub record MeetsConditions (tables : Tables) : Type 0 where
-  pub condition_1 : IsTrue (condition_1 tables)
-  pub condition_12 : IsTrue (condition_12 tables)
-
--- the rows of one warehouse, consistent
-pub record IsConsistent (number : ℕ) (tables : Tables) : Type 0 where
-  pub rows : IsOneWarehouse number tables
-  pub conditions : MeetsConditions tables

@@ -1,10 +1,6 @@
 pub mod Refusals
 pub mod Keys
 pub mod Related
-pub mod Commands
-pub mod Transactions
-pub mod Replay
 pub mod Conditions
 pub mod Loads
-pub mod WorkedRows
 pub mod WorkedConditions

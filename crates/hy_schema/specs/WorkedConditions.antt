@@ -1,4 +1,5 @@
 -- A small warehouse that meets all consistency conditions, and for each condition a warehouse that breaks just that one.
+-- The fresh rows of one warehouse meet the conditions 1 and 12.
 use Rattle.std.specs.Prelude.{◌≡◌, ℕ, pos, negsuc, true, not, List, [], ◌∷◌, Some, None, map, filter, codes, refl}
 use Rattle.hy_rows.specs.declared.warehouse.Warehouse.{Warehouse}
 use Rattle.hy_rows.specs.declared.district.District.{District}
@@ -8,7 +9,8 @@ use Rattle.hy_rows.specs.declared.new_order.NewOrder.{NewOrder}
 use Rattle.hy_rows.specs.declared.order.Order.{Order}
 use Rattle.hy_rows.specs.declared.order_line.OrderLine.{OrderLine}
 use Rattle.hy_rows.specs.Tables.{Tables, no_rows}
-use Rattle.hy_schema.specs.Conditions.{conditions, first_broken, is_consistent}
+use Rattle.hy_rows.specs.WorkedRows.{fresh}
+use Rattle.hy_schema.specs.Conditions.{condition_1, condition_12, conditions, first_broken, is_consistent}
 
 -- warehouse 1 with one district and one customer, who paid 10.00 and bought for 5.00
 abbrev one_warehouse : Warehouse
@@ -101,6 +103,13 @@ small-first_broken = refl
 -- a warehouse without a row meets them, too
 pub nothing-is_consistent : is_consistent no_rows ≡ true
 nothing-is_consistent = refl
+
+-- ten districts of 30.00 are a warehouse of 300.00, and the customers have paid what they owed
+pub fresh-condition_1 : condition_1 fresh ≡ true
+fresh-condition_1 = refl
+
+pub fresh-condition_12 : condition_12 fresh ≡ true
+fresh-condition_12 = refl
 
 -- 1: a payment of 1.00 in a district that isn't there raised W_YTD alone
 pub breaks_1 : broken (record small {

@@ -1,11 +1,9 @@
-//! The commands, replies and loads of the order-entry database, over its rows.
+//! Why a call of the order-entry database refuses, and how far the files of its first rows were read.
 #![tactic(auto)]
 
-mod command;
 mod files;
 mod refusal;
 
-pub use command::{Command, Commit, MAX_PAYMENT, MIN_PAYMENT, Payment, Reply, Who};
 pub use files::{FileEnd, FileEnds};
 pub use hy_rows::{
     Customer, DISTRICTS_PER_WAREHOUSE, District, History, MAX_CENTS, MAX_COUNT, MAX_CUSTOMERS,

@@ -1,4 +1,4 @@
-//! Refusals, rows and commands on examples.
+//! Refusals and rows on examples.
 
 use super::*;
 use hy_rows::Item;
@@ -259,27 +259,4 @@ fn texts(rt: HostRuntime) {
     assert_eq!(rt; Text::<4>::new(b"ABCDE"), None);
     assert_eq!(rt; Text::<4>::new(b"A\0B"), None);
     assert!(rt; !text::<4>(&rt, b"A\n").is_printable());
-}
-
-#[test]
-fn commands(rt: HostRuntime) {
-    let payment = Payment {
-        warehouse: 1,
-        district: 1,
-        customer_warehouse: 2,
-        customer_district: 3,
-        who: Who::Number(4),
-        amount: 100,
-        at: 1,
-    };
-    let command = Command::Payment(payment);
-    assert_eq!(rt; command.check(), Ok(()));
-    assert_eq!(rt; command.warehouses().as_slice(), [1, 2].as_slice());
-    let command = Command::Payment(Payment {
-        customer_warehouse: 1,
-        amount: 99,
-        ..payment
-    });
-    assert_eq!(rt; command.check(), Err(Refusal::OutOfRange));
-    assert_eq!(rt; command.warehouses().as_slice(), [1].as_slice());
 }

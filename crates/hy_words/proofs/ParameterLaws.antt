@@ -1,5 +1,5 @@
 -- Where the parser takes the words, what is given to a command has what its parameters want.
-use Rattle.std.proofs.Common.{◌≡◌, ◌∙◌, ℕ, Bool, true, false, not, ◌&&◌, ◌||◌, cond, List, [], ◌∷◌, ◌++◌, map, length, Option, Some, None, Result, Ok, Err, IfOk, inl, inr, refl, sym, ap, subst, codes}
+use Rattle.std.proofs.Common.{◌≡◌, ◌==◌, ℕ, Bool, true, false, not, ◌&&◌, ◌||◌, cond, List, [], ◌∷◌, ◌++◌, map, length, Option, Some, None, Result, Ok, Err, IfOk, inl, inr, refl, sym, subst}
 use Rattle.std.specs.Prelude.{IfSome, IsSome, IsSomeAnd, ⊤, find, option_map, slice_get}
 use Rattle.std.specs.List.{list_all, list_any}
 use Rattle.std.specs.Option.{option_and_then, option_map_or}
@@ -8,11 +8,13 @@ use Rattle.clap.specs.ValueTests.{accepts}
 use Rattle.clap.proofs.ValueTestLemmas.{accepts-Accepts}
 use Rattle.clap.specs.Facts.{explicit_source}
 use Rattle.clap.specs.Kinds.{check_kinds, or_else, range_kinds, value_kinds, values_kinds}
-use Rattle.clap.specs.Faults.{check_fault, defaults_fault, entered_fault, level_fault, repeat_fault, settle_fault, walk_fault}
+use Rattle.clap.specs.Faults.{defaults_fault, entered_fault, level_fault, repeat_fault, settle_fault, walk_fault}
 use Rattle.clap.specs.Simple.{Shape, built, built_leaf, entered, filled, filled_from, help_rule, index_after, inherited, label_of, marked_built, names_of, rows_at, subcommand_of, subcommand_rows_of, with_index, with_leaf_noted}
 use Rattle.clap.specs.Takes.{is_given}
+use Rattle.clap.specs.Words.{IsUnsignedIn}
+use Rattle.std.proofs.lemmas.Bool.{eqb-true}
 use Rattle.clap.specs.Values.{read_as, refused_kind}
-use Rattle.clap.specs.Walk.{Row, Rule, Text, answers_to, at_row, first_of, more_values, nothing_held, one_of, row_text, rows_after, settled, used, values_or_missing, walk, walk_from, with_values, without}
+use Rattle.clap.specs.Walk.{Row, Rule, Text, answers_to, at_row, more_values, nothing_held, row_text, rows_after, settled, values_or_missing, walk, walk_from, with_values, without}
 use Rattle.clap.specs.declared.builder.value_parser.Reading.{Reading}
 use Rattle.clap.specs.declared.builder.value_parser.Reading.TheVariants as reading
 use Rattle.clap.specs.declared.builder.value_parser.ValueParser.{ValueParser}
@@ -21,7 +23,7 @@ use Rattle.clap.specs.declared.parser.matches.ArgMatches.{ArgMatches}
 use Rattle.clap.specs.declared.parser.matches.ValueSource.{ValueSource}
 use Rattle.clap.specs.declared.parser.matches.ValueSource.TheVariants.{CommandLine}
 use Rattle.hy_words.specs.CommandLine.{AreTaken, IsNumber, Parameter, command_of, commands, program_app, rule_for}
-use Rattle.hy_words.specs.CommandLine.{required_text, required_number, optional_number}
+use Rattle.hy_words.specs.CommandLine.{required_text, required_number, optional_number, bounded_number}
 use Rattle.hy_words.specs.inside.Given.{AreGiven, IsGiven, IsKnown, IsOneOf}
 use Rattle.hy_words.proofs.WalkLaws.{Each, Keeps, either, rows_taken}
 
@@ -31,17 +33,20 @@ abbrev name_of : Parameter → Text
 name_of (required_text name) = name
 name_of (required_number name) = name
 name_of (optional_number name) = name
+name_of (bounded_number low high name) = name
 
 abbrev parser_for : Parameter → ValueParser
 parser_for (required_text name) = parser.String
 parser_for (required_number name) = parser.Unsigned 0 18446744073709551615
 parser_for (optional_number name) = parser.Unsigned 0 18446744073709551615
+parser_for (bounded_number low high name) = parser.Unsigned low high
 
 -- what a text has that its parser takes
 abbrev Fits : Parameter → Text → Type 0
 Fits (required_text name) text = ⊤
 Fits (required_number name) text = IsNumber text
 Fits (optional_number name) text = IsNumber text
+Fits (bounded_number low high name) text = IsUnsignedIn low high text
 
 accepted : (p : ValueParser) (text : Text) → value_kinds false p text ≡ [] → accepts false p text ≡ true
 accepted p text none = at (accepts false p text) none
@@ -127,6 +132,8 @@ module _ (name : Text) (Q : Text → Type 0) where
       (λ again values rows none had. set-keeps id (parser_for (required_number id)) (filled (rule_for (required_number id))) again values rows fits none had, refl)
   parameter-keeps (optional_number id) place fits =
       (λ again values rows none had. set-keeps id (parser_for (required_number id)) (filled (rule_for (optional_number id))) again values rows fits none had, refl)
+  parameter-keeps (bounded_number low high id) place fits =
+      (λ again values rows none had. set-keeps id (parser.Unsigned low high) (filled (rule_for (bounded_number low high id))) again values rows fits none had, refl)
 
   abbrev AllAgree : List Parameter → Type 0
   AllAgree [] = ⊤
@@ -142,9 +149,16 @@ module _ (name : Text) (Q : Text → Type 0) where
 abbrev agrees : Parameter → Parameter → Bool
 agrees (required_text name) q = true
 agrees (required_number name) (required_text other) = not (bytes_eq other name)
+agrees (required_number name) (bounded_number low high other) = not (bytes_eq other name)
 agrees (required_number name) q = true
 agrees (optional_number name) (required_text other) = not (bytes_eq other name)
+agrees (optional_number name) (bounded_number low high other) = not (bytes_eq other name)
 agrees (optional_number name) q = true
+agrees (bounded_number low high name) (bounded_number least most other) =
+    not (bytes_eq other name) || (least == low && most == high)
+agrees (bounded_number low high name) (required_text other) = not (bytes_eq other name)
+agrees (bounded_number low high name) (required_number other) = not (bytes_eq other name)
+agrees (bounded_number low high name) (optional_number other) = not (bytes_eq other name)
 
 -- parameters of one name are of one kind
 abbrev are_apart : List Parameter → List Parameter → Bool
@@ -159,6 +173,18 @@ one-agrees (required_text name) q apart same text taken = tt
 one-agrees (required_number name) (required_text other) apart same text taken = let bad : false ≡ true = rw same at apart in absurd (cc)
 one-agrees (required_number name) (required_number other) apart same text taken = accepts-Accepts false (parser.Unsigned 0 18446744073709551615) text taken
 one-agrees (required_number name) (optional_number other) apart same text taken = accepts-Accepts false (parser.Unsigned 0 18446744073709551615) text taken
+one-agrees (required_number name) (bounded_number low high other) apart same text taken = let bad : false ≡ true = rw same at apart in absurd (cc)
+one-agrees (optional_number name) (bounded_number low high other) apart same text taken = let bad : false ≡ true = rw same at apart in absurd (cc)
+one-agrees (bounded_number low high name) (required_text other) apart same text taken = let bad : false ≡ true = rw same at apart in absurd (cc)
+one-agrees (bounded_number low high name) (required_number other) apart same text taken = let bad : false ≡ true = rw same at apart in absurd (cc)
+one-agrees (bounded_number low high name) (optional_number other) apart same text taken = let bad : false ≡ true = rw same at apart in absurd (cc)
+one-agrees (bounded_number low high name) (bounded_number least most other) apart same text taken =
+    let equal : (least == low && most == high) ≡ true = rw same at apart in
+    let parts = both (least == low) (most == high) equal in
+    let least_is = eqb-true least low parts.0 in
+    let most_is = eqb-true most high parts.1 in
+    subst (λ (it : ℕ). IsUnsignedIn it high text) least_is (subst (λ (it : ℕ). IsUnsignedIn least it text) most_is
+    (accepts-Accepts false (parser.Unsigned least most) text taken))
 one-agrees (optional_number name) (required_text other) apart same text taken = let bad : false ≡ true = rw same at apart in absurd (cc)
 one-agrees (optional_number name) (required_number other) apart same text taken = accepts-Accepts false (parser.Unsigned 0 18446744073709551615) text taken
 one-agrees (optional_number name) (optional_number other) apart same text taken = accepts-Accepts false (parser.Unsigned 0 18446744073709551615) text taken
@@ -174,6 +200,7 @@ abbrev IsThere : List Row → Parameter → Type 0
 IsThere rows (required_text name) = is_given name rows ≡ true
 IsThere rows (required_number name) = is_given name rows ≡ true
 IsThere rows (optional_number name) = ⊤
+IsThere rows (bounded_number low high name) = ⊤
 
 abbrev AreThere : List Row → List Parameter → Type 0
 AreThere rows [] = ⊤
@@ -193,6 +220,7 @@ are-there rows (required_number name ∷ rest) place none =
     let parts = neither (is_given name rows) _ none in
     (parts.0, are-there rows rest (index_after place (rule_for (required_number name))) parts.1)
 are-there rows (optional_number name ∷ rest) place none = (tt, are-there rows rest (index_after place (rule_for (optional_number name))) none)
+are-there rows (bounded_number low high name ∷ rest) place none = (tt, are-there rows rest (index_after place (rule_for (bounded_number low high name))) none)
 
 -- the first text of a row
 text-read : (Q : Text → Type 0) (values : List Text) (how : Reading) → how ≡ reading.AsWritten → StartsWell [] Q values
@@ -230,6 +258,8 @@ parameter-given rows (required_text name) well there =
     first-given (Fits (required_text name)) (find (λ r. bytes_eq r.id name) rows) (row-found name (Fits (required_text name)) rows well) there
 parameter-given rows (required_number name) well there = one-given IsNumber (find (λ r. bytes_eq r.id name) rows) (row-found name IsNumber rows well) there
 parameter-given rows (optional_number name) well there = one-if-given IsNumber (find (λ r. bytes_eq r.id name) rows) (row-found name IsNumber rows well)
+parameter-given rows (bounded_number low high name) well there =
+    one-if-given (IsUnsignedIn low high) (find (λ r. bytes_eq r.id name) rows) (row-found name (IsUnsignedIn low high) rows well)
 
 all-given : (rows : List Row) (all parameters : List Parameter) → are_apart all parameters ≡ true
     → ((name : Text) (Q : Text → Type 0) → AllAgree name Q all → Rows name Q rows) → AreThere rows parameters → AreGiven rows parameters

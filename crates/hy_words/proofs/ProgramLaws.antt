@@ -1,5 +1,5 @@
 -- What a step of the builders makes of a command that the parser knows.
-use Rattle.std.proofs.Common.{◌≡◌, ◌∙◌, Bool, true, false, ◌||◌, List, [], ◌∷◌, ◌++◌, ap, ap₂}
+use Rattle.std.proofs.Common.{◌≡◌, ◌∙◌, Bool, false, ◌||◌, List, [], ◌∷◌, ◌++◌, ap, ap₂}
 use Rattle.clap.specs.Built.{AddsArg, AddsSubcommand}
 use Rattle.clap.specs.Simple.{App, Shape, app_of, new_shape, shape_of, with_subcommand}
 use Rattle.clap.specs.Walk.{Rule, Text, rule_of}

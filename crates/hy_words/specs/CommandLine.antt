@@ -1,5 +1,5 @@
 -- The command line of the program: what it takes, and what its words say.
-use Rattle.std.specs.Prelude.{◌≡◌, ◌≢◌, ⊤, ℕ, true, false, List, [], ◌∷◌, Some, Ok, codes, map}
+use Rattle.std.specs.Prelude.{◌≡◌, ◌≢◌, ◌≤◌, ⊤, ℕ, true, false, List, [], ◌∷◌, Some, Ok, codes, map}
 use Rattle.std.specs.Prelude.{IsSomeAnd, MatchOption}
 use Rattle.std.specs.Borrow.{Bor}
 use Rattle.std.specs.Str.Parse.{ParsesUnsigned}
@@ -19,23 +19,29 @@ use Rattle.hy_words.specs.declared.words.LineFault.TheVariants as fault
 
 -- ---- what the program takes
 
--- a parameter of a command: any word at its place, `--name NUMBER`, or `--name NUMBER` that may be left out
+-- a parameter of a command: any word at its place, `--name NUMBER`, `--name NUMBER` that may be left out, or this with a
+-- number that is at least the first and at most the second of two others
 pub data Parameter : Type 0 where
   required_text : Text → Parameter
   required_number : Text → Parameter
   optional_number : Text → Parameter
+  bounded_number : ℕ → ℕ → Text → Parameter
 
 -- a word at its place; where several have one, they come in the order of the parameters
 abbrev pub text_rule : Text → Rule
 text_rule name = record (new_rule name) { value_names = 1 }
 
--- `--name NUMBER`, where the number is one of 64 bits
-abbrev pub number_rule : Text → Rule
-number_rule name = record (new_rule name) {
+-- `--name NUMBER`, where the number is within bounds
+abbrev pub bounded_rule : ℕ → ℕ → Text → Rule
+bounded_rule low high name = record (new_rule name) {
   long = Some name;
   value_names = 1;
-  parser = Some (parser.Unsigned 0 18446744073709551615);
+  parser = Some (parser.Unsigned low high);
 }
+
+-- `--name NUMBER`, where the number is one of 64 bits
+abbrev pub number_rule : Text → Rule
+number_rule = bounded_rule 0 18446744073709551615
 
 -- it has to be given
 abbrev pub required : Rule → Rule
@@ -46,6 +52,7 @@ abbrev pub rule_for : Parameter → Rule
 rule_for (required_text name) = required (text_rule name)
 rule_for (required_number name) = required (number_rule name)
 rule_for (optional_number name) = number_rule name
+rule_for (bounded_number low high name) = bounded_rule low high name
 
 -- `first [--amount CENTS]`
 abbrev pub first_parameters : List Parameter
@@ -60,6 +67,18 @@ generate_parameters = required_text (codes "directory") ∷ required_number (cod
 abbrev pub check_parameters : List Parameter
 check_parameters = required_text (codes "directory") ∷ []
 
+-- how many frames each partition may have at most, and how many commits it may keep
+abbrev pub most_frames : ℕ
+most_frames = 10_000_000
+
+abbrev pub most_kept : ℕ
+most_kept = 100_000_000
+
+-- `script DIR FILE [--frames F] [--kept K]`
+abbrev pub script_parameters : List Parameter
+script_parameters = required_text (codes "directory") ∷ required_text (codes "file")
+    ∷ bounded_number 1 most_frames (codes "frames") ∷ bounded_number 1 most_kept (codes "kept") ∷ []
+
 -- what the parser knows of a command
 abbrev pub command_of : Text → List Parameter → Shape
 command_of name parameters = record (new_shape name) { rules = map rule_for parameters }
@@ -67,7 +86,7 @@ command_of name parameters = record (new_shape name) { rules = map rule_for para
 -- the commands with their parameters
 abbrev pub commands : List (Text × List Parameter)
 commands = (codes "first", first_parameters) ∷ (codes "gen", generate_parameters) ∷ (codes "check", check_parameters)
-    ∷ []
+    ∷ (codes "script", script_parameters) ∷ []
 
 -- the program, which wants one of its commands
 abbrev pub program_app : App
@@ -122,6 +141,20 @@ SaysLine command (line.Generate directory warehouses customers items) = (command
     × SaysNumber (codes "items") command.1 items
 SaysLine command (line.Check directory) = (command.0 ≡ codes "check")
     × SaysText (codes "directory") command.1 directory.now
+SaysLine command (line.Script directory file frames kept) = (command.0 ≡ codes "script")
+    × SaysText (codes "directory") command.1 directory.now
+    × SaysText (codes "file") command.1 file.now
+    × SaysNumberOr 100_000 (codes "frames") command.1 frames
+    × SaysNumberOr 1_000_000 (codes "kept") command.1 kept
+
+-- a number is at least one and at most another
+abbrev pub IsIn : ℕ → ℕ → ℕ → Type 0
+IsIn low high number = (low ≤ number) × (number ≤ high)
+
+-- a command line's limits are ones that a partition may have
+abbrev pub HasLimits : Line → Type 0
+HasLimits (line.Script directory file frames kept) = IsIn 1 most_frames frames × IsIn 1 most_kept kept
+HasLimits other = ⊤
 
 -- the words say this command line
 abbrev pub Says : List Text → Line → Type 0

@@ -1,5 +1,5 @@
 -- Worked examples, which the checker computes: what words say, and which faults they have.
-use Rattle.std.specs.Prelude.{◌≡◌, ℕ, Option, Some, None, List, [], ◌∷◌, codes, option_map, refl}
+use Rattle.std.specs.Prelude.{◌≡◌, Option, Some, List, [], ◌∷◌, codes, option_map, refl}
 use Rattle.clap.specs.Walk.{first_of}
 use Rattle.clap.specs.Words.{Text, one_of, subcommand_of}
 use Rattle.clap.specs.Faults.{fault_of}
@@ -117,3 +117,36 @@ help-refused = refl
 pub help_option-refused : fault_of program_app (codes "--help" ∷ []) ≡ kind.DisplayHelp ∷ []
 unfolding clap_on_literals
 help_option-refused = refl
+
+-- a folder, a file and two limits, the greatest that there are
+abbrev pub script_given : List Text
+script_given = codes "script" ∷ codes "d" ∷ codes "--kept=100000000" ∷ codes "f" ∷ codes "--frames" ∷ codes "10000000" ∷ []
+
+pub script-taken : fault_of program_app script_given ≡ []
+unfolding clap_on_literals
+script-taken = refl
+
+-- the texts of the folder, of the file and of both limits
+abbrev pub script_texts : List Text → Option (Option Text × Option Text × Option Text × Option Text)
+script_texts words = option_map (λ command. (
+  first_of (codes "directory") command.1,
+  first_of (codes "file") command.1,
+  one_of (codes "frames") command.1,
+  one_of (codes "kept") command.1,
+)) (subcommand_of program_app words)
+
+pub script-texts : script_texts script_given
+    ≡ Some (Some (codes "d"), Some (codes "f"), Some (codes "10000000"), Some (codes "100000000"))
+unfolding clap_on_literals
+script-texts = refl
+
+-- one frame more than the greatest limit, and a limit of no commits
+pub frames-refused : fault_of program_app
+    (codes "script" ∷ codes "d" ∷ codes "f" ∷ codes "--frames" ∷ codes "10000001" ∷ []) ≡ kind.ValueValidation ∷ []
+unfolding clap_on_literals
+frames-refused = refl
+
+pub kept-refused : fault_of program_app (codes "script" ∷ codes "d" ∷ codes "f" ∷ codes "--kept" ∷ codes "0" ∷ [])
+    ≡ kind.ValueValidation ∷ []
+unfolding clap_on_literals
+kept-refused = refl

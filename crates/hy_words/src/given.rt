@@ -1,9 +1,9 @@
 //! Reads what is given for a parameter, where the parser takes the words.
 
-ghost use Rattle.std.specs.Prelude.{IfSome, IsSome, IsSomeAnd};
+ghost use Rattle.std.specs.Prelude.{ℕ, IfSome, IsSome, IsSomeAnd};
 ghost use Rattle.clap.specs.Walk.{first_of, one_of};
-ghost use Rattle.clap.specs.Words.{found_of, rows_of};
-ghost use Rattle.hy_words.specs.CommandLine.{IsNumber, SaysNumber, SaysNumberOr, SaysText};
+ghost use Rattle.clap.specs.Words.{IsUnsignedIn, found_of, rows_of};
+ghost use Rattle.hy_words.specs.CommandLine.{IsIn, IsNumber, SaysNumber, SaysNumberOr, SaysText};
 
 use clap::ArgMatches;
 
@@ -32,7 +32,9 @@ pub fn number_given(given: &ArgMatches<'_>, name: &str) -> u64
 /// The number that is given for `name`, or `default` where none is.
 pub fn number_or(given: &ArgMatches<'_>, name: &str, default: u64) -> u64
     requires { IfSome (one_of name.now (rows_of (found_of given.now))) IsNumber }
-    ensures { SaysNumberOr default name.now (rows_of (found_of given.now)) result }
+    ensures says { SaysNumberOr default name.now (rows_of (found_of given.now)) result }
+    ensures bounds { (low high : ℕ) → IsIn low high default
+        → IfSome (one_of name.now (rows_of (found_of given.now))) (IsUnsignedIn low high) → IsIn low high result }
 {
     given.get_one(name).unwrap_or(default)
 }

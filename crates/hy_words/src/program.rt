@@ -3,10 +3,17 @@
 ghost use Rattle.std.specs.Prelude.{◌≡◌, IfOk, codes, false, true};
 ghost use Rattle.clap.specs.Words.{app_of, rule_of, shape_of};
 ghost use Rattle.clap.specs.declared.builder.command.Command.TheViews.{out-Command as fields_of};
-ghost use Rattle.hy_words.specs.CommandLine.{check_parameters, command_of, first_parameters, generate_parameters, optional_number, program_app, required_number, required_text, rule_for};
+ghost use Rattle.hy_words.specs.CommandLine.{bounded_number, check_parameters, command_of, first_parameters, generate_parameters, optional_number, program_app, required_number, required_text, rule_for, script_parameters};
 
+use clap::builder::ValueParser;
 use clap::{Arg, Command, value_parser};
 use std::alloc::{AllocError, Global};
+
+/// How many frames a partition may have at most.
+const MAX_FRAMES: u64 = 10_000_000;
+
+/// How many commits a partition may keep at most.
+const MAX_KEPT: u64 = 100_000_000;
 
 /// The program, which wants one of its commands.
 pub fn program<'a>(alloc: Global) -> Result<Command<'a>, AllocError>
@@ -21,7 +28,8 @@ pub fn program<'a>(alloc: Global) -> Result<Command<'a>, AllocError>
         .disable_help_subcommand(true)
         .subcommand(first(alloc)?)?
         .subcommand(generate(alloc)?)?
-        .subcommand(check(alloc)?)
+        .subcommand(check(alloc)?)?
+        .subcommand(script(alloc)?)
 }
 
 /// `first [--amount CENTS]`.
@@ -67,6 +75,31 @@ fn check<'a>(alloc: Global) -> Result<Command<'a>, AllocError>
         .arg(positional(alloc, "directory", "DIR", "The folder of the files"))
 }
 
+/// `script DIR FILE [--frames F] [--kept K]`.
+fn script<'a>(alloc: Global) -> Result<Command<'a>, AllocError>
+    ensures { IfOk result (λ command. (shape_of command ≡ command_of (codes "script") script_parameters)
+        × ((fields_of command).has_globals ≡ false)) }
+{
+    Command::new(alloc, "script")
+        .about("Runs the events of a file on the database in nine files, and prints their answers")
+        .arg(positional(alloc, "directory", "DIR", "The folder of the files"))?
+        .arg(positional(alloc, "file", "FILE", "The file of events, one a line"))?
+        .arg(bounded_option(
+            alloc,
+            "frames",
+            "F",
+            "How many frames each warehouse may have: 100,000 if it isn't given",
+            MAX_FRAMES,
+        ))?
+        .arg(bounded_option(
+            alloc,
+            "kept",
+            "K",
+            "How many commits each warehouse may keep: 1,000,000 if it isn't given",
+            MAX_KEPT,
+        ))
+}
+
 /// A word at its place, which has to be given; help calls it `value`.
 fn positional<'a>(alloc: Global, name: &'a str, value: &'a str, help: &'a str) -> Arg<'a>
     ensures { (rule_of result ≡ rule_for (required_text name.entry.now)) × (result.global ≡ false) }
@@ -85,6 +118,23 @@ fn option<'a>(alloc: Global, name: &'a str, value: &'a str, help: &'a str) -> Ar
         .long(name)
         .value_name(value)
         .value_parser(value_parser!(u64))
+        .help(help)
+}
+
+/// `--name NUMBER`, a number from 1 to `most` that may be left out.
+fn bounded_option<'a>(
+    alloc: Global,
+    name: &'a str,
+    value: &'a str,
+    help: &'a str,
+    most: u64,
+) -> Arg<'a>
+    ensures { (rule_of result ≡ rule_for (bounded_number 1 most name.entry.now)) × (result.global ≡ false) }
+{
+    Arg::new(alloc, name)
+        .long(name)
+        .value_name(value)
+        .value_parser(ValueParser::unsigned(1, most))
         .help(help)
 }
 

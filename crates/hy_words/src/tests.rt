@@ -109,6 +109,70 @@ fn reads_check(rt: HostRuntime) {
 }
 
 #[test]
+fn reads_script(rt: HostRuntime) {
+    let alloc = rt.alloc();
+    let cases: [(&[&str], [&str; 2], [u64; 2]); 4] = [
+        (
+            &["script", "data", "events"],
+            ["data", "events"],
+            [100_000, 1_000_000],
+        ),
+        (
+            &["script", "--kept", "2", "data", "--frames=3", "events"],
+            ["data", "events"],
+            [3, 2],
+        ),
+        (
+            &[
+                "script",
+                "data",
+                "events",
+                "--frames",
+                "10000000",
+                "--kept",
+                "100000000",
+            ],
+            ["data", "events"],
+            [10_000_000, 100_000_000],
+        ),
+        (
+            &["script", "", "-", "--frames=1", "--kept=1"],
+            ["", "-"],
+            [1, 1],
+        ),
+    ];
+    for (words, [directory, file], [frames, kept]) in cases {
+        let line = read_words(alloc, words).expect(&rt, "a command line");
+        assert!(rt;
+            line == Line::Script {
+                directory,
+                file,
+                frames,
+                kept
+            }
+        );
+    }
+}
+
+#[test]
+fn refuses_other_limits(rt: HostRuntime) {
+    let alloc = rt.alloc();
+    let cases: [&[&str]; 7] = [
+        &["script", "data"],
+        &["script", "data", "events", "--frames", "0"],
+        &["script", "data", "events", "--frames", "10000001"],
+        &["script", "data", "events", "--kept", "0"],
+        &["script", "data", "events", "--kept", "100000001"],
+        &["script", "data", "events", "--kept", "x"],
+        &["script", "data", "events", "more"],
+    ];
+    for words in cases {
+        let fault = read_words(alloc, words).expect_err(&rt, "no command line");
+        assert!(rt; matches!(fault, LineFault::Parser(_)));
+    }
+}
+
+#[test]
 fn refuses_other_words(rt: HostRuntime) {
     let alloc = rt.alloc();
     let cases: [&[&str]; 24] = [

@@ -3,7 +3,7 @@
 ghost use Rattle.std.specs.Prelude.{◌≡◌, IfErr, IfOk, IfSome, MatchResult, codes, true};
 ghost use Rattle.clap.specs.Faults.{fault_of};
 ghost use Rattle.clap.specs.Words.{HasKind, found_of, has_subcommand, rows_of, subcommand_of, subcommand_rows_of};
-ghost use Rattle.hy_words.specs.CommandLine.{AreTaken, HasFault, IsBehind, Says, SaysLine, check_parameters, first_parameters, generate_parameters, program_app, texts_of};
+ghost use Rattle.hy_words.specs.CommandLine.{AreTaken, HasFault, HasLimits, IsBehind, Says, SaysLine, check_parameters, first_parameters, generate_parameters, program_app, script_parameters, texts_of};
 ghost use Rattle.hy_words.specs.inside.Given.{AreGiven, IsKnown};
 
 use crate::given::{number_given, number_or, text_given};
@@ -15,6 +15,12 @@ use thiserror::Error;
 
 /// The amount of `first` where the words give none, in cents.
 const DEFAULT_AMOUNT: u64 = 100;
+
+/// How many frames a partition may have where the words say nothing of it.
+const DEFAULT_FRAMES: u64 = 100_000;
+
+/// How many commits a partition may keep where the words say nothing of it.
+const DEFAULT_KEPT: u64 = 1_000_000;
 
 /// A command line.
 #[derive(Clone, Copy, Debug, PartialEq, Eq)]
@@ -39,6 +45,17 @@ pub enum Line<'a> {
     Check {
         /// The folder of the files.
         directory: &'a str,
+    },
+    /// The events of a file are run on the database in files.
+    Script {
+        /// The folder of the files.
+        directory: &'a str,
+        /// The file of events.
+        file: &'a str,
+        /// How many frames each partition may have, from 1 to 10,000,000.
+        frames: u64,
+        /// How many commits each partition may keep, from 1 to 100,000,000.
+        kept: u64,
     },
 }
 
@@ -71,7 +88,8 @@ impl From<clap::Error> for LineFault {
 ///
 /// The parser's answer, where the words are no command line or ask for help, or that memory was refused.
 pub fn read_words<'a>(alloc: Global, words: &'a [&'a str]) -> Result<Line<'a>, LineFault>
-    ensures { MatchResult result (Says (texts_of words.entry.now)) (HasFault (texts_of words.entry.now)) }
+    ensures read { MatchResult result (Says (texts_of words.entry.now)) (HasFault (texts_of words.entry.now)) }
+    ensures limits { IfOk result HasLimits }
 {
     let matches = parse(alloc, words)?;
     let Some((name, given)) = matches.subcommand() else {
@@ -81,6 +99,7 @@ pub fn read_words<'a>(alloc: Global, words: &'a [&'a str]) -> Result<Line<'a>, L
         "first" => Ok(read_first(given)),
         "gen" => Ok(read_generate(given)),
         "check" => Ok(read_check(given)),
+        "script" => Ok(read_script(given)),
         _ => unreachable!(),
     }
 }
@@ -126,5 +145,19 @@ fn read_check<'a>(given: &ArgMatches<'a>) -> Line<'a>
 {
     Line::Check {
         directory: text_given(given, "directory"),
+    }
+}
+
+/// The line that what is given to `script` says.
+fn read_script<'a>(given: &ArgMatches<'a>) -> Line<'a>
+    requires { AreGiven (rows_of (found_of given.now)) script_parameters }
+    ensures says { SaysLine (codes "script", rows_of (found_of given.now)) result }
+    ensures limits { HasLimits result }
+{
+    Line::Script {
+        directory: text_given(given, "directory"),
+        file: text_given(given, "file"),
+        frames: number_or(given, "frames", DEFAULT_FRAMES),
+        kept: number_or(given, "kept", DEFAULT_KEPT),
     }
 }

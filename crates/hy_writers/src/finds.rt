@@ -26,12 +26,8 @@ pub(crate) fn own_warehouse<const N: usize>(layout: &Layout, space: &Space<N>) -
     row_at::<Warehouse, N>(space, 0)
 }
 
-/// The row of a district.
-pub(crate) fn own_district<const N: usize>(
-    layout: &Layout,
-    space: &Space<N>,
-    district: u64,
-) -> District
+/// The row of a district of the warehouse.
+pub fn own_district<const N: usize>(layout: &Layout, space: &Space<N>, district: u64) -> District
     requires store { HasStore N (owner_bytes space.now) }
     requires rows { IsOneWarehouse layout.now.warehouse (stored_in N space.now).tables }
     requires district { IsBetween 1 10 district }

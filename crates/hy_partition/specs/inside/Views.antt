@@ -5,8 +5,8 @@ use Rattle.hy_partition.specs.declared.partition.Partition.TheInside.{Inside}
 
 abbrev pub partition_of : {n : ℕ} → Inside n → PartitionState
 partition_of p = record {
-  warehouse = p.warehouse;
-  loaded = p.loaded;
+  load = p.executor.layout.load;
+  warehouse = p.executor.layout.warehouse;
   kept = p.kept.items;
   max_kept = p.max_kept;
   running = p.running;

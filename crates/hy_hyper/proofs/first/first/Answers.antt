@@ -2,10 +2,11 @@ use Rattle.std.proofs.Common.{rules, ◌≡◌, ℤ, Result, Err, IfErr, inl, in
 use Rattle.std.proofs.lemmas.Bool.{false≢true}
 use Rattle.std.proofs.lemmas.Result.{IfErr-weaker, IfOk-weaker}
 use Rattle.hy_schema.specs.declared.refusal.Refusal.{Refusal}
-use Rattle.hy_schema.specs.declared.command.Payment.{Payment}
+use Rattle.hy_commands.specs.declared.command.Payment.{Payment}
 use Rattle.hy_rows.specs.Tables.{Lists}
 use Rattle.hy_hyper.specs.First.{IsFirstRefusal, IsPaid, IsPayRefusal}
-use Rattle.hy_hyper.proofs.FirstLaws.{HasBegun, err_is, first_refusal, other_case, ytd_after}
+use Rattle.hy_partition.specs.Steps.{Begins}
+use Rattle.hy_hyper.proofs.FirstLaws.{err_is, first_refusal, other_case, ytd_after}
 use Rattle.hy_hyper.proofs.first.first.Goals as goal
 
 -- what refuses the payment refuses `first`
@@ -14,7 +15,7 @@ returns-in_err-pay-clause-refused c =
     let partition = c.in_ok-partition.partition in
     let refusal = c.in_err-pay.field-0.0 in
     let begins =
-    subst (λ (load : Lists). HasBegun load.tables partition)
+    subst (λ (load : Lists). Begins load 1 100_000 1_000_000 partition)
     c.in_ok-load.ensures.load c.in_ok-partition.ensures.begins in
     let why =
     subst (λ (payment : Payment). IsPayRefusal partition payment refusal)
@@ -35,7 +36,7 @@ pub returns-clause-ytd : goal.returns-clause-ytd
 returns-clause-ytd c =
     let partition = c.in_ok-partition.partition in
     let begins =
-    subst (λ (load : Lists). HasBegun load.tables partition)
+    subst (λ (load : Lists). Begins load 1 100_000 1_000_000 partition)
     c.in_ok-load.ensures.load c.in_ok-partition.ensures.begins in
     let paid =
     subst (λ (payment : Payment). IsPaid payment partition c.pay.new.partition)

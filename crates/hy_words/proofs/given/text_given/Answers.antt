@@ -1,7 +1,6 @@
-use Rattle.std.proofs.Common.{◌≡◌, ◌∙◌, Bool, true, false, None, ap, sym}
+use Rattle.std.proofs.Common.{◌≡◌, ◌∙◌, true, false, ap, sym}
 use Rattle.std.specs.Option.{is_some}
-use Rattle.clap.specs.Walk.{first_of}
-use Rattle.clap.specs.Words.{found_of, rows_of}
+use Rattle.clap.specs.Words.{found_of}
 use Rattle.clap.proofs.WalkLemmas.{first_value-rows}
 use Rattle.hy_words.proofs.given.text_given.Goals as goal
 

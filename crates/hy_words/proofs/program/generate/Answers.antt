@@ -1,4 +1,4 @@
-use Rattle.std.proofs.Common.{rules, ◌≡◌, false, [], ◌∷◌, codes}
+use Rattle.std.proofs.Common.{rules, [], ◌∷◌, codes}
 use Rattle.std.proofs.lemmas.Result.{IfOk-weaker}
 use Rattle.hy_words.specs.CommandLine.{required_number, required_text, rule_for}
 use Rattle.hy_words.proofs.ProgramLaws.{HasRules, adds}

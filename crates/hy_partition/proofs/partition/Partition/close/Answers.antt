@@ -6,7 +6,7 @@ use Rattle.hy_undo.proofs.PrivatePageLaws.{IsUndoLog-kept, KeepsPages-unseen}
 use Rattle.hy_partition.specs.Partition.{PartitionState, commits_of}
 use Rattle.hy_partition.specs.Steps.{Closes}
 use Rattle.hy_partition.specs.inside.Views.{partition_of}
-use Rattle.hy_partition.proofs.SoundLaws.{sound-closed, emptied}
+use Rattle.hy_partition.proofs.SoundLaws.{child_open, emptied, sound-closed}
 use Rattle.hy_partition.proofs.partition.Partition.close.Goals as goal
 
 -- a place of a list of options with a value is within the list
@@ -14,6 +14,14 @@ place_there : (items : List (Option ℕ)) (place item : ℕ) → slice_index_or 
 place_there [] place item is = absurd (cc)
 place_there (first ∷ items) zero item is = omega arith
 place_there (first ∷ items) (suc place) item is = omega (arith, place_there items place item is)
+
+pub close-requires : goal.close-requires
+close-requires g c =
+    let same : c.args.snapshot.warehouse ≡ c.args.self.now.warehouse = search rules in
+    let is : commits_of (partition_of c.self.inside) c.spend-child.result ≡ Some c.args.snapshot.commits =
+    ap (λ (p : PartitionState). commits_of p c.spend-child.result) c.self.view_is
+    ∙ ap (commits_of c.args.self.now) c.spend-child.ensures ∙ c.requires same in
+    (omega arith, child_open g.row.N _ _ (partition_of c.self.inside) c.self.invariant c.spend-child.result _ is)
 
 -- the child of a snapshot that is open has its place
 pub index_mut-requires : goal.index_mut-requires
@@ -43,7 +51,7 @@ returns-clause-closes g c =
       bytes = ap (option_map (table_bytes c.close.new.self.frames)) c.close.ensures.closed;
       commits = emptied c.self.inside.snapshots.items child;
       users = c.close.ensures.users;
-      job = record { warehouse = refl; loaded = refl; kept = refl; max_kept = refl; running = refl; undo = refl; finished = refl; owner = c.close.ensures.owner };
+      job = record { load = refl; warehouse = refl; kept = refl; max_kept = refl; running = refl; undo = refl; finished = refl; owner = c.close.ensures.owner };
       others = record { bytes = c.close.ensures.others; commits = λ other apart. get_or-set_other c.self.inside.snapshots.items child other None None apart };
     } in
     subst (λ (old : PartitionState). Closes old after c.args.snapshot.child) c.self.view_is

@@ -6,16 +6,17 @@ use Rattle.hy_partition.specs.inside.Views.{partition_of}
 use Rattle.hy_undo.proofs.PrivatePageLaws.{IsUndoLog-kept, KeepsPages-unseen}
 use Rattle.hy_partition.proofs.UndoLaws.{KeepsOwn-same_frames}
 use Rattle.hy_partition.proofs.SoundLaws.{sound-snapshots}
-use Rattle.hy_partition.proofs.StepLaws.{spells-kept_more}
+use Rattle.hy_partition.proofs.SpellLaws.{spells-kept_more}
 use Rattle.hy_partition.proofs.partition.Partition.set_max.Goals as goal
 use Rattle.hy_partition.proofs.partition.Partition.set_max.Goals.{in-Ok, in-Err}
 
 pub returns-clause-job : goal.returns-clause-job
 returns-clause-job g c =
-    let new : PartitionState = partition_of (record c.self.inside { space = c.set_max.new.self }) in
+    let p : PartitionState = partition_of c.self.inside in
+    let new : PartitionState = record p { space = c.set_max.new.self } in
     let keeps : KeepsJob c.args.self.now new = subst (λ (old : PartitionState). KeepsJob old new) c.self.view_is (record {
+      load = refl;
       warehouse = refl;
-      loaded = refl;
       kept = refl;
       max_kept = refl;
       running = refl;
@@ -35,5 +36,7 @@ invariant_of-self g c =
     let after : PartitionState = record p { space = c.set_max.new.self } in
     let kept = KeepsOwn-same_frames p.space c.set_max.new.self owner.table c.set_max.ensures.frames in
     sound-snapshots g.row.N _ _ p c.self.invariant c.set_max.new.self p.snapshots owner
-    (IsUndoLog-kept g.row.N p.space c.set_max.new.self p.undo (KeepsPages-unseen p.space c.set_max.new.self owner.bytes kept) c.self.invariant.undo_log)
-    (λ child. spells-kept_more g.row.N p after refl refl [] (sym (append-nil p.kept)) child refl (c.set_max.ensures.children.bytes child) (c.self.invariant.snapshots child))
+    (IsUndoLog-kept g.row.N p.space c.set_max.new.self p.undo (KeepsPages-unseen p.space c.set_max.new.self owner.bytes kept)
+    c.self.invariant.undo_log)
+    (λ child. spells-kept_more g.row.N p after refl [] (sym (append-nil p.kept)) child refl
+    (c.set_max.ensures.children.bytes child) (c.self.invariant.snapshots child))

@@ -1,0 +1,138 @@
+-- A schedule on the small warehouse of `hy_commands`: a snapshot, a command that only reads, and a payment between
+-- whose slices another snapshot is taken.
+use Rattle.std.specs.Prelude.{◌≡◌, ℕ, zero, suc, false, Option, Some, None, List, [], ◌∷◌, length, refl}
+use Rattle.std.proofs.Common.{inl, inr, ap, arith}
+use Rattle.hy_rows.specs.Tables.{Lists, no_rows}
+use Rattle.hy_commands.specs.declared.command.Command.{Command}
+use Rattle.hy_commands.specs.declared.command.Commit.TheVariants as commits
+use Rattle.hy_commands.specs.declared.command.Who.TheVariants as who
+use Rattle.hy_commands.specs.WorkedSample.{items, payment, sample, status}
+use Rattle.hy_partition.specs.Jobs.{RunningJob}
+use Rattle.hy_partition.specs.Partition.{commits_of, rows_now}
+use Rattle.hy_space.specs.Space.{child_bytes}
+use Rattle.hy_partition.specs.Schedules.{Does, Event, IsTaken, IsWorldOf, Runs, Taken, World, begins, closes, forks, fresh_world, rows_of, steps, takes, with_end, with_open}
+use Rattle.hy_partition.specs.WorkedRows.{small}
+
+abbrev lists : Lists
+lists = record { items = items; tables = sample }
+
+-- a payment of 25.00
+abbrev pay : Command
+pay = payment (who.Number 1) 2_500
+
+-- so many slices of a command are done
+abbrev job : Command → ℕ → RunningJob
+job command slices = record { command = command; slices = slices }
+
+-- a snapshot with what is kept, under a number
+abbrev opened : World → ℕ → World
+opened world number = record world {
+  open_at = with_open world.open_at number (Some (record { commits = length world.kept; rows = rows_of world }));
+}
+
+abbrev closed : World → ℕ → World
+closed world number = record world { open_at = with_open world.open_at number None }
+
+-- the worlds between the events
+abbrev first : World
+first = opened (fresh_world lists 1) 0
+
+abbrev reading : World
+reading = record first { running = Some (job (status 1) 0) }
+
+-- a command that only reads leaves nothing
+abbrev read : World
+read = with_end first []
+
+abbrev paying : World
+paying = record first { running = Some (job pay 0) }
+
+abbrev half : World
+half = record first { running = Some (job pay 1) }
+
+abbrev paid : World
+paid = with_end (opened half 1) (commits.Local pay ∷ [])
+
+abbrev last : World
+last = closed (record paid { waits = false }) 0
+
+abbrev events : List Event
+events =
+    forks 0 ∷ begins (status 1) ∷ steps ∷ takes ∷ begins pay ∷ steps ∷ forks 1 ∷ steps ∷ takes ∷ closes 0 ∷ []
+
+runs : Runs events (fresh_world lists 1) last
+runs = (first, inr (refl, refl), begun)
+  where
+    after : Runs (takes ∷ closes 0 ∷ []) paid last
+    after = (record paid { waits = false }, inr (refl, refl), (last, inr (refl, refl), refl))
+
+    between : Runs (forks 1 ∷ steps ∷ takes ∷ closes 0 ∷ []) half last
+    between = (opened half 1, inr (refl, refl), (paid, inr (inr (inl (refl, refl, refl))), after))
+
+    second : Runs (begins pay ∷ steps ∷ forks 1 ∷ steps ∷ takes ∷ closes 0 ∷ []) first last
+    second = (paying, inr (refl, refl, refl, refl), (half, inr (inl (refl, refl)), between))
+
+    begun : Runs (begins (status 1) ∷ steps ∷ takes ∷ begins pay ∷ steps ∷ forks 1 ∷ steps ∷ takes ∷ closes 0 ∷ [])
+        first last
+    begun = (
+      reading,
+      inr (refl, refl, refl, refl),
+      (read, inr (inr (inl (refl, refl, refl))), (first, inr (refl, refl), second)),
+    )
+
+-- one commit is kept; the snapshot that was taken between the slices has the loaded rows, and the first one is gone
+kept_at_last : last.kept ≡ commits.Local pay ∷ []
+kept_at_last = refl
+
+taken_between : last.open_at 1 ≡ Some (record { commits = 0; rows = sample })
+taken_between = refl
+
+gone : last.open_at 0 ≡ None
+gone = refl
+
+-- a call that is refused changes nothing
+refused : Runs (steps ∷ takes ∷ []) first first
+refused = (first, inl refl, (first, inl refl, refl))
+
+-- the first slice of a payment keeps nothing
+not_kept : Does steps paying (with_end paying (commits.Local pay ∷ [])) → ⊥
+not_kept (inl more) = let same = ap (λ (w : World). w.waits) more.1 in absurd (cc)
+not_kept (inr (inl ended)) = let never = ended.0 in absurd (cc)
+not_kept (inr (inr ended)) =
+    let kept = ap (λ (w : World). length w.kept) ended in absurd (omega (arith, kept))
+
+-- a second command doesn't begin before the answer to the first is taken
+not_begun : Does (begins pay) read (record read { running = Some (job pay 0) }) → ⊥
+not_begun does = let waits = does.1 in absurd (cc)
+
+-- a snapshot doesn't have other rows than those of all that is kept
+not_taken : Does (forks 1) half (record half {
+  open_at = with_open half.open_at 1 (Some (record { commits = 0; rows = no_rows }));
+}) → ⊥
+not_taken does =
+    let at : Some (record { commits = 0; rows = no_rows }) ≡ Some (record { commits = 0; rows = sample }) =
+    ap (λ (w : World). w.open_at 1) does.1 in
+    let same : record { commits = 0; rows = no_rows } ≡ record { commits = 0; rows = sample } = cc in
+    let rows = ap (λ (t : Taken). length t.rows.warehouses) same in absurd (omega (arith, rows))
+
+-- the world of the small partition in the middle of a payment, with its snapshot under number 0
+abbrev under_zero : ℕ → Option Taken
+under_zero zero = Some (record { commits = 0; rows = rows_now small })
+under_zero (suc number) = None
+
+abbrev small_world : World
+small_world = record (fresh_world small.load 1) { running = small.running; open_at = under_zero }
+
+small_is : IsWorldOf 64 small small_world
+small_is = record {
+  load = refl;
+  warehouse = refl;
+  kept = refl;
+  running = refl;
+  waits = refl;
+  snapshots = snapshots;
+}
+  where
+    snapshots : (number : ℕ) → IsTaken 64 (commits_of small number) (child_bytes small.space number) (small_world.open_at number)
+    snapshots zero = refl
+    snapshots (suc number) = refl

@@ -1,0 +1,10 @@
+use Rattle.std.proofs.Common.{take}
+use Rattle.std.specs.List.{flat_map}
+use Rattle.std.specs.Io.KnownBytes.{Appends}
+use Rattle.hy_script.specs.Answers.{commits_text}
+use Rattle.hy_script.proofs.database.write_commits.Given as goal
+
+abbrev pub invariant-loop-warehouse : goal.invariant-loop-warehouse
+invariant-loop-warehouse g l =
+    Appends (g.O.Write.contents l.initial.out) (g.O.Write.contents l.out)
+    (flat_map commits_text (take l.warehouse-index l.warehouses))

@@ -1,0 +1,15 @@
+use Rattle.std.proofs.Common.{◌≡◌, subst, IsOkAnd, MatchOption, Err}
+use Rattle.hy_schema.specs.declared.refusal.Refusal.TheVariants as refusals
+use Rattle.hy_script.specs.Databases.{WarehouseState}
+use Rattle.hy_script.specs.Steps.{Advances}
+use Rattle.hy_script.proofs.StepLaws.{steps}
+use Rattle.hy_script.proofs.warehouse.Warehouse.step.Goals as goal
+
+pub returns : goal.returns
+returns g c =
+    let held = c.self.inside.snapshots.items in
+    let new : WarehouseState = record { partition = c.step.new.self; snapshots = held } in
+    subst (λ (now : WarehouseState). MatchOption now.partition.running
+    ((c.step.result ≡ Err refusals.NotRunning) × (new ≡ now)) (λ job. IsOkAnd c.step.result (Advances job now new)))
+    c.self.view_is
+    (steps c.self.inside.partition c.step.new.self held c.self.inside.partition.running c.step.result c.step.ensures)

@@ -1,0 +1,137 @@
+-- The text that answers an event, and what the event does.
+use Rattle.std.specs.Prelude.{◌≡◌, ◌⊎◌, ℕ, List, ◌∷◌, [], ◌++◌, Option, None, Some, MatchOption, codes, decimal, length, remove}
+use Rattle.std.specs.List.{flat_map}
+use Rattle.hy_schema.specs.declared.refusal.Refusal.{Refusal}
+use Rattle.hy_schema.specs.declared.refusal.Refusal.TheVariants as refusals
+use Rattle.hy_schema.specs.Refusals.{refusal_text}
+use Rattle.hy_commands.specs.Commands.{home_of}
+use Rattle.hy_commands.specs.declared.reply.Reply.{Reply}
+use Rattle.hy_events.specs.declared.event.Event.{Event}
+use Rattle.hy_events.specs.declared.event.Event.TheVariants as events
+use Rattle.hy_events.specs.Replies.{reply_text}
+use Rattle.hy_frames.specs.FrameTable.{IsLimitFor, free_of, shared_of}
+use Rattle.hy_undo.specs.Touched.{touched}
+use Rattle.hy_partition.specs.declared.job.Progress.{Progress}
+use Rattle.hy_partition.specs.declared.job.Progress.TheVariants as progress
+use Rattle.hy_partition.specs.Jobs.{DoneState}
+use Rattle.hy_script.specs.declared.answer.Request.{Request}
+use Rattle.hy_script.specs.declared.answer.Request.TheVariants as requests
+use Rattle.hy_script.specs.Databases.{DatabaseState, Each, HasName, IsNameAt, WarehouseState, warehouse_at, with_warehouse}
+use Rattle.hy_script.specs.Steps.{Advances, Gains, IsBegun, IsLimited, IsUnbegun, IsWhyUnforked, Loses, Runs, StaysAsItWas, limit_for}
+
+-- ---- texts
+
+abbrev pub refused_text : Refusal → List ℕ
+refused_text why = codes "refused " ++ refusal_text why ++ codes "\n"
+
+abbrev pub begun_text : List ℕ
+begun_text = codes "begun\n"
+
+abbrev pub progress_text : Progress → List ℕ
+progress_text progress.More = codes "more\n"
+progress_text progress.Finished = codes "finished\n"
+
+-- the reply that waits, if there is one
+abbrev pub waiting_text : Option Reply → List ℕ
+waiting_text None = codes "none\n"
+waiting_text (Some reply) = reply_text reply
+
+-- a word and a number
+abbrev pub count_text : List ℕ → ℕ → List ℕ
+count_text word number = word ++ codes " " ++ decimal number ++ codes "\n"
+
+-- how many commits a warehouse has kept
+abbrev pub commits_text : WarehouseState → List ℕ
+commits_text warehouse = codes " " ++ decimal (length warehouse.partition.kept)
+
+abbrev pub snapshot_text : List ℕ → List WarehouseState → List ℕ
+snapshot_text name warehouses =
+    codes "snapshot " ++ name ++ codes " commits" ++ flat_map commits_text warehouses ++ codes "\n"
+
+abbrev pub closed_text : List ℕ → List ℕ
+closed_text name = codes "closed " ++ name ++ codes "\n"
+
+-- ---- what is asked of one warehouse
+
+-- the reply that waits was taken
+abbrev pub with_reply_taken : WarehouseState → WarehouseState
+with_reply_taken warehouse = record warehouse { partition = record warehouse.partition { finished = None } }
+
+-- the reply that waits
+abbrev pub reply_waiting : Option DoneState → Option Reply
+reply_waiting None = None
+reply_waiting (Some done) = Some done.reply
+
+abbrev pub Grants : Request → WarehouseState → WarehouseState → List ℕ → Type 0
+Grants (requests.Run command) old new text =
+    (reply : Reply) × Runs command old new reply × (text ≡ reply_text reply)
+Grants (requests.Begin command) old new text =
+    (IsBegun command old new × (text ≡ begun_text))
+    ⊎ ((why : Refusal) × IsUnbegun command old why × (new ≡ old) × (text ≡ refused_text why))
+Grants requests.Step old new text =
+    MatchOption old.partition.running ((new ≡ old) × (text ≡ refused_text refusals.NotRunning)) (λ job.
+    (progress : Progress) × Advances job old new progress × (text ≡ progress_text progress))
+Grants requests.Done old new text =
+    (new ≡ with_reply_taken old) × (text ≡ waiting_text (reply_waiting old.partition.finished))
+Grants requests.Touched old new text =
+    (new ≡ old) × (text ≡ count_text (codes "touched") (touched old.partition.undo))
+Grants requests.Free old new text =
+    (new ≡ old) × (text ≡ count_text (codes "free") (free_of old.partition.space.frames))
+Grants requests.Shared old new text =
+    (new ≡ old) × (text ≡ count_text (codes "shared") (shared_of old.partition.space.frames))
+Grants (requests.Limit more) old new text =
+    (IsLimited more old new × (text ≡ count_text (codes "free") more))
+    ⊎ ((¬ IsLimitFor old.partition.space.frames (limit_for old.partition.space.frames more)) × (new ≡ old)
+    × (text ≡ refused_text refusals.OutOfRange))
+
+-- a request to the warehouse of a number, which may not be there
+abbrev pub Asks : ℕ → Request → DatabaseState → DatabaseState → List ℕ → Type 0
+Asks number request old new text =
+    MatchOption (warehouse_at old number) ((new ≡ old) × (text ≡ refused_text refusals.NoSuchWarehouse)) (λ warehouse.
+    (next : WarehouseState) × Grants request warehouse next text × (new ≡ with_warehouse old number next))
+
+-- ---- snapshots of all warehouses
+
+-- each warehouse was forked under a name that wasn't open
+pub record OpensName (page_size : ℕ) (name : List ℕ) (old new : DatabaseState) (text : List ℕ) : Type 0 where
+  pub forks : Each (Gains page_size) old.warehouses new.warehouses
+  pub names : new.names ≡ old.names ++ name ∷ []
+  pub prints : text ≡ snapshot_text name new.warehouses
+
+-- for want of frames or of memory no name was opened, and no snapshot is left of it
+pub record OpensNone (old new : DatabaseState) (text : List ℕ) : Type 0 where
+  pub why : Refusal
+  pub reason : IsWhyUnforked old.warehouses why
+  pub stays : Each StaysAsItWas old.warehouses new.warehouses
+  pub names : new.names ≡ old.names
+  pub prints : text ≡ refused_text why
+
+-- the snapshot of a name was closed in each warehouse
+pub record ClosesName (name : List ℕ) (old new : DatabaseState) (text : List ℕ) : Type 0 where
+  pub place : ℕ
+  pub there : IsNameAt old.names name place
+  pub closes : Each (Loses place) old.warehouses new.warehouses
+  pub names : new.names ≡ remove old.names place
+  pub prints : text ≡ closed_text name
+
+-- ---- events
+
+-- an event was done, and this is what it printed
+abbrev pub Answers : ℕ → Event → DatabaseState → DatabaseState → List ℕ → Type 0
+Answers page_size (events.Run command) old new text = Asks (home_of command) (requests.Run command) old new text
+Answers page_size (events.Begin command) old new text = Asks (home_of command) (requests.Begin command) old new text
+Answers page_size (events.Step number) old new text = Asks number requests.Step old new text
+Answers page_size (events.Done number) old new text = Asks number requests.Done old new text
+Answers page_size (events.Touched number) old new text = Asks number requests.Touched old new text
+Answers page_size (events.Free number) old new text = Asks number requests.Free old new text
+Answers page_size (events.Shared number) old new text = Asks number requests.Shared old new text
+Answers page_size (events.Limit number more) old new text = Asks number (requests.Limit more) old new text
+Answers page_size (events.Fork name) old new text =
+    (¬ HasName old.names name) × (OpensName page_size name old new text ⊎ OpensNone old new text)
+Answers page_size (events.Close name) old new text = ClosesName name old new text
+
+-- an event that names a snapshot that isn't open, or opens one of an open name
+abbrev pub IsMisnamed : DatabaseState → Event → Type 0
+IsMisnamed database (events.Fork name) = HasName database.names name
+IsMisnamed database (events.Close name) = ¬ HasName database.names name
+IsMisnamed database other = ⊥

@@ -1,0 +1,40 @@
+-- Answers behind the bytes that a writer has.
+use Rattle.std.specs.Prelude.{⊤, ℕ, List, Option}
+use Rattle.std.specs.Io.KnownBytes.{Appends}
+use Rattle.hy_events.specs.declared.event.Event.{Event}
+use Rattle.hy_script.specs.declared.answer.Request.{Request}
+use Rattle.hy_script.specs.Answers.{Answers, Asks, Grants, IsMisnamed}
+use Rattle.hy_script.specs.declared.event.Unanswered.{Unanswered}
+use Rattle.hy_script.specs.declared.event.Unanswered.TheVariants as unanswered
+use Rattle.hy_script.specs.Databases.{DatabaseState, WarehouseState}
+use Rattle.hy_script.specs.Scripts.{AnswersLine, Prints}
+
+-- a request was granted, and its answer stands behind the bytes that were there
+abbrev pub IsGranted : Request → WarehouseState → WarehouseState → Option (List ℕ) → Option (List ℕ) → Type 0
+IsGranted request old new before after =
+    (text : List ℕ) × Grants request old new text × Appends before after text
+
+-- a request to the warehouse of a number
+abbrev pub IsAsked : ℕ → Request → DatabaseState → DatabaseState → Option (List ℕ) → Option (List ℕ) → Type 0
+IsAsked number request old new before after =
+    (text : List ℕ) × Asks number request old new text × Appends before after text
+
+-- an event
+abbrev pub IsAnswered : ℕ → Event → DatabaseState → DatabaseState → Option (List ℕ) → Option (List ℕ) → Type 0
+IsAnswered page_size event old new before after =
+    (text : List ℕ) × Answers page_size event old new text × Appends before after text
+
+-- why an event has no answer: it misnames a snapshot, and nothing was written, or the writer failed
+abbrev pub IsUnanswered : DatabaseState → Event → Type 0 → Unanswered → Type 0
+IsUnanswered database event unprinted unanswered.BadEvent = IsMisnamed database event × unprinted
+IsUnanswered database event unprinted (unanswered.Output error) = ⊤
+
+-- a line
+abbrev pub IsLineAnswered : ℕ → List ℕ → DatabaseState → DatabaseState → Option (List ℕ) → Option (List ℕ) → Type 0
+IsLineAnswered page_size line old new before after =
+    (text : List ℕ) × AnswersLine page_size line old new text × Appends before after text
+
+-- all lines, or those before a bad event
+abbrev pub ArePrinted : ℕ → List (ℕ × List ℕ) → DatabaseState → Option (List ℕ) → Option (List ℕ) → Option ℕ → Type 0
+ArePrinted page_size lines first before after bad =
+    (text : List ℕ) × Prints page_size lines first text bad × Appends before after text

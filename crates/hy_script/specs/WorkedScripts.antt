@@ -1,0 +1,43 @@
+-- What is printed for some events; the checker computes each row.
+use Rattle.std.specs.Prelude.{◌≡◌, [], ◌∷◌, None, Some, codes, refl}
+use Rattle.std.specs.Fmt.{digits}
+use Rattle.hy_schema.specs.declared.refusal.Refusal.TheVariants as refusals
+use Rattle.hy_commands.specs.declared.reply.Reply.TheVariants as replies
+use Rattle.hy_frames.specs.FrameTable.{empty_frame}
+use Rattle.hy_partition.specs.declared.job.Progress.TheVariants as progress
+use Rattle.hy_script.specs.Answers.{closed_text, count_text, progress_text, refused_text, snapshot_text, waiting_text}
+use Rattle.hy_script.specs.Steps.{limit_for}
+
+-- ---- texts
+
+refused_of_an_unknown_warehouse : refused_text refusals.NoSuchWarehouse ≡ codes "refused E4 NoSuchWarehouse\n"
+refused_of_an_unknown_warehouse = refl
+
+frames_that_are_free : count_text (codes "free") 130 ≡ codes "free 130\n"
+unfolding digits
+frames_that_are_free = refl
+
+steps : progress_text progress.More ≡ codes "more\n"
+steps = refl
+
+last_step : progress_text progress.Finished ≡ codes "finished\n"
+last_step = refl
+
+no_reply : waiting_text None ≡ codes "none\n"
+no_reply = refl
+
+reply_that_waits : waiting_text (Some (replies.StockLevel 2)) ≡ codes "low 2\n"
+unfolding digits
+reply_that_waits = refl
+
+closed : closed_text (codes "A") ≡ codes "closed A\n"
+closed = refl
+
+snapshot_of_nothing : snapshot_text (codes "A") [] ≡ codes "snapshot A commits\n"
+snapshot_of_nothing = refl
+
+-- ---- limits
+
+-- one frame of three that may be used is in use, so that five more are six
+limit_of_five_more : limit_for (record { max = 3; frames = record empty_frame { count = 2 } ∷ empty_frame ∷ [] }) 5 ≡ 6
+limit_of_five_more = refl

@@ -1,0 +1,149 @@
+//! What an event asks of one warehouse, and the answer.
+
+ghost use Rattle.std.specs.Prelude.{◌≡◌, ◌++◌, OnOk, codes, decimal};
+ghost use Rattle.std.specs.Io.KnownBytes.{Appends};
+ghost use Rattle.hy_script.specs.Answers.{Grants, begun_text, count_text, progress_text, refused_text, waiting_text};
+ghost use Rattle.hy_script.specs.Printed.{IsGranted};
+
+use crate::warehouse::Warehouse;
+use hy_commands::{Command, Reply};
+use hy_events::write_reply;
+use hy_partition::Progress;
+use hy_schema::Refusal;
+use std::io;
+
+/// What an event asks of one warehouse.
+#[derive(Debug, Drop)]
+pub enum Request {
+    /// Run a command as a whole.
+    Run(Command),
+    /// Begin a command.
+    Begin(Command),
+    /// Do a slice of what runs.
+    Step,
+    /// Take the reply that waits.
+    Done,
+    /// Say how many pages the job that runs has written.
+    Touched,
+    /// Say how many frames are free.
+    Free,
+    /// Say how many frames more than one page table maps.
+    Shared,
+    /// Let the warehouse have so many frames more than it uses.
+    Limit(u64),
+}
+
+/// Does what is asked of a warehouse, and writes the answer.
+pub fn grant<const N: usize, O: io::Write>(
+    warehouse: &mut Warehouse<N>,
+    request: Request,
+    out: &mut O,
+) -> io::Result<()>
+    ensures granted { OnOk result
+        (IsGranted request warehouse.old warehouse.new (O.contents out.old) (O.contents out.new)) }
+    ensures keeps { warehouse.new.snapshots ≡ warehouse.old.snapshots }
+{
+    match request {
+        Request::Run(command) => run(warehouse, command, out),
+        Request::Begin(command) => begin(warehouse, command, out),
+        Request::Step => step(warehouse, out),
+        Request::Done => write_waiting(out, warehouse.take_reply()),
+        Request::Touched => write_count(out, "touched", warehouse.touched()),
+        Request::Free => write_count(out, "free", warehouse.free()),
+        Request::Shared => write_count(out, "shared", warehouse.shared()),
+        Request::Limit(more) => limit(warehouse, more, out),
+    }
+}
+
+/// Runs a command as a whole, and writes its reply.
+fn run<const N: usize, O: io::Write>(
+    warehouse: &mut Warehouse<N>,
+    command: Command,
+    out: &mut O,
+) -> io::Result<()>
+    ensures granted { OnOk result
+        (IsGranted (Request.Run command) warehouse.old warehouse.new (O.contents out.old) (O.contents out.new)) }
+    ensures keeps { warehouse.new.snapshots ≡ warehouse.old.snapshots }
+{
+    let reply = warehouse.run(command);
+    write_reply(out, &reply)
+}
+
+/// Begins a command, and writes that it did or why not.
+fn begin<const N: usize, O: io::Write>(
+    warehouse: &mut Warehouse<N>,
+    command: Command,
+    out: &mut O,
+) -> io::Result<()>
+    ensures granted { OnOk result
+        (IsGranted (Request.Begin command) warehouse.old warehouse.new (O.contents out.old) (O.contents out.new)) }
+    ensures keeps { warehouse.new.snapshots ≡ warehouse.old.snapshots }
+{
+    match warehouse.begin(command) {
+        Ok(()) => writeln!(out, "begun"),
+        Err(refusal) => write_refused(out, refusal),
+    }
+}
+
+/// Does a slice of what runs, and writes whether more are to come.
+fn step<const N: usize, O: io::Write>(warehouse: &mut Warehouse<N>, out: &mut O) -> io::Result<()>
+    ensures granted { OnOk result
+        (IsGranted Request.Step warehouse.old warehouse.new (O.contents out.old) (O.contents out.new)) }
+    ensures keeps { warehouse.new.snapshots ≡ warehouse.old.snapshots }
+{
+    match warehouse.step() {
+        Ok(progress) => write_progress(out, progress),
+        Err(refusal) => write_refused(out, refusal),
+    }
+}
+
+/// Sets the limit on frames, and writes how many more there may be.
+fn limit<const N: usize, O: io::Write>(
+    warehouse: &mut Warehouse<N>,
+    more: u64,
+    out: &mut O,
+) -> io::Result<()>
+    ensures granted { OnOk result
+        (IsGranted (Request.Limit more) warehouse.old warehouse.new (O.contents out.old) (O.contents out.new)) }
+    ensures keeps { warehouse.new.snapshots ≡ warehouse.old.snapshots }
+{
+    match warehouse.limit(more) {
+        Ok(()) => write_count(out, "free", more),
+        Err(refusal) => write_refused(out, refusal),
+    }
+}
+
+/// Writes what a step left of a job.
+fn write_progress<O: io::Write>(out: &mut O, progress: Progress) -> io::Result<()>
+    ensures { OnOk result (Appends (O.contents out.old) (O.contents out.new) (progress_text progress)) }
+{
+    match progress {
+        Progress::More => writeln!(out, "more"),
+        Progress::Finished => writeln!(out, "finished"),
+    }
+}
+
+/// Writes the reply that waits, or that there is none.
+fn write_waiting<O: io::Write>(out: &mut O, reply: Option<Reply>) -> io::Result<()>
+    ensures { OnOk result (Appends (O.contents out.old) (O.contents out.new) (waiting_text reply)) }
+{
+    match reply {
+        Some(reply) => write_reply(out, &reply),
+        None => writeln!(out, "none"),
+    }
+}
+
+/// Writes a word and a number.
+fn write_count<O: io::Write>(out: &mut O, word: &str, number: u64) -> io::Result<()>
+    ensures { OnOk result
+        (Appends (O.contents out.old) (O.contents out.new) (count_text word.now number)) }
+{
+    writeln!(out, "{word} {number}")
+}
+
+/// Writes a refusal.
+pub fn write_refused<O: io::Write>(out: &mut O, refusal: Refusal) -> io::Result<()>
+    ensures { OnOk result (Appends (O.contents out.old) (O.contents out.new) (refused_text refusal)) }
+{
+    writeln!(out, "refused {refusal}")
+}

@@ -1,0 +1,115 @@
+//! The events of a script, each with its answer.
+
+ghost use Rattle.std.specs.Prelude.{◌≡◌, IfErr, OnOk};
+ghost use Rattle.hy_events.specs.declared.event.Event.TheVariants as events;
+ghost use Rattle.hy_script.specs.declared.event.Unanswered.TheVariants as unanswered;
+ghost use Rattle.std.specs.Io.KnownBytes.{Appends};
+ghost use Rattle.hy_script.specs.Answers.{closed_text};
+ghost use Rattle.hy_script.specs.Printed.{IsAnswered, IsUnanswered};
+
+use crate::answer::{Request, write_refused};
+use crate::database::Database;
+use hy_events::{Event, SnapshotName};
+use std::io;
+
+/// Why an event has no answer.
+#[derive(Debug, Drop)]
+pub enum Unanswered {
+    /// It is a bad event: its line says none, or it names a snapshot that isn't open, or opens one of an open name.
+    BadEvent,
+    /// The writer failed.
+    Output(io::Error),
+}
+
+impl From<io::Error> for Unanswered {
+    ghost from_gives = { λ error made. made ≡ unanswered.Output error };
+
+    fn from(error: io::Error) -> Unanswered {
+        Unanswered::Output(error)
+    }
+}
+
+/// Does an event, and writes its answer.
+pub fn answer<'a, const N: usize, O: io::Write>(
+    database: &mut Database<'a, N>,
+    event: Event<'a>,
+    out: &mut O,
+) -> Result<(), Unanswered>
+    ensures answered { OnOk result
+        (IsAnswered N event.entry database.old database.new (O.contents out.old) (O.contents out.new)) }
+    ensures unanswered { IfErr result
+        (IsUnanswered database.old event.entry (O.contents out.new ≡ O.contents out.old)) }
+{
+    match event {
+        Event::Run(command) => {
+            let home = command.home();
+            database.ask(home, Request::Run(command), out)?;
+        }
+        Event::Begin(command) => {
+            let home = command.home();
+            database.ask(home, Request::Begin(command), out)?;
+        }
+        Event::Step(warehouse) => database.ask(warehouse, Request::Step, out)?,
+        Event::Done(warehouse) => database.ask(warehouse, Request::Done, out)?,
+        Event::Touched(warehouse) => database.ask(warehouse, Request::Touched, out)?,
+        Event::Free(warehouse) => database.ask(warehouse, Request::Free, out)?,
+        Event::Shared(warehouse) => database.ask(warehouse, Request::Shared, out)?,
+        Event::Limit { warehouse, frames } => {
+            database.ask(warehouse, Request::Limit(frames), out)?;
+        }
+        Event::Fork(name) => return fork(database, name, out),
+        Event::Close(name) => return close(database, name, out),
+    }
+    Ok(())
+}
+
+/// Opens a snapshot of a name, and writes how many commits each warehouse has. Where that is refused, no snapshot is
+/// left of it.
+fn fork<'a, const N: usize, O: io::Write>(
+    database: &mut Database<'a, N>,
+    name: SnapshotName<'a>,
+    out: &mut O,
+) -> Result<(), Unanswered>
+    ensures answered { OnOk result
+        (IsAnswered N (events.Fork name.entry) database.old database.new (O.contents out.old) (O.contents out.new)) }
+    ensures unanswered { IfErr result
+        (IsUnanswered database.old (events.Fork name.entry) (O.contents out.new ≡ O.contents out.old)) }
+{
+    if database.place_of_name(&name).is_some() {
+        return Err(Unanswered::BadEvent);
+    }
+    let bytes = name.as_bytes();
+    match database.fork(name) {
+        Ok(()) => database.write_snapshot(bytes, out)?,
+        Err(refusal) => write_refused(out, refusal)?,
+    }
+    Ok(())
+}
+
+/// Closes the snapshot of a name, and writes that it did.
+fn close<const N: usize, O: io::Write>(
+    database: &mut Database<'_, N>,
+    name: SnapshotName<'_>,
+    out: &mut O,
+) -> Result<(), Unanswered>
+    ensures answered { OnOk result
+        (IsAnswered N (events.Close name.entry) database.old database.new (O.contents out.old) (O.contents out.new)) }
+    ensures unanswered { IfErr result
+        (IsUnanswered database.old (events.Close name.entry) (O.contents out.new ≡ O.contents out.old)) }
+{
+    let Some(place) = database.place_of_name(&name) else {
+        return Err(Unanswered::BadEvent);
+    };
+    database.close(place);
+    write_closed(out, name.as_bytes())?;
+    Ok(())
+}
+
+/// Writes that a snapshot was closed.
+fn write_closed<O: io::Write>(out: &mut O, name: &[u8]) -> io::Result<()>
+    ensures { OnOk result (Appends (O.contents out.old) (O.contents out.new) (closed_text name.now)) }
+{
+    out.write_all(b"closed ")?;
+    out.write_all(name)?;
+    out.write_all(b"\n")
+}

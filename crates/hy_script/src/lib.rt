@@ -1,0 +1,11 @@
+//! Scripts: the events of a file, one after the other, on a database of one partition for each warehouse.
+#![tactic(auto)]
+
+mod answer;
+mod database;
+mod event;
+mod names;
+mod script;
+mod warehouse;
+
+pub use script::{ScriptFault, run_script};

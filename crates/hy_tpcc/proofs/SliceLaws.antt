@@ -1,0 +1,205 @@
+-- What holds of a store between the slices of a command.
+use Rattle.std.proofs.Common.{◌≡◌, ◌&&◌, ◌≢◌, ℕ, ◌<◌, ◌≤◌, ◌+◌, ◌==◌, Bool, true, false, cond, Option, Some, None, refl, sym, ap, subst, ◌∙◌, zero, suc, arith}
+use Rattle.std.specs.Prelude.{not}
+use Rattle.std.specs.List.{list_all}
+use Rattle.std.proofs.lemmas.Bool.{and_parts, eqb-true}
+use Rattle.hy_rows.specs.Tables.{Tables}
+use Rattle.hy_schema.specs.declared.refusal.Refusal.{Refusal}
+use Rattle.hy_commands.specs.declared.command.Command.{Command}
+use Rattle.hy_commands.specs.declared.command.Command.TheVariants as commands
+use Rattle.hy_commands.specs.declared.command.Delivery.{Delivery}
+use Rattle.hy_commands.specs.Deliveries.{delivered_in, oldest}
+use Rattle.hy_commands.specs.declared.command.OrderStatus.{OrderStatus}
+use Rattle.hy_commands.specs.declared.command.Payment.{Payment}
+use Rattle.hy_commands.specs.declared.command.StockLevel.{StockLevel}
+use Rattle.hy_commands.specs.Invariant.{IsSoundWarehouse}
+use Rattle.hy_writers.specs.Waiting.{IsSoundStore}
+use Rattle.hy_commands.specs.Commands.{is_in_range, warehouses_of}
+use Rattle.hy_commands.specs.Payments.{paid_by}
+use Rattle.hy_commands.specs.Transactions.{begin_refusal_of, has_districts, is_district_number, payer}
+use Rattle.hy_layout.specs.Layout.{IsMeantAt, KeepsPlaces, LayoutState, own_rows}
+use Rattle.hy_slices.specs.Between.{IsWholeWarehouse}
+use Rattle.hy_slices.specs.Slices.{slice_count}
+use Rattle.hy_slices.proofs.BegunLaws.{begun-delivery, begun-payment}
+use Rattle.hy_slices.proofs.BetweenSlices.{oldest-before, sound-slices, whole-slices}
+use Rattle.hy_store.specs.Stored.{Stored}
+use Rattle.hy_writers.specs.Begun.{IsBegunDelivery, IsBegunPayment}
+use Rattle.hy_writers.specs.Limits.{AreInBounds}
+use Rattle.hy_schema.specs.Keys.{IsOneWarehouse}
+use Rattle.hy_commands.specs.declared.reply.Reply.{Reply}
+use Rattle.hy_fill.specs.Indexes.{HasIndexes}
+use Rattle.hy_writers.specs.Payments.{payment_reply}
+use Rattle.hy_tpcc.proofs.KeepsLaws.{keeps-slices}
+use Rattle.hy_tpcc.specs.Executor.{HasDone, answer_of}
+
+-- a test that a command has passed
+passed : (test : Bool) (why : Refusal) (rest : Option Refusal) → cond (not test) (Some why) rest ≡ None
+    → (test ≡ true) × (rest ≡ None)
+passed true why rest none = (refl, none)
+passed false why rest none = absurd (cc)
+
+pub districts-begun : (warehouse : ℕ) (command : Command) (tables : Tables)
+    → begin_refusal_of warehouse command tables ≡ None → has_districts command ≡ true
+districts-begun warehouse command tables begins =
+    let first = passed (is_in_range command) _ _ begins in
+    let second = passed (list_all (λ named. named == warehouse) (warehouses_of command)) _ _ first.1 in
+    (passed (has_districts command) _ _ second.1).0
+
+pub payment-begun : (warehouse : ℕ) (payment : Payment) (tables : Tables)
+    → begin_refusal_of warehouse (commands.Payment payment) tables ≡ None → IsBegunPayment warehouse payment
+payment-begun warehouse payment tables begins =
+    let whole = begun-payment warehouse payment tables begins in
+    record {
+      home = whole.home;
+      customer_home = whole.customer_home;
+      district = whole.district;
+      customer_district = (and_parts (is_district_number payment.district) (is_district_number payment.customer_district)
+          (districts-begun warehouse (commands.Payment payment) tables begins)).1;
+      amount = whole.amount;
+      moment = whole.moment;
+    }
+
+module _ (layout : LayoutState) (command : Command) (place done : ℕ) (before : Tables) (s : Stored)
+    (now : HasDone layout command place done before s) (within : done ≤ slice_count command) where
+  pub whole-done : IsWholeWarehouse layout.load.items layout.warehouse s.tables
+  whole-done =
+      subst (IsWholeWarehouse layout.load.items layout.warehouse) (sym now.rows)
+      (whole-slices layout.load.items layout.warehouse command before done now.begun.sound now.begun.begun within now.known)
+
+  pub bounds-done : AreInBounds s.tables
+  bounds-done = subst AreInBounds (sym now.rows) (now.begun.bounds done within now.known)
+
+  pub places-done : KeepsPlaces (own_rows layout) s.tables
+  places-done =
+      subst (KeepsPlaces (own_rows layout)) (sym now.rows)
+      (keeps-slices (own_rows layout) layout.load.items layout.warehouse command done before now.begun.places)
+
+-- ---- a payment
+
+-- a store that a slice of a payment finds
+pub record CanPay (layout : LayoutState) (payment : Payment) (place : ℕ) (s : Stored) : Type 0 where
+  pub rows : IsOneWarehouse layout.warehouse s.tables
+  pub bounds : AreInBounds s.tables
+  pub begun : IsBegunPayment layout.warehouse payment
+  pub payer : IsMeantAt layout.warehouse payment.customer_district payment.who s.tables.customers place
+
+pub can-pay : (layout : LayoutState) (payment : Payment) (place done : ℕ) (before : Tables) (s : Stored) → done < 2
+    → HasDone layout (commands.Payment payment) place done before s → CanPay layout payment place s
+can-pay layout payment place done before s next now =
+    let within : done ≤ 2 = omega (arith, next) in
+    record {
+      rows = (whole-done layout (commands.Payment payment) place done before s now within).rows;
+      bounds = bounds-done layout (commands.Payment payment) place done before s now within;
+      begun = payment-begun layout.warehouse payment before now.begun.begun;
+      payer = now.begun.customer s.tables
+          (places-done layout (commands.Payment payment) place done before s now within);
+    }
+
+-- the last slice
+pub paid-done : (layout : LayoutState) (payment : Payment) (place done : ℕ) (before : Tables) (s s1 : Stored)
+    → done < 2 → done ≢ 0
+    → s1 ≡ record s { tables = paid_by payment (payer payment s.tables).id s.tables }
+    → HasDone layout (commands.Payment payment) place done before s
+    → HasDone layout (commands.Payment payment) place (done + 1) before s1
+paid-done layout payment place zero before s s1 next behind paid now = absurd (behind refl)
+paid-done layout payment place (suc zero) before s s1 next behind paid now = record {
+  begun = now.begun;
+  rows =
+      ap (λ (t : Stored). t.tables) paid
+      ∙ ap (λ (t : Tables). paid_by payment (payer payment t).id t) now.rows;
+  known = refl;
+  indexes = subst HasIndexes (sym paid)
+      (record {
+        orders = now.indexes.orders;
+        last_orders = now.indexes.last_orders;
+        waiting = now.indexes.waiting;
+        lines = now.indexes.lines;
+      });
+}
+paid-done layout payment place (suc (suc done)) before s s1 next behind paid now = absurd (omega arith)
+
+-- its reply is that of the payment: the first slice leaves the customers
+pub reply-paid : (layout : LayoutState) (payment : Payment) (place done : ℕ) (before : Tables) (s : Stored)
+    (reply : Reply) → done < 2 → done ≢ 0 → reply ≡ payment_reply payment (payer payment s.tables)
+    → HasDone layout (commands.Payment payment) place done before s
+    → Some reply ≡ answer_of layout (commands.Payment payment) done before
+reply-paid layout payment place zero before s reply next behind is now = absurd (behind refl)
+reply-paid layout payment place (suc zero) before s reply next behind is now =
+    ap Some (is ∙ ap (λ (t : Tables). payment_reply payment (payer payment t)) now.rows)
+reply-paid layout payment place (suc (suc done)) before s reply next behind is now = absurd (omega arith)
+
+-- ---- the transactions that only read
+
+-- before its first slice a command finds a sound store
+pub sound-begun : (layout : LayoutState) (command : Command) (place : ℕ) (before : Tables) (s : Stored)
+    → HasDone layout command place 0 before s → IsSoundStore layout s
+sound-begun layout command place before s now = record {
+  sound = subst (IsSoundWarehouse layout.load.items layout.warehouse) (sym now.rows) now.begun.sound;
+  places = subst (KeepsPlaces (own_rows layout)) (sym now.rows) now.begun.places;
+  bounds = subst AreInBounds (sym now.rows) (now.begun.bounds 0 (omega arith) refl);
+  indexes = now.indexes;
+}
+
+-- a command that names one warehouse alone, and no other
+pub named-begun : (warehouse : ℕ) (command : Command) (tables : Tables)
+    → begin_refusal_of warehouse command tables ≡ None
+    → list_all (λ named. named == warehouse) (warehouses_of command) ≡ true
+named-begun warehouse command tables begins =
+    let first = passed (is_in_range command) _ _ begins in
+    (passed (list_all (λ named. named == warehouse) (warehouses_of command)) _ _ first.1).0
+
+pub home-status : (warehouse : ℕ) (status : OrderStatus) (tables : Tables)
+    → begin_refusal_of warehouse (commands.OrderStatus status) tables ≡ None → status.warehouse ≡ warehouse
+home-status warehouse status tables begins =
+    eqb-true status.warehouse warehouse
+    (and_parts (status.warehouse == warehouse) true (named-begun warehouse (commands.OrderStatus status) tables begins)).0
+
+pub home-level : (warehouse : ℕ) (level : StockLevel) (tables : Tables)
+    → begin_refusal_of warehouse (commands.StockLevel level) tables ≡ None → level.warehouse ≡ warehouse
+home-level warehouse level tables begins =
+    eqb-true level.warehouse warehouse
+    (and_parts (level.warehouse == warehouse) true (named-begun warehouse (commands.StockLevel level) tables begins)).0
+
+-- ---- a delivery
+
+pub delivery-begun : (warehouse : ℕ) (delivery : Delivery) (tables : Tables)
+    → begin_refusal_of warehouse (commands.Delivery delivery) tables ≡ None → IsBegunDelivery warehouse delivery
+delivery-begun warehouse delivery tables begins =
+    let whole = begun-delivery warehouse delivery tables begins in
+    record { home = whole.home; carrier = whole.carrier; moment = whole.moment }
+
+-- between its slices the rows are sound
+pub sound-delivering : (layout : LayoutState) (delivery : Delivery) (place done : ℕ) (before : Tables) (s : Stored)
+    → done < 10 → HasDone layout (commands.Delivery delivery) place done before s → IsSoundStore layout s
+sound-delivering layout delivery place done before s next now =
+    let within : done ≤ 10 = omega (arith, next) in
+    record {
+      sound = subst (IsSoundWarehouse layout.load.items layout.warehouse) (sym now.rows)
+          (sound-slices layout.load.items layout.warehouse delivery before now.begun.sound now.begun.begun done);
+      places = places-done layout (commands.Delivery delivery) place done before s now within;
+      bounds = bounds-done layout (commands.Delivery delivery) place done before s now within;
+      indexes = now.indexes;
+    }
+
+pub delivered-done : (layout : LayoutState) (delivery : Delivery) (place done : ℕ) (before : Tables) (s s1 : Stored)
+    → s1.tables ≡ delivered_in delivery s.tables (done + 1) → HasIndexes s1
+    → HasDone layout (commands.Delivery delivery) place done before s
+    → HasDone layout (commands.Delivery delivery) place (done + 1) before s1
+delivered-done layout delivery place done before s s1 delivered indexes now =
+    let after : HasDone layout (commands.Delivery delivery) place (suc done) before s1 = record {
+      begun = now.begun;
+      rows = delivered ∙ ap (λ (t : Tables). delivered_in delivery t (done + 1)) now.rows;
+      known = ap (λ known. known && true) now.known;
+      indexes = indexes;
+    } in
+    let one_more : suc done ≡ done + 1 = omega arith in
+    subst (λ n. HasDone layout (commands.Delivery delivery) place n before s1) one_more after
+
+-- the order that a slice delivers is the oldest one of before
+pub oldest-delivered : (layout : LayoutState) (delivery : Delivery) (place done : ℕ) (before : Tables) (s : Stored)
+    → HasDone layout (commands.Delivery delivery) place done before s
+    → oldest layout.warehouse (done + 1) s.tables ≡ oldest layout.warehouse (done + 1) before
+oldest-delivered layout delivery place done before s now =
+    ap (oldest layout.warehouse (done + 1)) now.rows
+    ∙ oldest-before layout.load.items layout.warehouse delivery before now.begun.sound now.begun.begun done (done + 1)
+    (omega arith)

@@ -1,0 +1,35 @@
+use Rattle.std.proofs.Common.{lit<, ◌∙◌}
+use Rattle.hy_store.specs.Writes.{stored_in}
+use Rattle.hy_tpcc.proofs.SliceLaws.{delivered-done, delivery-begun, oldest-delivered, sound-delivering}
+use Rattle.hy_tpcc.proofs.delivery.deliver_next.Goals as goal
+
+pub deliver_in-requires : goal.deliver_in-requires
+deliver_in-requires g c =
+    let before = c.requires.done.0 in
+    let now = c.requires.done.1 in
+    let layout = c.args.layout.now in (
+      lit< tt,
+      (
+        lit< tt,
+        (
+          c.requires.store,
+          (
+            sound-delivering layout c.args.delivery.now c.args.place c.args.done before
+                (stored_in g.row.N c.args.space.now) c.requires.next now,
+            (delivery-begun layout.warehouse c.args.delivery.now before now.begun.begun, c.requires.undo_log),
+          ),
+        ),
+      ),
+    )
+
+pub returns-clause-done : goal.returns-clause-done
+returns-clause-done g c = λ before now.
+    delivered-done c.args.layout.now c.args.delivery.now c.args.place c.args.done before
+    (stored_in g.row.N c.args.space.now) (stored_in g.row.N c.deliver_in.new.space) c.in_ok-number.ensures.delivered
+    c.in_ok-number.ensures.indexes now
+
+pub returns-clause-number : goal.returns-clause-number
+returns-clause-number g c = λ before now.
+    c.in_ok-number.ensures.number
+    ∙ oldest-delivered c.args.layout.now c.args.delivery.now c.args.place c.args.done before
+    (stored_in g.row.N c.args.space.now) now

@@ -1,0 +1,29 @@
+use Rattle.std.proofs.Common.{lit<}
+use Rattle.hy_store.specs.Writes.{stored_in}
+use Rattle.hy_tpcc.proofs.SliceLaws.{CanPay, can-pay, paid-done, reply-paid}
+use Rattle.hy_tpcc.proofs.payment.pay.Goals as goal
+
+pub pay_home-requires : goal.pay_home-requires
+pay_home-requires g c =
+    let can : CanPay c.args.layout.now c.args.payment.now c.args.place (stored_in g.row.N c.args.space.now) =
+    can-pay c.args.layout.now c.args.payment.now c.args.place c.args.done c.requires.done.0
+    (stored_in g.row.N c.args.space.now) c.requires.next c.requires.done.1 in
+    (lit< tt, (lit< tt, (c.requires.store, (can.rows, (can.bounds, (c.requires.undo_log, (can.begun, can.payer)))))))
+
+pub pay_customer-requires : goal.pay_customer-requires
+pay_customer-requires g c =
+    let can : CanPay c.args.layout.now c.args.payment.now c.args.place (stored_in g.row.N c.args.space.now) =
+    can-pay c.args.layout.now c.args.payment.now c.args.place c.args.done c.requires.done.0
+    (stored_in g.row.N c.args.space.now) c.requires.next c.requires.done.1 in
+    (lit< tt, (lit< tt, (c.requires.store, (can.rows, (can.bounds, (c.requires.undo_log, (can.begun, can.payer)))))))
+
+pub returns-clause-done : goal.returns-clause-done
+returns-clause-done g c = λ before now.
+    paid-done c.args.layout.now c.args.payment.now c.args.place c.args.done before (stored_in g.row.N c.args.space.now)
+    (stored_in g.row.N c.pay_customer.new.space) c.requires.next c.if-done-eq0.false c.in_ok-reply.ensures.paid now
+
+pub returns-clause-reply : goal.returns-clause-reply
+returns-clause-reply g c = λ before now.
+    reply-paid c.args.layout.now c.args.payment.now c.args.place c.args.done before
+    (stored_in g.row.N c.args.space.now) c.in_ok-reply.reply c.requires.next c.if-done-eq0.false
+    c.in_ok-reply.ensures.reply now

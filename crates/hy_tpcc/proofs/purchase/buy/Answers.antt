@@ -1,0 +1,19 @@
+use Rattle.std.proofs.Common.{◌≡◌, ◌∙◌, ◌≤◌, ◌+◌, ap, arith, length, subst, sym}
+use Rattle.std.specs.Prelude.{Some}
+use Rattle.hy_commands.specs.declared.command.Command.TheVariants as commands
+use Rattle.hy_store.specs.Writes.{stored_in}
+use Rattle.hy_tpcc.specs.Executor.{HasDone}
+use Rattle.hy_tpcc.proofs.PurchaseLaws.{answer-last}
+use Rattle.hy_tpcc.proofs.purchase.buy.Goals as goal
+
+pub returns-clause-reply : goal.returns-clause-reply
+returns-clause-reply g c = λ before now.
+    let layout = c.args.layout.now in
+    let lines : c.as_slice.result.now ≡ c.args.order.now.lines = c.as_slice.ensures in
+    let at_end : length c.args.order.now.lines ≤ c.args.done = subst (λ rows. length rows ≤ c.args.done) lines c.if-done-as_slice.false in
+    let last : c.args.done ≡ length c.args.order.now.lines = omega (arith, at_end, c.requires.next) in
+    let after = c.in_ok-place_line.ensures.done before now in
+    ap Some (c.reply_to_order.ensures before
+    (subst (λ n. HasDone layout (commands.NewOrder c.args.order.now) c.args.place (n + 1) before
+    (stored_in g.row.N c.place_line.new.space)) last after))
+    ∙ sym (answer-last layout c.args.order.now c.args.done before last)

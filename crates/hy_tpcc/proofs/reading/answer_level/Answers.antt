@@ -1,0 +1,24 @@
+use Rattle.std.proofs.Common.{lit<}
+use Rattle.hy_commands.specs.declared.command.Command.TheVariants as commands
+use Rattle.hy_store.specs.Writes.{stored_in}
+use Rattle.hy_tpcc.proofs.SliceLaws.{districts-begun, home-level, sound-begun}
+use Rattle.hy_tpcc.proofs.reading.answer_level.Goals as goal
+
+pub stock_level-requires : goal.stock_level-requires
+stock_level-requires g c =
+    let before = c.requires.done.0 in
+    let now = c.requires.done.1 in
+    let layout = c.args.layout.now in
+    let command = commands.StockLevel c.args.level.now in (
+      lit< tt,
+      (
+        c.requires.store,
+        (
+          sound-begun layout command c.args.place before (stored_in g.row.N c.args.space.now) now,
+          (
+            home-level layout.warehouse c.args.level.now before now.begun.begun,
+            districts-begun layout.warehouse command before now.begun.begun,
+          ),
+        ),
+      ),
+    )

@@ -1,0 +1,87 @@
+-- A command on its way through its slices.
+use Rattle.std.specs.Prelude.{◌≡◌, ℕ, ◌+◌, ◌==◌, ◌≤◌, ⊤, true, if◌then◌else◌, List, map, Option, None, Some}
+use Rattle.std.specs.List.{range_with_len}
+use Rattle.hy_rows.specs.Tables.{Tables}
+use Rattle.hy_commands.specs.declared.command.Command.{Command}
+use Rattle.hy_commands.specs.declared.command.Command.TheVariants as commands
+use Rattle.hy_commands.specs.declared.command.Who.TheVariants as who
+use Rattle.hy_commands.specs.Deliveries.{oldest}
+use Rattle.hy_commands.specs.Invariant.{IsSoundWarehouse}
+use Rattle.hy_commands.specs.declared.reply.Reply.{Reply}
+use Rattle.hy_commands.specs.Transactions.{accepted, begin_refusal_of}
+use Rattle.hy_layout.specs.Layout.{IsMeantAt, KeepsPlaces, LayoutState, own_rows}
+use Rattle.hy_slices.specs.Slices.{after_slices, has_items_before, slice_count}
+use Rattle.hy_store.specs.Stored.{Stored}
+use Rattle.hy_fill.specs.Indexes.{HasIndexes}
+use Rattle.hy_writers.specs.Limits.{AreInBounds}
+
+-- what an executor has noted of the command that runs: the place of the customer whom it names, and the orders that it has
+-- delivered so far
+pub record ExecutorState : Type 0 where
+  pub layout : LayoutState
+  pub place : ℕ
+  pub delivered : List ℕ
+
+-- the customer whom a command names stands at a place
+abbrev pub HasCustomerAt : ℕ → Command → Tables → ℕ → Type 0
+HasCustomerAt warehouse (commands.NewOrder order) tables place =
+    IsMeantAt warehouse order.district (who.Number order.customer) tables.customers place
+HasCustomerAt warehouse (commands.Payment payment) tables place =
+    IsMeantAt warehouse payment.customer_district payment.who tables.customers place
+HasCustomerAt warehouse (commands.OrderStatus status) tables place =
+    IsMeantAt warehouse status.district status.who tables.customers place
+HasCustomerAt warehouse command tables place = ⊤
+
+-- the place is right in all rows that keep the places of the loaded ones
+abbrev pub KnowsCustomer : LayoutState → Command → ℕ → Type 0
+KnowsCustomer layout command place =
+    (tables : Tables) → KeepsPlaces (own_rows layout) tables → HasCustomerAt layout.warehouse command tables place
+
+-- the orders that the first slices of a delivery have delivered
+abbrev pub delivered_before : ℕ → Tables → ℕ → List ℕ
+delivered_before warehouse before done = map (λ district. oldest warehouse district before) (range_with_len 1 done)
+
+-- the rows after the first slices of a command
+abbrev pub rows_after : LayoutState → Command → ℕ → Tables → Tables
+rows_after layout command done before = after_slices layout.load.items layout.warehouse command done before
+
+-- no number outgrows its type in the slices of a command
+abbrev pub StaysInBounds : LayoutState → Command → Tables → Type 0
+StaysInBounds layout command before =
+    (done : ℕ) → done ≤ slice_count command → has_items_before layout.load.items command done ≡ true
+    → AreInBounds (rows_after layout command done before)
+
+-- a command that the warehouse began with some rows
+pub record IsBegun (layout : LayoutState) (command : Command) (place : ℕ) (before : Tables) : Type 0 where
+  pub sound : IsSoundWarehouse layout.load.items layout.warehouse before
+  pub begun : begin_refusal_of layout.warehouse command before ≡ None
+  pub places : KeepsPlaces (own_rows layout) before
+  pub bounds : StaysInBounds layout command before
+  pub customer : KnowsCustomer layout command place
+
+-- so many of its slices are done
+pub record HasDone (layout : LayoutState) (command : Command) (place done : ℕ) (before : Tables) (s : Stored)
+    : Type 0 where
+  pub begun : IsBegun layout command place before
+  pub rows : s.tables ≡ rows_after layout command done before
+  pub known : has_items_before layout.load.items command done ≡ true
+  pub indexes : HasIndexes s
+
+-- a delivery that runs is noted with the orders that its slices have delivered
+abbrev pub NotesDelivered : ℕ → Command → ℕ → Tables → List ℕ → Type 0
+NotesDelivered warehouse (commands.Delivery delivery) done before delivered =
+    delivered ≡ delivered_before warehouse before done
+NotesDelivered warehouse command done before delivered = ⊤
+
+-- an executor has done so many slices of a command that its warehouse began with some rows, and the store is what they
+-- leave
+pub record IsUnderWay (executor : ExecutorState) (command : Command) (done : ℕ) (before : Tables) (s : Stored)
+    : Type 0 where
+  pub slices : HasDone executor.layout command executor.place done before s
+  pub delivered : NotesDelivered executor.layout.warehouse command done before executor.delivered
+
+-- what the next slice answers behind so many: the reply to the command behind its last one
+abbrev pub answer_of : LayoutState → Command → ℕ → Tables → Option Reply
+answer_of layout command done before =
+    if done + 1 == slice_count command
+    then Some (accepted layout.load.items layout.warehouse command before).reply else None

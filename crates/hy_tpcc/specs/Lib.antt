@@ -1,0 +1,2 @@
+pub mod Executor
+pub mod inside

@@ -1,0 +1,98 @@
+//! Why a warehouse doesn't begin a command, and where its customer stands.
+
+ghost use Rattle.std.specs.Prelude.{◌≡◌, ◌==◌, None, Some, true, false, IfErr, IfOk, MatchOption, OnOk};
+ghost use Rattle.std.specs.List.{list_all};
+ghost use Rattle.hy_rows.specs.Tables.{Tables};
+ghost use Rattle.hy_commands.specs.Commands.{is_in_range, warehouses_of};
+ghost use Rattle.hy_commands.specs.Transactions.{begin_refusal_of, has_customer, has_districts, is_district_number};
+ghost use Rattle.hy_layout.specs.Layout.{KeepsPlaces, own_rows};
+ghost use Rattle.hy_space.specs.Space.{owner_bytes};
+ghost use Rattle.hy_store.specs.Stored.{HasStore};
+ghost use Rattle.hy_store.specs.Writes.{stored_in};
+ghost use Rattle.hy_writers.specs.Waiting.{IsSoundStore};
+ghost use Rattle.hy_tpcc.specs.Executor.{HasCustomerAt, KnowsCustomer};
+
+use hy_commands::Command;
+use hy_layout::Layout;
+use hy_rows::DISTRICTS_PER_WAREHOUSE;
+use hy_schema::Refusal;
+use hy_space::Space;
+use hy_store::know_store;
+
+/// Whether a district has this number.
+fn is_district_number(number: u64) -> bool
+    ensures { result ≡ is_district_number number }
+{
+    (1..=u64::from(DISTRICTS_PER_WAREHOUSE)).contains(&number)
+}
+
+/// Whether the districts that a command names are there.
+fn has_districts(command: &Command) -> bool
+    ensures { result ≡ has_districts command.now }
+{
+    match command {
+        Command::NewOrder(order) => is_district_number(order.district),
+        Command::Payment(payment) => {
+            is_district_number(payment.district) && is_district_number(payment.customer_district)
+        }
+        Command::OrderStatus(status) => is_district_number(status.district),
+        Command::Delivery(_) => true,
+        Command::StockLevel(level) => is_district_number(level.district),
+    }
+}
+
+/// Whether a command in range names one warehouse alone.
+fn names_only(command: &Command, warehouse: u8) -> bool
+    requires { is_in_range command.now ≡ true }
+    ensures { result ≡ list_all (λ named. named == warehouse) (warehouses_of command.now) }
+{
+    let home = u64::from(warehouse);
+    command.warehouses().iter().all(|named| *named == home)
+}
+
+/// The place of the customer whom a command names, and 0 where it names none; none where there is no such customer.
+fn customer_place(layout: &Layout, command: &Command) -> Option<u64>
+    requires { list_all (λ named. named == layout.now.warehouse) (warehouses_of command.now) ≡ true }
+    ensures { (tables : Tables) → KeepsPlaces (own_rows layout.now) tables → MatchOption result
+        (has_customer command.now tables ≡ false)
+        (λ place. (has_customer command.now tables ≡ true)
+        × HasCustomerAt layout.now.warehouse command.now tables place) }
+{
+    match command {
+        Command::NewOrder(order) => layout.place_of_number(order.district, order.customer),
+        Command::Payment(payment) => {
+            layout.place_of_customer(payment.customer_district, &payment.who)
+        }
+        Command::OrderStatus(status) => layout.place_of_customer(status.district, &status.who),
+        Command::Delivery(_) | Command::StockLevel(_) => Some(0),
+    }
+}
+
+/// The place of the customer whom a command names, where the warehouse begins the command, and 0 where it names none. Else
+/// the first of these that holds: E8, E4, E5, E6.
+pub(crate) fn begin_place<const N: usize>(
+    layout: &Layout,
+    space: &Space<N>,
+    command: &Command,
+) -> Result<u64, Refusal>
+    requires store { HasStore N (owner_bytes space.now) }
+    requires sound { IsSoundStore layout.now (stored_in N space.now) }
+    ensures begun { OnOk result
+        (begin_refusal_of layout.now.warehouse command.now (stored_in N space.now).tables ≡ None) }
+    ensures customer { IfOk result (KnowsCustomer layout.now command.now) }
+    ensures refused { IfErr result (λ refusal. begin_refusal_of layout.now.warehouse command.now
+        (stored_in N space.now).tables ≡ Some refusal) }
+{
+    know_store(space);
+    command.check()?;
+    if !names_only(command, layout.warehouse()) {
+        return Err(Refusal::NoSuchWarehouse);
+    }
+    if !has_districts(command) {
+        return Err(Refusal::NoSuchDistrict);
+    }
+    match customer_place(layout, command) {
+        Some(place) => Ok(place),
+        None => Err(Refusal::NoSuchCustomer),
+    }
+}

@@ -1,0 +1,297 @@
+//! The executor of a warehouse.
+
+use crate::begin::begin_place;
+use crate::delivery::deliver;
+use crate::payment::pay;
+use crate::purchase::buy;
+use crate::reading::{answer_level, answer_status};
+use crate::refused::with_refusal;
+use arrayvec::ArrayVec;
+use hy_commands::{Command, Delivery, OrderStatus, Payment, Purchase, Reply, StockLevel};
+use hy_index::Entry;
+use hy_layout::Layout;
+use hy_schema::Refusal;
+use hy_space::Space;
+use hy_store::LineKey;
+use hy_undo::Undo;
+use std::alloc::Global;
+use std::marker::Model;
+
+/// Does the slices of commands on the pages of a warehouse. It notes of the command that runs where its customer stands
+/// and which orders were delivered, and keeps two lists that are used again.
+#[derive(Drop)]
+pub struct Executor {
+    layout: Layout,
+    place: u64,
+    delivered: ArrayVec<u32, 10>,
+    entries: Vec<Entry<LineKey>>,
+    low: Vec<u32>,
+}
+
+impl Model for Executor {
+    ghost use Rattle.hy_tpcc.specs.Executor.{ExecutorState};
+
+    ghost Value = { ExecutorState };
+
+    ghost view = { λ executor. record {
+      layout = executor.layout;
+      place = executor.place;
+      delivered = executor.delivered.items;
+    } };
+}
+
+impl Executor {
+    ghost use Rattle.std.specs.Prelude.{◌≡◌, ◌+◌, ◌<◌, ◌↔◌, ◌⊎◌, Err, IfErr, IfOk, IsErrOf, None, OnOk, Some, false, length};
+    ghost use Rattle.hy_rows.specs.Tables.{Tables};
+    ghost use Rattle.hy_frames.specs.FrameTable.{free_of};
+    ghost use Rattle.hy_space.specs.Space.{owner_bytes};
+    ghost use Rattle.hy_undo.specs.PrivatePages.{IsUndoLog};
+    ghost use Rattle.hy_commands.specs.Transactions.{begin_refusal_of};
+    ghost use Rattle.hy_slices.specs.Slices.{has_item_at, slice_count};
+    ghost use Rattle.hy_store.specs.Stored.{HasStore};
+    ghost use Rattle.hy_store.specs.Writes.{WritesStore, stored_in};
+    ghost use Rattle.hy_writers.specs.Waiting.{IsSoundStore};
+    ghost use Rattle.hy_tpcc.specs.Executor.{HasDone, IsUnderWay, StaysInBounds, answer_of};
+
+    /// An executor for the warehouse of a layout. Takes no memory.
+    pub fn new(alloc: Global, layout: Layout) -> Executor
+        ensures { result.layout ≡ layout }
+    {
+        Executor {
+            layout,
+            place: 0,
+            delivered: ArrayVec::new(),
+            entries: Vec::new(alloc),
+            low: Vec::new(alloc),
+        }
+    }
+
+    /// The layout of the warehouse.
+    pub fn layout(&self) -> &Layout
+        ensures { result.now ≡ self.now.layout }
+    {
+        &self.layout
+    }
+
+    /// Begins a command, of which no slice is done: notes where its customer stands. Refused by the first of these that
+    /// holds: E8 where a value is out of range, E4 where it names another warehouse, E5 a district that isn't there, E6 a
+    /// customer who isn't there. Takes no memory.
+    pub fn begin<const N: usize>(
+        &mut self,
+        space: &Space<N>,
+        command: &Command,
+    ) -> Result<(), Refusal>
+        requires store { HasStore N (owner_bytes space.now) }
+        requires sound { IsSoundStore self.old.layout (stored_in N space.now) }
+        ensures begun { OnOk result (begin_refusal_of self.old.layout.warehouse command.now
+            (stored_in N space.now).tables ≡ None) }
+        ensures under_way { OnOk result
+            (StaysInBounds self.old.layout command.now (stored_in N space.now).tables
+            → IsUnderWay self.new command.now 0 (stored_in N space.now).tables (stored_in N space.now)) }
+        ensures refused { IfErr result (λ refusal. begin_refusal_of self.old.layout.warehouse command.now
+            (stored_in N space.now).tables ≡ Some refusal) }
+        ensures layout { self.new.layout ≡ self.old.layout }
+    {
+        let place = begin_place(&self.layout, space, command)?;
+        self.place = place;
+        self.delivered.clear();
+        Ok(())
+    }
+
+    /// Does the next slice of a command that this executor began, behind so many: the head of a purchase and then each
+    /// of its lines; the home and then the customer of a payment; the districts of a delivery, one after the other; a
+    /// command that only reads in one. The last one answers the reply. Refused E7 exactly where it is that of a line
+    /// whose item isn't there, before it writes anything; E2 where it lacks a frame, E1. Behind E2 and E1 only what the
+    /// undo log gives back is known.
+    pub fn slice<const N: usize>(
+        &mut self,
+        space: &mut Space<N>,
+        undo: &mut Undo<N>,
+        command: &Command,
+        done: u64,
+    ) -> Result<Option<Reply>, Refusal>
+        requires store { HasStore N (owner_bytes space.old) }
+        requires undo_log { IsUndoLog N space.old undo.old }
+        requires next { done < slice_count command.now }
+        requires under_way { (before : Tables)
+            × IsUnderWay self.old command.now done before (stored_in N space.old) }
+        ensures store { OnOk result (HasStore N (owner_bytes space.new)) }
+        ensures under_way { OnOk result ((before : Tables)
+            → IsUnderWay self.old command.now done before (stored_in N space.old)
+            → IsUnderWay self.new command.now (done + 1) before (stored_in N space.new)) }
+        ensures reply { IfOk result (λ reply. (before : Tables)
+            → IsUnderWay self.old command.now done before (stored_in N space.old)
+            → reply ≡ answer_of self.old.layout command.now done before) }
+        ensures no_item { IsErrOf result Refusal.NoSuchItem
+            ↔ (has_item_at self.old.layout.load.items command.now done ≡ false) }
+        ensures still { IsErrOf result Refusal.NoSuchItem → (space.new ≡ space.old) × (undo.new ≡ undo.old) }
+        ensures refused { IfErr result (λ refusal. (refusal ≡ Refusal.NoSuchItem)
+            ⊎ (refusal ≡ Refusal.NoFrame) ⊎ (refusal ≡ Refusal.NoMemory)) }
+        ensures writes { WritesStore N space.old space.new undo.old undo.new }
+        ensures no_frame { IsErrOf result Refusal.NoFrame → free_of space.new.frames ≡ 0 }
+        ensures layout { self.new.layout ≡ self.old.layout }
+    {
+        match command {
+            Command::NewOrder(order) => self.buy(space, undo, order, done),
+            Command::Payment(payment) => self.pay(space, undo, payment, done),
+            Command::OrderStatus(status) => self.read_status(space, status),
+            Command::Delivery(delivery) => self.deliver(space, undo, delivery, done),
+            Command::StockLevel(level) => self.read_level(space, level),
+        }
+    }
+
+    /// The next slice of a purchase.
+    fn buy<const N: usize>(
+        &self,
+        space: &mut Space<N>,
+        undo: &mut Undo<N>,
+        order: &Purchase,
+        done: u64,
+    ) -> Result<Option<Reply>, Refusal>
+        requires store { HasStore N (owner_bytes space.old) }
+        requires undo_log { IsUndoLog N space.old undo.old }
+        requires next { done < length order.now.lines + 1 }
+        requires done { (before : Tables) × HasDone self.now.layout (Command.NewOrder order.now) self.now.place done
+            before (stored_in N space.old) }
+        ensures store { OnOk result (HasStore N (owner_bytes space.new)) }
+        ensures done { OnOk result ((before : Tables)
+            → HasDone self.now.layout (Command.NewOrder order.now) self.now.place done before (stored_in N space.old)
+            → HasDone self.now.layout (Command.NewOrder order.now) self.now.place (done + 1) before (stored_in N space.new)) }
+        ensures reply { IfOk result (λ reply. (before : Tables)
+            → HasDone self.now.layout (Command.NewOrder order.now) self.now.place done before (stored_in N space.old)
+            → reply ≡ answer_of self.now.layout (Command.NewOrder order.now) done before) }
+        ensures no_item { IsErrOf result Refusal.NoSuchItem
+            ↔ (has_item_at self.now.layout.load.items (Command.NewOrder order.now) done ≡ false) }
+        ensures still { IsErrOf result Refusal.NoSuchItem → (space.new ≡ space.old) × (undo.new ≡ undo.old) }
+        ensures refused { IfErr result (λ refusal. (refusal ≡ Refusal.NoSuchItem)
+            ⊎ (refusal ≡ Refusal.NoFrame) ⊎ (refusal ≡ Refusal.NoMemory)) }
+        ensures writes { WritesStore N space.old space.new undo.old undo.new }
+        ensures no_frame { IsErrOf result Refusal.NoFrame → free_of space.new.frames ≡ 0 }
+    {
+        buy(&self.layout, space, undo, order, self.place, done)
+    }
+
+    /// The next slice of a payment.
+    fn pay<const N: usize>(
+        &self,
+        space: &mut Space<N>,
+        undo: &mut Undo<N>,
+        payment: &Payment,
+        done: u64,
+    ) -> Result<Option<Reply>, Refusal>
+        requires store { HasStore N (owner_bytes space.old) }
+        requires undo_log { IsUndoLog N space.old undo.old }
+        requires next { done < 2 }
+        requires done { (before : Tables) × HasDone self.now.layout (Command.Payment payment.now) self.now.place done
+            before (stored_in N space.old) }
+        ensures store { OnOk result (HasStore N (owner_bytes space.new)) }
+        ensures done { OnOk result ((before : Tables)
+            → HasDone self.now.layout (Command.Payment payment.now) self.now.place done before (stored_in N space.old)
+            → HasDone self.now.layout (Command.Payment payment.now) self.now.place (done + 1) before (stored_in N space.new)) }
+        ensures reply { IfOk result (λ reply. (before : Tables)
+            → HasDone self.now.layout (Command.Payment payment.now) self.now.place done before (stored_in N space.old)
+            → reply ≡ answer_of self.now.layout (Command.Payment payment.now) done before) }
+        ensures refused { IfErr result (λ refusal. (refusal ≡ Refusal.NoFrame) ⊎ (refusal ≡ Refusal.NoMemory)) }
+        ensures writes { WritesStore N space.old space.new undo.old undo.new }
+        ensures no_frame { IsErrOf result Refusal.NoFrame → free_of space.new.frames ≡ 0 }
+    {
+        with_refusal(pay(&self.layout, space, undo, payment, self.place, done))
+    }
+
+    /// The one slice of Order-Status.
+    fn read_status<const N: usize>(
+        &mut self,
+        space: &Space<N>,
+        status: &OrderStatus,
+    ) -> Result<Option<Reply>, Refusal>
+        requires store { HasStore N (owner_bytes space.now) }
+        requires done { (before : Tables) × HasDone self.old.layout (Command.OrderStatus status.now) self.old.place 0
+            before (stored_in N space.now) }
+        ensures same { self.new ≡ self.old }
+        ensures reply { IfOk result (λ reply. (before : Tables)
+            → HasDone self.old.layout (Command.OrderStatus status.now) self.old.place 0 before (stored_in N space.now)
+            → reply ≡ answer_of self.old.layout (Command.OrderStatus status.now) 0 before) }
+        ensures refused { IfErr result (λ refusal. refusal ≡ Refusal.NoMemory) }
+    {
+        let alloc = *self.entries.allocator();
+        match answer_status(
+            alloc,
+            &self.layout,
+            space,
+            status,
+            self.place,
+            &mut self.entries,
+        ) {
+            Ok(reply) => Ok(Some(reply)),
+            Err(_) => Err(Refusal::NoMemory),
+        }
+    }
+
+    /// The one slice of Stock-Level.
+    fn read_level<const N: usize>(
+        &mut self,
+        space: &Space<N>,
+        level: &StockLevel,
+    ) -> Result<Option<Reply>, Refusal>
+        requires store { HasStore N (owner_bytes space.now) }
+        requires done { (before : Tables) × HasDone self.old.layout (Command.StockLevel level.now) self.old.place 0
+            before (stored_in N space.now) }
+        ensures same { self.new ≡ self.old }
+        ensures reply { IfOk result (λ reply. (before : Tables)
+            → HasDone self.old.layout (Command.StockLevel level.now) self.old.place 0 before (stored_in N space.now)
+            → reply ≡ answer_of self.old.layout (Command.StockLevel level.now) 0 before) }
+        ensures refused { IfErr result (λ refusal. refusal ≡ Refusal.NoMemory) }
+    {
+        let entries = &mut self.entries;
+        match answer_level(
+            &self.layout,
+            space,
+            level,
+            self.place,
+            entries,
+            &mut self.low,
+        ) {
+            Ok(reply) => Ok(Some(reply)),
+            Err(_) => Err(Refusal::NoMemory),
+        }
+    }
+
+    /// The next slice of a delivery.
+    fn deliver<const N: usize>(
+        &mut self,
+        space: &mut Space<N>,
+        undo: &mut Undo<N>,
+        delivery: &Delivery,
+        done: u64,
+    ) -> Result<Option<Reply>, Refusal>
+        requires store { HasStore N (owner_bytes space.old) }
+        requires undo_log { IsUndoLog N space.old undo.old }
+        requires next { done < 10 }
+        requires under_way { (before : Tables)
+            × IsUnderWay self.old (Command.Delivery delivery.now) done before (stored_in N space.old) }
+        ensures store { OnOk result (HasStore N (owner_bytes space.new)) }
+        ensures under_way { OnOk result ((before : Tables)
+            → IsUnderWay self.old (Command.Delivery delivery.now) done before (stored_in N space.old)
+            → IsUnderWay self.new (Command.Delivery delivery.now) (done + 1) before (stored_in N space.new)) }
+        ensures reply { IfOk result (λ reply. (before : Tables)
+            → IsUnderWay self.old (Command.Delivery delivery.now) done before (stored_in N space.old)
+            → reply ≡ answer_of self.old.layout (Command.Delivery delivery.now) done before) }
+        ensures refused { IfErr result (λ refusal. (refusal ≡ Refusal.NoFrame) ⊎ (refusal ≡ Refusal.NoMemory)) }
+        ensures writes { WritesStore N space.old space.new undo.old undo.new }
+        ensures no_frame { IsErrOf result Refusal.NoFrame → free_of space.new.frames ≡ 0 }
+        ensures layout { self.new.layout ≡ self.old.layout }
+    {
+        let entries = &mut self.entries;
+        let delivered = &mut self.delivered;
+        with_refusal(deliver(
+            &self.layout,
+            space,
+            undo,
+            delivery,
+            self.place,
+            done,
+            entries,
+            delivered,
+        ))
+    }
+}

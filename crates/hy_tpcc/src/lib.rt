@@ -1,0 +1,12 @@
+//! The five transactions of TPC-C on the pages of a warehouse, in slices.
+#![tactic(auto)]
+
+mod begin;
+mod delivery;
+mod executor;
+mod payment;
+mod purchase;
+mod reading;
+mod refused;
+
+pub use executor::Executor;
