@@ -4,9 +4,9 @@ ghost use Rattle.hy_frames.specs.FrameTable.{IsPageSize};
 ghost use Rattle.hy_partition.specs.Steps.{Closes, Forks};
 ghost use Rattle.hy_hyper.specs.Open.{Holds, KeepsOpen};
 
-use hy_commands::{Command, Payment, Reply, Who};
+use hy_commands::{Command, Payment, Purchase, PurchaseLine, PurchaseLines, Reply, Who};
 use hy_partition::{Job, Partition, Progress, Snapshot};
-use hy_rows::Warehouse;
+use hy_rows::{District, NewOrder, Order, Stock, Warehouse};
 use hy_schema::Refusal;
 use hy_tables::generate;
 use std::process::Abort;
@@ -431,4 +431,117 @@ fn limits_of_a_partition(rt: HostRuntime) -> Result<(), Fail> {
     assert!(rt; pay(&mut partition, 100).is_ok());
     assert_eq!(rt; pay(&mut partition, 100), Err(Refusal::HistoryFull));
     Ok(())
+}
+
+/// What a snapshot has of the orders of district 1: how many orders, the next number, and the stock of item 1.
+fn orders_in<const N: usize>(
+    rt: &(impl Abort + AllocGlobal),
+    snapshot: &Snapshot<N>,
+) -> (usize, u32, u16) {
+    let orders = snapshot.list::<Order>().expect(rt, "the orders");
+    let undelivered = snapshot
+        .list::<NewOrder>()
+        .expect(rt, "the undelivered orders");
+    assert_eq!(rt; orders.len(), undelivered.len());
+    let districts = snapshot.list::<District>().expect(rt, "the districts");
+    let stock = snapshot.list::<Stock>().expect(rt, "the stock");
+    match (districts.as_slice(), stock.as_slice()) {
+        ([district, ..], [item, ..]) => (orders.len(), district.next_order, item.quantity),
+        _ => (0, 0, 0),
+    }
+}
+
+/// The same of a snapshot of all that is kept.
+fn orders_now<const N: usize>(
+    rt: &(impl Abort + AllocGlobal),
+    partition: &mut Partition<N>,
+) -> (usize, u32, u16) {
+    let snapshot = take(rt, partition);
+    let found = orders_in(rt, &snapshot);
+    close(partition, snapshot);
+    found
+}
+
+/// A partition of a generated warehouse of twenty items, with three slices done of an order of five lines in district 1,
+/// whose third line asks for an item.
+fn ordering<const N: usize>(rt: &(impl Abort + AllocGlobal), third: u64) -> Partition<N>
+    requires { IsPageSize N }
+{
+    let load = generate(rt.alloc(), 1, 3, 20).expect(rt, "a load");
+    let mut partition: Partition<N> = Partition::new(rt.alloc(), &load, 1, FRAMES, 1000).expect(
+        rt,
+        "a partition",
+    );
+    let mut lines = Vec::new(rt.alloc());
+    for item in [1, 2, third, 4, 5] {
+        let line = PurchaseLine {
+            item,
+            supply_warehouse: 1,
+            quantity: 5,
+        };
+        assert!(rt; lines.push(line).is_ok());
+    }
+    let order = Command::NewOrder(Purchase {
+        warehouse: 1,
+        district: 1,
+        customer: 1,
+        at: 1,
+        lines: PurchaseLines::new(lines),
+    });
+    assert!(rt; partition.begin(Job::new(order)).is_ok());
+    for _ in 0..3 {
+        assert_eq!(rt; partition.step(), Ok(Progress::More));
+    }
+    partition
+}
+
+/// Runs a job to its end, and takes its answer.
+fn end<const N: usize>(partition: &mut Partition<N>) -> Option<Reply>
+    ensures { KeepsOpen partition.old partition.new }
+{
+    partition.finish_running();
+    partition.take_done().map(|done| done.open())
+}
+
+/// A snapshot of a half-done order has nothing of it, also once the order is whole.
+fn half_done_order<const N: usize>(rt: &(impl Abort + AllocGlobal)) -> Result<(), Fail>
+    requires { IsPageSize N }
+{
+    let mut partition: Partition<N> = ordering(rt, 3);
+    let first = take(rt, &mut partition);
+    assert_eq!(rt; orders_in(rt, &first), (0, 1, 18));
+    let answer = end(&mut partition);
+    assert!(rt;
+        matches!(
+            answer,
+            Some(Reply::NewOrder {
+                order: 1,
+                total: 5536
+            })
+        )
+    );
+    assert_eq!(rt; orders_in(rt, &first), (0, 1, 18));
+    close(&mut partition, first);
+    assert_eq!(rt; orders_now(rt, &mut partition), (1, 2, 13));
+    Ok(())
+}
+
+/// An order whose third item isn't there leaves nothing.
+fn order_without_its_item<const N: usize>(rt: &(impl Abort + AllocGlobal)) -> Result<(), Fail>
+    requires { IsPageSize N }
+{
+    let mut partition: Partition<N> = ordering(rt, 21);
+    let answer = end(&mut partition);
+    assert!(rt; matches!(answer, Some(Reply::Refused(Refusal::NoSuchItem))));
+    assert!(rt; partition.kept().is_empty() && partition.touched() == 0);
+    assert_eq!(rt; orders_now(rt, &mut partition), (0, 1, 18));
+    Ok(())
+}
+
+#[test]
+fn snapshots_of_orders(rt: HostRuntime) -> Result<(), Fail> {
+    half_done_order::<256>(&rt)?;
+    half_done_order::<4096>(&rt)?;
+    order_without_its_item::<256>(&rt)?;
+    order_without_its_item::<4096>(&rt)
 }
