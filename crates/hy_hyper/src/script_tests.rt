@@ -392,13 +392,14 @@ fn refuses_what_it_cannot_begin(rt: HostRuntime) -> Result<(), Fail> {
     let words = ["script", "d", "t"];
     let ending = run_words(rt.alloc(), &words, &mut shelf, &mut out, &mut err);
     assert!(&rt; ending.status() == 1 && err.as_slice() == b"cannot read t\n".as_slice());
-    for options in [
-        ["--frames", "0"],
-        ["--frames", "10000001"],
-        ["--kept", "0"],
-        ["--kept", "100000001"],
+    for (option, number) in [
+        ("--frames", "0"),
+        ("--frames", "10000001"),
+        ("--kept", "0"),
+        ("--kept", "100000001"),
     ] {
-        let (ending, out, err) = run(&rt, &mut shelf, &options, b"done 1\n")?;
+        let options = [option, number];
+        let (ending, out, err) = run(&rt, &mut shelf, options.as_slice(), b"done 1\n")?;
         assert!(&rt; ending.status() == 2 && out.is_empty() && !err.is_empty());
     }
     Ok(())

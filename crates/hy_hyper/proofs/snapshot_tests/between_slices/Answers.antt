@@ -1,7 +1,41 @@
-use Rattle.std.proofs.Common.{rules, ℕ}
+use Rattle.std.proofs.Common.{rules, ◌≡◌, ◌≢◌, ℕ, sym}
 use Rattle.hy_hyper.specs.Open.{Holds}
 use Rattle.hy_hyper.proofs.OpenLaws.{holds-beside, holds-closed, holds-kept, holds-taken, taken-differs}
 use Rattle.hy_hyper.proofs.snapshot_tests.between_slices.Goals as goal
+
+-- the second snapshot is open still behind the third
+pub close-requires : goal.close-requires
+close-requires g c =
+    let n : ℕ = g.row.N in
+    let second : Holds c.pay_rest.new.partition c.take-second.result =
+    holds-kept c.take-second.new.partition c.pay_rest.new.partition c.take-second.result c.pay_rest.ensures
+    (holds-taken n c.pay_half.new.partition c.take-second.new.partition c.take-second.result c.take-second.ensures) in (
+      search rules,
+      (
+        search rules,
+        holds-beside n c.pay_rest.new.partition c.take-third.new.partition c.take-third.result c.take-second.result
+            c.take-third.ensures second,
+      ),
+    )
+
+-- and the third when the second is closed
+pub close-requires-2 : goal.close-requires-2
+close-requires-2 g c =
+    let n : ℕ = g.row.N in
+    let second : Holds c.pay_rest.new.partition c.take-second.result =
+    holds-kept c.take-second.new.partition c.pay_rest.new.partition c.take-second.result c.pay_rest.ensures
+    (holds-taken n c.pay_half.new.partition c.take-second.new.partition c.take-second.result c.take-second.ensures) in
+    let apart : c.take-third.result.child ≢ c.take-second.result.child =
+    λ same. taken-differs n c.pay_rest.new.partition c.take-third.new.partition c.take-third.result
+    c.take-second.result c.take-third.ensures second (sym same) in (
+      search rules,
+      (
+        search rules,
+        holds-closed c.take-third.new.partition c.close.new.partition c.take-second.result.child c.take-third.result
+            c.close.ensures apart
+            (holds-taken n c.pay_rest.new.partition c.take-third.new.partition c.take-third.result c.take-third.ensures),
+      ),
+    )
 
 -- the first snapshot is open still when both others are closed
 pub close-requires-3 : goal.close-requires-3

@@ -3,6 +3,21 @@ use Rattle.hy_hyper.specs.Open.{Holds}
 use Rattle.hy_hyper.proofs.OpenLaws.{holds-beside, holds-closed, holds-kept, holds-taken, taken-differs}
 use Rattle.hy_hyper.proofs.snapshot_tests.closed_in_another_order.Goals as goal
 
+-- the second snapshot is open still behind the third
+pub close-requires : goal.close-requires
+close-requires g c =
+    let n : ℕ = g.row.N in
+    let second : Holds c.pay-2.new.partition c.take-second.result =
+    holds-kept c.take-second.new.partition c.pay-2.new.partition c.take-second.result c.pay-2.ensures
+    (holds-taken n c.pay.new.partition c.take-second.new.partition c.take-second.result c.take-second.ensures) in (
+      search rules,
+      (
+        search rules,
+        holds-beside n c.pay-2.new.partition c.take-third.new.partition c.take-third.result c.take-second.result
+            c.take-third.ensures second,
+      ),
+    )
+
 -- the third snapshot is open still when the second is closed
 pub close-requires-2 : goal.close-requires-2
 close-requires-2 g c =
