@@ -7,6 +7,7 @@ ghost use Rattle.hy_hyper.specs.First.{HasTwoSlices, IsFirstFault, IsFirstPrinte
 ghost use Rattle.hy_partition.specs.Partition.{rows_now};
 ghost use Rattle.hy_undo.specs.UndoLog.{empty_log};
 
+use crate::PAGE_BYTES;
 use crate::fault::RunFault;
 use hy_commands::{Command, Payment, Reply, Who};
 use hy_partition::{Job, Partition, Progress, Snapshot};
@@ -15,9 +16,6 @@ use hy_schema::Refusal;
 use hy_tables::generate;
 use std::alloc::Global;
 use std::io;
-
-/// The size of a page in bytes.
-const PAGE_BYTES: usize = 4096;
 
 /// How many frames the partition may have.
 const MAX_FRAMES: u64 = 100_000;

@@ -27,6 +27,9 @@ mod store_tests;
 #[cfg(test)]
 mod tests;
 
+/// The size of a page in bytes.
+const PAGE_BYTES: usize = 4096;
+
 fn main(rt: HostRuntime) -> ExitCode {
     ExitCode::from(system::run_on_system(&rt).status())
 }

@@ -5,6 +5,7 @@ ghost use Rattle.hy_partition.specs.Limits.{most_kept};
 ghost use Rattle.hy_frames.specs.FrameTable.{max_frames as most_frames};
 ghost use Rattle.hy_hyper.specs.Script.{HasScript, IsReadAllFault, IsScriptDone, IsScriptFaultOf, IsWhyUnread};
 
+use crate::PAGE_BYTES;
 use crate::fault::RunFault;
 use hy_loads::Load;
 use hy_place::{FileFault, Place, read_load};
@@ -12,9 +13,6 @@ use hy_schema::Refusal;
 use hy_script::run_script;
 use std::alloc::Global;
 use std::io;
-
-/// The size of a page in bytes.
-const PAGE_BYTES: usize = 4096;
 
 /// Runs the events of a file on the database in the files of a folder, with at most so many frames and kept commits for
 /// each warehouse, and writes their answers.

@@ -251,6 +251,7 @@ fn run_up<const N: usize>(
 {
     space.sound();
     joined(
+        space.page(segment, 0),
         first_up(space, segment, place, start, bytes),
         run(space, segment, bytes.len(), start, end - 1),
     )
@@ -310,13 +311,14 @@ fn run_size<const N: usize>(width: usize, start: u64, end: u64) -> usize
     (end - start) as usize * width
 }
 
-/// A page that begins with some bytes, and others behind them.
-fn joined<const N: usize>(first: &[u8], behind: &[u8]) -> Page<N>
+/// A page that begins with some bytes, and others behind them. What stands behind both is of no account: it is that of a
+/// page that is there, since a page is copied faster than it is cleared.
+fn joined<const N: usize>(other: &Page<N>, first: &[u8], behind: &[u8]) -> Page<N>
     requires small { N ≤ 65536 }
     requires fits { length first.now + length behind.now ≤ N }
     ensures { take (length first.now + length behind.now) result ≡ first.now ++ behind.now }
 {
-    let mut page: Page<N> = Page::zero();
+    let mut page = other.copy();
     page.write(0, first);
     page.write(first.len(), behind);
     page
@@ -400,6 +402,7 @@ fn run_down<const N: usize>(
 {
     space.sound();
     joined(
+        space.page(segment, 0),
         run(space, segment, width, start + 1, end),
         entry(space, segment, width, end),
     )

@@ -1,4 +1,3 @@
 pub mod Room
-pub mod Shortages
 pub mod Soundness
 pub mod Views

@@ -3,7 +3,6 @@
 
 mod job;
 mod partition;
-mod refusals;
 mod schedules;
 mod snapshot;
 

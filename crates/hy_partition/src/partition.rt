@@ -16,7 +16,6 @@ ghost use Rattle.hy_rows.specs.Spelling.{Spells};
 ghost use Rattle.hy_partition.specs.Steps.{begin_refusal, Accepts, Begins, Closes, Forks, IsOpen, KeepsJob, Refuses, StaysUnforked, StepsTo};
 
 use crate::job::{Done, Job, Progress, Running};
-use crate::refusals::refusal_of_shortage;
 use crate::snapshot::Snapshot;
 use hy_commands::{Command, Commit};
 use hy_fill::filled_store;
@@ -24,7 +23,7 @@ use hy_layout::Layout;
 use hy_loads::Load;
 use hy_schema::Refusal;
 use hy_space::Space;
-use hy_tpcc::Executor;
+use hy_tpcc::{Executor, refusal_of_shortage};
 use hy_undo::Undo;
 use std::alloc::Global;
 use std::marker::Model;

@@ -57,7 +57,7 @@ use Rattle.hy_tpcc.proofs.SliceLaws.{bounds-done, places-done, whole-done}
 use Rattle.hy_frames.specs.declared.errors.Shortage.{Shortage}
 use Rattle.hy_frames.specs.declared.errors.Shortage.TheVariants as shortages
 use Rattle.hy_schema.specs.declared.refusal.Refusal.TheVariants as refusals
-use Rattle.hy_tpcc.specs.inside.Shortages.{refusal_of}
+use Rattle.hy_tpcc.specs.Shortages.{refusal_of_shortage}
 use Rattle.hy_tpcc.specs.Executor.{HasDone, IsBegun, answer_of, rows_after}
 
 -- ---- what a begun purchase has passed
@@ -249,7 +249,7 @@ item-there items order done line item head is_line found =
     ∙ ap is_some found
 
 -- memory or a frame that lacks is no item that isn't there
-pub not-no_item : (shortage : Shortage) → refusal_of shortage ≢ refusals.NoSuchItem
+pub not-no_item : (shortage : Shortage) → refusal_of_shortage shortage ≢ refusals.NoSuchItem
 not-no_item shortages.NoMemory same = absurd (cc)
 not-no_item shortages.NoFrame same = absurd (cc)
 

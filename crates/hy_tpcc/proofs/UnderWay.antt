@@ -14,7 +14,7 @@ use Rattle.hy_slices.specs.Slices.{slice_count}
 use Rattle.hy_store.specs.Stored.{Stored}
 use Rattle.hy_tpcc.proofs.SliceLaws.{delivery-begun}
 use Rattle.hy_tpcc.specs.Executor.{ExecutorState, HasDone, IsUnderWay, NotesDelivered, answer_of, delivered_before}
-use Rattle.hy_tpcc.specs.inside.Shortages.{with_refusal}
+use Rattle.hy_tpcc.specs.Shortages.{with_refusal}
 
 pub if_ok-then : {Value Refused : Type 0} (result : Result Value Refused) {P Q : Value → Type 0}
     → ((value : Value) → P value → Q value) → IfOk result P → IfOk result Q

@@ -1,2 +1,2 @@
 pub mod Executor
-pub mod inside
+pub mod Shortages

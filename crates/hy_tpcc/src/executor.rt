@@ -7,7 +7,7 @@ use crate::purchase::buy;
 use crate::reading::{answer_level, answer_status};
 use crate::refused::with_refusal;
 use arrayvec::ArrayVec;
-use hy_commands::{Command, Delivery, OrderStatus, Payment, Purchase, Reply, StockLevel};
+use hy_commands::{Command, Delivery, OrderStatus, Reply, StockLevel};
 use hy_index::Entry;
 use hy_layout::Layout;
 use hy_schema::Refusal;
@@ -41,7 +41,7 @@ impl Model for Executor {
 }
 
 impl Executor {
-    ghost use Rattle.std.specs.Prelude.{◌≡◌, ◌+◌, ◌<◌, ◌↔◌, ◌⊎◌, Err, IfErr, IfOk, IsErrOf, None, OnOk, Some, false, length};
+    ghost use Rattle.std.specs.Prelude.{◌≡◌, ◌+◌, ◌<◌, ◌↔◌, ◌⊎◌, Err, IfErr, IfOk, IsErrOf, None, OnOk, Some, false};
     ghost use Rattle.hy_rows.specs.Tables.{Tables};
     ghost use Rattle.hy_frames.specs.FrameTable.{free_of};
     ghost use Rattle.hy_space.specs.Space.{owner_bytes};
@@ -132,70 +132,14 @@ impl Executor {
         ensures layout { self.new.layout ≡ self.old.layout }
     {
         match command {
-            Command::NewOrder(order) => self.buy(space, undo, order, done),
-            Command::Payment(payment) => self.pay(space, undo, payment, done),
+            Command::NewOrder(order) => buy(&self.layout, space, undo, order, self.place, done),
+            Command::Payment(payment) => {
+                pay(&self.layout, space, undo, payment, self.place, done)
+            }
             Command::OrderStatus(status) => self.read_status(space, status),
             Command::Delivery(delivery) => self.deliver(space, undo, delivery, done),
             Command::StockLevel(level) => self.read_level(space, level),
         }
-    }
-
-    /// The next slice of a purchase.
-    fn buy<const N: usize>(
-        &self,
-        space: &mut Space<N>,
-        undo: &mut Undo<N>,
-        order: &Purchase,
-        done: u64,
-    ) -> Result<Option<Reply>, Refusal>
-        requires store { HasStore N (owner_bytes space.old) }
-        requires undo_log { IsUndoLog N space.old undo.old }
-        requires next { done < length order.now.lines + 1 }
-        requires done { (before : Tables) × HasDone self.now.layout (Command.NewOrder order.now) self.now.place done
-            before (stored_in N space.old) }
-        ensures store { OnOk result (HasStore N (owner_bytes space.new)) }
-        ensures done { OnOk result ((before : Tables)
-            → HasDone self.now.layout (Command.NewOrder order.now) self.now.place done before (stored_in N space.old)
-            → HasDone self.now.layout (Command.NewOrder order.now) self.now.place (done + 1) before (stored_in N space.new)) }
-        ensures reply { IfOk result (λ reply. (before : Tables)
-            → HasDone self.now.layout (Command.NewOrder order.now) self.now.place done before (stored_in N space.old)
-            → reply ≡ answer_of self.now.layout (Command.NewOrder order.now) done before) }
-        ensures no_item { IsErrOf result Refusal.NoSuchItem
-            ↔ (has_item_at self.now.layout.load.items (Command.NewOrder order.now) done ≡ false) }
-        ensures still { IsErrOf result Refusal.NoSuchItem → (space.new ≡ space.old) × (undo.new ≡ undo.old) }
-        ensures refused { IfErr result (λ refusal. (refusal ≡ Refusal.NoSuchItem)
-            ⊎ (refusal ≡ Refusal.NoFrame) ⊎ (refusal ≡ Refusal.NoMemory)) }
-        ensures writes { WritesStore N space.old space.new undo.old undo.new }
-        ensures no_frame { IsErrOf result Refusal.NoFrame → free_of space.new.frames ≡ 0 }
-    {
-        buy(&self.layout, space, undo, order, self.place, done)
-    }
-
-    /// The next slice of a payment.
-    fn pay<const N: usize>(
-        &self,
-        space: &mut Space<N>,
-        undo: &mut Undo<N>,
-        payment: &Payment,
-        done: u64,
-    ) -> Result<Option<Reply>, Refusal>
-        requires store { HasStore N (owner_bytes space.old) }
-        requires undo_log { IsUndoLog N space.old undo.old }
-        requires next { done < 2 }
-        requires done { (before : Tables) × HasDone self.now.layout (Command.Payment payment.now) self.now.place done
-            before (stored_in N space.old) }
-        ensures store { OnOk result (HasStore N (owner_bytes space.new)) }
-        ensures done { OnOk result ((before : Tables)
-            → HasDone self.now.layout (Command.Payment payment.now) self.now.place done before (stored_in N space.old)
-            → HasDone self.now.layout (Command.Payment payment.now) self.now.place (done + 1) before (stored_in N space.new)) }
-        ensures reply { IfOk result (λ reply. (before : Tables)
-            → HasDone self.now.layout (Command.Payment payment.now) self.now.place done before (stored_in N space.old)
-            → reply ≡ answer_of self.now.layout (Command.Payment payment.now) done before) }
-        ensures refused { IfErr result (λ refusal. (refusal ≡ Refusal.NoFrame) ⊎ (refusal ≡ Refusal.NoMemory)) }
-        ensures writes { WritesStore N space.old space.new undo.old undo.new }
-        ensures no_frame { IsErrOf result Refusal.NoFrame → free_of space.new.frames ≡ 0 }
-    {
-        with_refusal(pay(&self.layout, space, undo, payment, self.place, done))
     }
 
     /// The one slice of Order-Status.

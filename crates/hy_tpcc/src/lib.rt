@@ -10,3 +10,4 @@ mod reading;
 mod refused;
 
 pub use executor::Executor;
+pub use refused::refusal_of_shortage;

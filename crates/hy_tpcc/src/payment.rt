@@ -1,6 +1,6 @@
 //! The slices of a payment.
 
-ghost use Rattle.std.specs.Prelude.{◌≡◌, ◌+◌, ◌<◌, IfOk, IsErrOf, OnOk};
+ghost use Rattle.std.specs.Prelude.{◌≡◌, ◌+◌, ◌<◌, ◌⊎◌, IfErr, IfOk, IsErrOf, OnOk};
 ghost use Rattle.hy_rows.specs.Tables.{Tables};
 ghost use Rattle.hy_frames.specs.FrameTable.{free_of};
 ghost use Rattle.hy_space.specs.Space.{owner_bytes};
@@ -9,9 +9,10 @@ ghost use Rattle.hy_store.specs.Stored.{HasStore};
 ghost use Rattle.hy_store.specs.Writes.{WritesStore, stored_in};
 ghost use Rattle.hy_tpcc.specs.Executor.{HasDone, answer_of};
 
+use crate::refused::refusal_of_shortage;
 use hy_commands::{Command, Payment, Reply};
-use hy_frames::Shortage;
 use hy_layout::Layout;
+use hy_schema::Refusal;
 use hy_space::Space;
 use hy_undo::Undo;
 use hy_writers::{pay_customer, pay_home};
@@ -24,7 +25,7 @@ pub(crate) fn pay<const N: usize>(
     payment: &Payment,
     place: u64,
     done: u64,
-) -> Result<Option<Reply>, Shortage>
+) -> Result<Option<Reply>, Refusal>
     requires store { HasStore N (owner_bytes space.old) }
     requires undo_log { IsUndoLog N space.old undo.old }
     requires next { done < 2 }
@@ -37,13 +38,18 @@ pub(crate) fn pay<const N: usize>(
     ensures reply { IfOk result (λ reply. (before : Tables)
         → HasDone layout.now (Command.Payment payment.now) place done before (stored_in N space.old)
         → reply ≡ answer_of layout.now (Command.Payment payment.now) done before) }
+    ensures refused { IfErr result (λ refusal. (refusal ≡ Refusal.NoFrame) ⊎ (refusal ≡ Refusal.NoMemory)) }
     ensures writes { WritesStore N space.old space.new undo.old undo.new }
-    ensures no_frame { IsErrOf result Shortage.NoFrame → free_of space.new.frames ≡ 0 }
+    ensures no_frame { IsErrOf result Refusal.NoFrame → free_of space.new.frames ≡ 0 }
 {
     if done == 0 {
-        pay_home(layout, space, undo, payment, place)?;
-        return Ok(None);
+        return match pay_home(layout, space, undo, payment, place) {
+            Ok(()) => Ok(None),
+            Err(shortage) => Err(refusal_of_shortage(shortage)),
+        };
     }
-    let reply = pay_customer(layout, space, undo, payment, place)?;
-    Ok(Some(reply))
+    match pay_customer(layout, space, undo, payment, place) {
+        Ok(reply) => Ok(Some(reply)),
+        Err(shortage) => Err(refusal_of_shortage(shortage)),
+    }
 }

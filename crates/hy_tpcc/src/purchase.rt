@@ -11,7 +11,7 @@ ghost use Rattle.hy_store.specs.Stored.{HasStore};
 ghost use Rattle.hy_store.specs.Writes.{WritesStore, stored_in};
 ghost use Rattle.hy_tpcc.specs.Executor.{HasDone, answer_of};
 
-use crate::refused::refusal_of;
+use crate::refused::refusal_of_shortage;
 use hy_commands::{Command, Purchase, PurchaseLine, Reply};
 use hy_frames::Shortage;
 use hy_layout::Layout;
@@ -88,7 +88,7 @@ fn place_line<const N: usize>(
     };
     match add_line(layout, space, undo, order, lines as u8, &line, item) {
         Ok(()) => Ok(()),
-        Err(shortage) => Err(refusal_of(shortage)),
+        Err(shortage) => Err(refusal_of_shortage(shortage)),
     }
 }
 
@@ -146,7 +146,7 @@ pub(crate) fn buy<const N: usize>(
     if done == 0 {
         return match place_order(layout, space, undo, order, place) {
             Ok(()) => Ok(None),
-            Err(shortage) => Err(refusal_of(shortage)),
+            Err(shortage) => Err(refusal_of_shortage(shortage)),
         };
     }
     place_line(layout, space, undo, order, place, done)?;

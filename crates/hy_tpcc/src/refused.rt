@@ -1,15 +1,15 @@
 //! What the layers below answer, as refusals.
 
 ghost use Rattle.std.specs.Prelude.{◌≡◌};
-ghost use Rattle.hy_tpcc.specs.inside.Shortages.{refusal_of, with_refusal};
+ghost use Rattle.hy_tpcc.specs.Shortages.{refusal_of_shortage, with_refusal};
 
 use hy_commands::Reply;
 use hy_frames::Shortage;
 use hy_schema::Refusal;
 
-/// E1 or E2.
-pub(crate) fn refusal_of(shortage: Shortage) -> Refusal
-    ensures { result ≡ refusal_of shortage }
+/// What the pages lack, as a refusal: E1 for memory, E2 for a frame.
+pub fn refusal_of_shortage(shortage: Shortage) -> Refusal
+    ensures { result ≡ refusal_of_shortage shortage }
 {
     match shortage {
         Shortage::NoMemory => Refusal::NoMemory,
@@ -25,6 +25,6 @@ pub(crate) fn with_refusal(
 {
     match answer {
         Ok(reply) => Ok(reply),
-        Err(shortage) => Err(refusal_of(shortage)),
+        Err(shortage) => Err(refusal_of_shortage(shortage)),
     }
 }

@@ -17,13 +17,13 @@ pay_customer-requires g c =
     (stored_in g.row.N c.args.space.now) c.requires.next c.requires.done.1 in
     (lit< tt, (lit< tt, (c.requires.store, (can.rows, (can.bounds, (c.requires.undo_log, (can.begun, can.payer)))))))
 
-pub returns-clause-done : goal.returns-clause-done
-returns-clause-done g c = λ before now.
+pub returns-in-Ok-pay_customer-clause-done : goal.returns-in-Ok-pay_customer-clause-done
+returns-in-Ok-pay_customer-clause-done g c = λ before now.
     paid-done c.args.layout.now c.args.payment.now c.args.place c.args.done before (stored_in g.row.N c.args.space.now)
-    (stored_in g.row.N c.pay_customer.new.space) c.requires.next c.if-done-eq0.false c.in_ok-reply.ensures.paid now
+    (stored_in g.row.N c.pay_customer.new.space) c.requires.next c.if-done-eq0.false c.in-Ok-pay_customer.ensures.paid now
 
-pub returns-clause-reply : goal.returns-clause-reply
-returns-clause-reply g c = λ before now.
+pub returns-in-Ok-pay_customer-clause-reply : goal.returns-in-Ok-pay_customer-clause-reply
+returns-in-Ok-pay_customer-clause-reply g c = λ before now.
     reply-paid c.args.layout.now c.args.payment.now c.args.place c.args.done before
-    (stored_in g.row.N c.args.space.now) c.in_ok-reply.reply c.requires.next c.if-done-eq0.false
-    c.in_ok-reply.ensures.reply now
+    (stored_in g.row.N c.args.space.now) c.in-Ok-pay_customer.reply c.requires.next c.if-done-eq0.false
+    c.in-Ok-pay_customer.ensures.reply now

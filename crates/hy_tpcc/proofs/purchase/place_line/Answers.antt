@@ -68,7 +68,7 @@ pub returns-in-Err-clause-no_item : goal.returns-in-Err-clause-no_item
 returns-in-Err-clause-no_item g c =
     let there = item-there c.args.layout.now.load.items c.args.order.now c.args.done c.line_behind-line.result
     c.in-Some.item.now c.requires.behind c.line_behind-line.ensures c.in-Some.ensures.item in (
-      λ same. absurd (not-no_item c.in-Err.shortage (sym c.refusal_of.ensures
-          ∙ (let refused : Err c.refusal_of.result ≡ Err refusals.NoSuchItem = same in cc))),
+      λ same. absurd (not-no_item c.in-Err.shortage (sym c.refusal_of_shortage.ensures
+          ∙ (let refused : Err c.refusal_of_shortage.result ≡ Err refusals.NoSuchItem = same in cc))),
       λ none. absurd (false≢true (sym none ∙ there)),
     )

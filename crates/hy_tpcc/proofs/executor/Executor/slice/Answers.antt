@@ -1,11 +1,11 @@
-use Rattle.std.proofs.Common.{◌≡◌, ◌+◌, lit<, refl, subst, sym}
+use Rattle.std.proofs.Common.{◌≡◌, ◌+◌, ap, lit<, refl, subst, sym}
 use Rattle.std.specs.Prelude.{IfOk, OnOk}
 use Rattle.hy_rows.specs.Tables.{Tables}
 use Rattle.hy_commands.specs.declared.command.Command.{Command}
 use Rattle.hy_commands.specs.declared.command.Command.TheVariants as commands
 use Rattle.hy_store.specs.Writes.{stored_in}
 use Rattle.hy_writers.proofs.WritesLaws.{on_ok-then}
-use Rattle.hy_tpcc.specs.Executor.{IsUnderWay, answer_of}
+use Rattle.hy_tpcc.specs.Executor.{ExecutorState, IsUnderWay, answer_of}
 use Rattle.hy_tpcc.proofs.UnderWay.{if_ok-then, only-answers, only-slice, slice-answers, slice-done}
 use Rattle.hy_tpcc.proofs.executor.Executor.slice.Goals as goal
 
@@ -42,26 +42,28 @@ returns-in-NewOrder-clause-under_way g c =
     on_ok-then c.buy.result
     (slice-done c.args.self.now c.args.command.now (commands.NewOrder c.in-NewOrder.order) c.args.done
     (stored_in g.row.N c.args.space.now) (stored_in g.row.N c.buy.new.space) c.in-NewOrder.is (λ w d b l. tt))
-    c.buy.ensures.done
+    (rw (ap (λ (e : ExecutorState). e.layout) c.self.view_is, ap (λ (e : ExecutorState). e.place) c.self.view_is) at c.buy.ensures.done)
 
 pub returns-in-NewOrder-clause-reply : goal.returns-in-NewOrder-clause-reply
 returns-in-NewOrder-clause-reply g c =
     if_ok-then c.buy.result
     (λ reply. slice-answers c.args.self.now c.args.command.now (commands.NewOrder c.in-NewOrder.order) c.args.done
-    (stored_in g.row.N c.args.space.now) reply c.in-NewOrder.is) c.buy.ensures.reply
+    (stored_in g.row.N c.args.space.now) reply c.in-NewOrder.is) 
+    (rw (ap (λ (e : ExecutorState). e.layout) c.self.view_is, ap (λ (e : ExecutorState). e.place) c.self.view_is) at c.buy.ensures.reply)
 
 pub returns-in-Payment-clause-under_way : goal.returns-in-Payment-clause-under_way
 returns-in-Payment-clause-under_way g c =
     on_ok-then c.pay.result
     (slice-done c.args.self.now c.args.command.now (commands.Payment c.in-Payment.payment) c.args.done
     (stored_in g.row.N c.args.space.now) (stored_in g.row.N c.pay.new.space) c.in-Payment.is (λ w d b l. tt))
-    c.pay.ensures.done
+    (rw (ap (λ (e : ExecutorState). e.layout) c.self-in-Payment.view_is, ap (λ (e : ExecutorState). e.place) c.self-in-Payment.view_is) at c.pay.ensures.done)
 
 pub returns-in-Payment-clause-reply : goal.returns-in-Payment-clause-reply
 returns-in-Payment-clause-reply g c =
     if_ok-then c.pay.result
     (λ reply. slice-answers c.args.self.now c.args.command.now (commands.Payment c.in-Payment.payment) c.args.done
-    (stored_in g.row.N c.args.space.now) reply c.in-Payment.is) c.pay.ensures.reply
+    (stored_in g.row.N c.args.space.now) reply c.in-Payment.is) 
+    (rw (ap (λ (e : ExecutorState). e.layout) c.self-in-Payment.view_is, ap (λ (e : ExecutorState). e.place) c.self-in-Payment.view_is) at c.pay.ensures.reply)
 
 pub returns-in-OrderStatus-clause-reply : goal.returns-in-OrderStatus-clause-reply
 returns-in-OrderStatus-clause-reply g c =
