@@ -48,7 +48,7 @@ pub returns-in-NewOrder-clause-reply : goal.returns-in-NewOrder-clause-reply
 returns-in-NewOrder-clause-reply g c =
     if_ok-then c.buy.result
     (λ reply. slice-answers c.args.self.now c.args.command.now (commands.NewOrder c.in-NewOrder.order) c.args.done
-    (stored_in g.row.N c.args.space.now) reply c.in-NewOrder.is) 
+    (stored_in g.row.N c.args.space.now) reply c.in-NewOrder.is)
     (rw (ap (λ (e : ExecutorState). e.layout) c.self.view_is, ap (λ (e : ExecutorState). e.place) c.self.view_is) at c.buy.ensures.reply)
 
 pub returns-in-Payment-clause-under_way : goal.returns-in-Payment-clause-under_way
@@ -62,7 +62,7 @@ pub returns-in-Payment-clause-reply : goal.returns-in-Payment-clause-reply
 returns-in-Payment-clause-reply g c =
     if_ok-then c.pay.result
     (λ reply. slice-answers c.args.self.now c.args.command.now (commands.Payment c.in-Payment.payment) c.args.done
-    (stored_in g.row.N c.args.space.now) reply c.in-Payment.is) 
+    (stored_in g.row.N c.args.space.now) reply c.in-Payment.is)
     (rw (ap (λ (e : ExecutorState). e.layout) c.self-in-Payment.view_is, ap (λ (e : ExecutorState). e.place) c.self-in-Payment.view_is) at c.pay.ensures.reply)
 
 pub returns-in-OrderStatus-clause-reply : goal.returns-in-OrderStatus-clause-reply
