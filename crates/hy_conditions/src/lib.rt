@@ -13,6 +13,3 @@ mod warehouses;
 
 pub use conditions::first_broken;
 pub use keys::{CustomerKey, DistrictKey, OrderKey};
-
-#[cfg(test)]
-mod tests;

@@ -207,6 +207,16 @@ impl<const N: usize> Store<N> {
             .expect(rt, "an entry");
     }
 
+    /// Puts a row in the place of the one that a slot has.
+    fn put(&mut self, rt: &impl Abort, slot: u64, row: &NewOrder) {
+        let Some(_row) = relation().get(&self.space, slot) else {
+            panic!(rt; "no row in slot {slot}");
+        };
+        relation()
+            .put(&mut self.space, &mut self.undo, slot, row)
+            .expect(rt, "a write");
+    }
+
     /// Erases the row of a slot that has one.
     fn erase(&mut self, rt: &impl Abort, slot: u64) {
         let Some(_row) = relation().get(&self.space, slot) else {
@@ -271,6 +281,19 @@ impl<const N: usize> Store<N> {
         index()
             .range(rt.alloc(), &self.space, low, high)
             .expect(rt, "the entries")
+    }
+
+    /// The same, in a list that had others.
+    fn range_into(
+        &self,
+        rt: &impl Abort,
+        low: &OrderKey,
+        high: &OrderKey,
+        entries: &mut Vec<Entry<OrderKey>>,
+    ) {
+        index()
+            .range_into(&self.space, low, high, entries)
+            .expect(rt, "the entries");
     }
 }
 
@@ -390,8 +413,11 @@ fn ranges_agree<const N: usize>(rt: &(impl Abort + AllocGlobal), store: &Store<N
     let found = store.range(rt, &first_key_of(1), &first_key_of(DISTRICTS + 1));
     entries_agree(rt, found.as_slice(), all.as_slice());
     let mut joined = Vec::new(rt.alloc());
+    let mut entries = Vec::new(rt.alloc());
     for district in 1..=DISTRICTS {
-        for entry in &store.range(rt, &first_key_of(district), &first_key_of(district + 1)) {
+        let (low, high) = (first_key_of(district), first_key_of(district + 1));
+        store.range_into(rt, &low, &high, &mut entries);
+        for entry in &entries {
             joined.push(*entry).expect(rt, "an entry");
         }
     }
@@ -423,10 +449,11 @@ enum Change {
     Remove,
 }
 
-/// Adds the row of a number, and its key.
+/// Adds the row of a number, and its key. The row is put in the place of another one.
 fn add<const N: usize>(rt: &impl Abort, store: &mut Store<N>, lists: &mut Lists, number: u64) {
     let row = row_of(number);
-    let slot = store.push(rt, &row);
+    let slot = store.push(rt, &row_of(0));
+    store.put(rt, slot, &row);
     store.insert(rt, &key_of(&row), slot);
     lists.add(rt, number, slot);
 }

@@ -258,6 +258,3 @@ fn bytes_of<K: Key>(key: &K) -> KeyBytes
     key.encode(&mut bytes);
     bytes
 }
-
-#[cfg(test)]
-mod tests;

@@ -11,4 +11,6 @@ mod orders;
 pub use load::Load;
 
 #[cfg(test)]
+mod condition_tests;
+#[cfg(test)]
 mod tests;

@@ -7,6 +7,3 @@ mod relation;
 mod slots;
 
 pub use relation::Relation;
-
-#[cfg(test)]
-mod tests;

@@ -14,6 +14,3 @@ pub use keys::{CustomerKey, LineKey, OrderKey, WaitingKey};
 pub use rows::{
     Lasting, count_rows, erase_new_order, know_store, push_new_order, push_row, put_row, row_at,
 };
-
-#[cfg(test)]
-mod tests;

@@ -1,6 +1,6 @@
 //! A small warehouse that meets all conditions, and for each condition one that breaks just that one.
 
-use super::*;
+use hy_conditions::first_broken;
 use hy_schema::{Customer, District, History, NewOrder, Order, OrderLine, Tables, Text, Warehouse};
 use std::alloc::{AllocError, Global};
 use std::process::Abort;
