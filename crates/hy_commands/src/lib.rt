@@ -12,6 +12,3 @@ pub use command::{
 };
 pub use reply::{PlacedOrder, Reply, StatusLines};
 pub use theorem::{conditions_are_kept, numbers_stay_small};
-
-#[cfg(test)]
-mod tests;

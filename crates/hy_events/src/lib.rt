@@ -9,7 +9,5 @@ mod reply;
 
 pub use event::{Event, EventFault, SnapshotName, read_event};
 pub use lines::{Line, Lines};
+pub use parts::Parts;
 pub use reply::write_reply;
-
-#[cfg(test)]
-mod tests;

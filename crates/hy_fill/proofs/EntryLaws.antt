@@ -11,9 +11,9 @@ use Rattle.hy_relation.specs.Relation.{row_in}
 use Rattle.hy_index.specs.declared.key.Entry.{Entry}
 use Rattle.hy_index.specs.Index.{with_entry}
 use Rattle.hy_layout.specs.Finds.{IsIn, IsOrder}
-use Rattle.hy_fill.specs.Finds.{IsIndexOf}
+use Rattle.hy_indexes.specs.Finds.{IsIndexOf}
 use Rattle.hy_fill.specs.inside.Filling.{HasOneSlotEach, HasSameEntries, TellsApart, with_row}
-use Rattle.hy_fill.proofs.IndexLaws.{in-with_entry, irreflexive, new-in, with_entry-in}
+use Rattle.hy_indexes.proofs.IndexLaws.{in-with_entry, irreflexive, new-in, with_entry-in}
 use Rattle.hy_layout.proofs.MemberLaws.{in-append, in-left, in-place, in-right, place-in}
 use Rattle.hy_layout.proofs.PlaceLaws.{get-past, get-push_last, get-push_other, unique-places}
 

@@ -8,8 +8,8 @@ use Rattle.hy_index.specs.declared.key.Entry.{Entry}
 use Rattle.hy_store.specs.declared.keys.OrderKey.{OrderKey}
 use Rattle.hy_store.specs.declared.keys.WaitingKey.{WaitingKey}
 use Rattle.hy_store.specs.Stored.{Stored}
-use Rattle.hy_fill.specs.Finds.{IsIndexOf}
-use Rattle.hy_fill.specs.Indexes.{AreLastOrders, HasIndexes, line_key_at, order_key_at, waiting_key_at}
+use Rattle.hy_indexes.specs.Finds.{IsIndexOf}
+use Rattle.hy_indexes.specs.Indexes.{AreLastOrders, HasIndexes, line_key_at, order_key_at, waiting_key_at}
 use Rattle.hy_fill.specs.inside.Filling.{without_indexes}
 use Rattle.hy_fill.proofs.EntryLaws.{index-at, slots-rows}
 

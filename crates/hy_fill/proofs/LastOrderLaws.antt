@@ -9,12 +9,12 @@ use Rattle.hy_index.specs.Index.{found, with_entry}
 use Rattle.hy_store.specs.declared.keys.CustomerKey.{CustomerKey}
 use Rattle.hy_store.specs.Keys.{is_lesser_customer}
 use Rattle.hy_layout.specs.Finds.{IsIn}
-use Rattle.hy_fill.specs.Finds.{IsIndexOf}
-use Rattle.hy_fill.specs.Indexes.{AreLastOrders, buyer_key_at}
+use Rattle.hy_indexes.specs.Finds.{IsIndexOf}
+use Rattle.hy_indexes.specs.Indexes.{AreLastOrders, buyer_key_at}
 use Rattle.hy_fill.specs.inside.LastOrders.{AreLastOf, is_later, number_at, number_of, with_order}
 use Rattle.hy_fill.proofs.EntryLaws.{same-or-not}
-use Rattle.hy_fill.proofs.IndexLaws.{found-in, found-none, in-with_entry, new-in, with_entry-in}
-use Rattle.hy_fill.proofs.KeyOrders.{order-of_customers}
+use Rattle.hy_indexes.proofs.IndexLaws.{found-in, found-none, in-with_entry, new-in, with_entry-in}
+use Rattle.hy_indexes.proofs.KeyOrders.{order-of_customers}
 use Rattle.hy_layout.proofs.MemberLaws.{in-append, in-left, in-right}
 
 module _ (orders : List Order) where

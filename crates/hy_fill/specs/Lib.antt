@@ -1,4 +1,2 @@
-pub mod Finds
-pub mod Indexes
 pub mod WorkedRows
 pub mod inside

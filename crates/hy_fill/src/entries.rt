@@ -4,7 +4,7 @@ ghost use Rattle.std.specs.Prelude.{◌≡◌, [], IfOk, OnOk, filter, slice_get
 ghost use Rattle.hy_index.specs.Index.{with_entry};
 ghost use Rattle.hy_store.specs.Writes.{stored_in};
 ghost use Rattle.hy_layout.specs.Finds.{IsOrder};
-ghost use Rattle.hy_fill.specs.Finds.{IsIndexOf};
+ghost use Rattle.hy_indexes.specs.Finds.{IsIndexOf};
 ghost use Rattle.hy_fill.specs.inside.Filling.{HasOneSlotEach, HasSameEntries, IsReady, StaysOpen, TellsApart, with_row};
 
 use crate::keys::{Filled, Keyed};

@@ -6,7 +6,7 @@ ghost use Rattle.hy_space.specs.Space.{owner_bytes};
 ghost use Rattle.hy_layout.specs.Layout.{own_rows};
 ghost use Rattle.hy_store.specs.Stored.{HasStore, nothing_stored};
 ghost use Rattle.hy_store.specs.Writes.{stored_in};
-ghost use Rattle.hy_fill.specs.Indexes.{HasIndexes, line_key_at, order_key_at, waiting_key_at};
+ghost use Rattle.hy_indexes.specs.Indexes.{HasIndexes, line_key_at, order_key_at, waiting_key_at};
 ghost use Rattle.hy_fill.specs.inside.Filling.{IsReady, StaysOpen, TellsApart, without_indexes};
 
 use crate::entries::fill_index;

@@ -104,7 +104,7 @@ pub(crate) trait Keyed<K: Filled>: Row {
 }
 
 impl Keyed<OrderKey> for Order {
-    ghost use Rattle.hy_fill.specs.Indexes.{order_key_at};
+    ghost use Rattle.hy_indexes.specs.Indexes.{order_key_at};
 
     ghost key_of = { order_key_at };
 
@@ -117,7 +117,7 @@ impl Keyed<OrderKey> for Order {
 }
 
 impl Keyed<CustomerKey> for Order {
-    ghost use Rattle.hy_fill.specs.Indexes.{buyer_key_at};
+    ghost use Rattle.hy_indexes.specs.Indexes.{buyer_key_at};
 
     ghost key_of = { buyer_key_at };
 
@@ -130,7 +130,7 @@ impl Keyed<CustomerKey> for Order {
 }
 
 impl Keyed<WaitingKey> for NewOrder {
-    ghost use Rattle.hy_fill.specs.Indexes.{waiting_key_at};
+    ghost use Rattle.hy_indexes.specs.Indexes.{waiting_key_at};
 
     ghost key_of = { waiting_key_at };
 
@@ -143,7 +143,7 @@ impl Keyed<WaitingKey> for NewOrder {
 }
 
 impl Keyed<LineKey> for OrderLine {
-    ghost use Rattle.hy_fill.specs.Indexes.{line_key_at};
+    ghost use Rattle.hy_indexes.specs.Indexes.{line_key_at};
 
     ghost key_of = { line_key_at };
 

@@ -6,8 +6,8 @@ ghost use Rattle.hy_space.specs.Space.{owner_bytes};
 ghost use Rattle.hy_store.specs.Keys.{is_lesser_customer};
 ghost use Rattle.hy_store.specs.Stored.{HasStore};
 ghost use Rattle.hy_store.specs.Writes.{stored_in};
-ghost use Rattle.hy_fill.specs.Finds.{IsIndexOf};
-ghost use Rattle.hy_fill.specs.Indexes.{AreLastOrders, buyer_key_at};
+ghost use Rattle.hy_indexes.specs.Finds.{IsIndexOf};
+ghost use Rattle.hy_indexes.specs.Indexes.{AreLastOrders, buyer_key_at};
 ghost use Rattle.hy_fill.specs.inside.Filling.{IsReady, StaysOpen};
 ghost use Rattle.hy_fill.specs.inside.LastOrders.{is_later, with_order};
 

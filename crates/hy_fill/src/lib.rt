@@ -8,6 +8,3 @@ mod last_orders;
 mod rows;
 
 pub use fill::filled_store;
-
-#[cfg(test)]
-mod tests;

@@ -1,7 +1,2 @@
-pub mod ScriptLaws
-pub mod CheckLaws
-pub mod FirstLaws
-pub mod GenerateLaws
 pub mod OpenLaws
-pub mod RunLaws
 pub mod StoreLaws

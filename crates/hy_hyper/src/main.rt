@@ -1,34 +1,26 @@
 //! The program `hyper`, which runs the order-entry database from a command line.
 #![tactic(auto)]
 
-mod check;
-mod ending;
-mod fault;
-mod first;
-mod generate;
-mod run;
-mod script;
 mod system;
 
 use std::process::ExitCode;
 
 #[cfg(test)]
+mod command_tests;
+#[cfg(test)]
 mod example;
 #[cfg(test)]
-mod file_tests;
+mod failing_tests;
 #[cfg(test)]
-mod script_tests;
+mod load_tests;
 #[cfg(test)]
-mod shelf;
+mod record_tests;
+#[cfg(test)]
+mod row_tests;
 #[cfg(test)]
 mod snapshot_tests;
 #[cfg(test)]
 mod store_tests;
-#[cfg(test)]
-mod tests;
-
-/// The size of a page in bytes.
-const PAGE_BYTES: usize = 4096;
 
 fn main(rt: HostRuntime) -> ExitCode {
     ExitCode::from(system::run_on_system(&rt).status())

@@ -1,8 +1,7 @@
 //! The program on the system that it runs on.
 
-use crate::ending::Ending;
-use crate::run::run_words;
 use hy_place::Files;
+use hy_program::{Ending, run_words};
 use hy_schema::Refusal;
 use std::io::{self, Write};
 

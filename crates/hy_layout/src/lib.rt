@@ -6,6 +6,3 @@ mod names;
 mod numbers;
 
 pub use layout::Layout;
-
-#[cfg(test)]
-mod tests;

@@ -9,8 +9,3 @@ mod load;
 mod orders;
 
 pub use load::Load;
-
-#[cfg(test)]
-mod condition_tests;
-#[cfg(test)]
-mod tests;

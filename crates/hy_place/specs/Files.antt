@@ -8,6 +8,10 @@ use Rattle.std.specs.declared.io.ErrorKind.TheVariants.{OutOfMemory}
 abbrev pub FilesByPath : Type 0
 FilesByPath = List ℕ → Option (List ℕ)
 
+-- no file at any path
+abbrev pub no_files : FilesByPath
+no_files path = None
+
 -- known files have these bytes at the path
 abbrev pub HasFile : Option FilesByPath → List ℕ → List ℕ → Type 0
 HasFile None path bytes = ⊤

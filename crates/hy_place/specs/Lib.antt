@@ -2,4 +2,5 @@ pub mod Directory
 pub mod Faults
 pub mod Files
 pub mod Loads
+pub mod Shelves
 pub mod WorkedRows

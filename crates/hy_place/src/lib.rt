@@ -4,12 +4,9 @@
 mod directory;
 mod load;
 mod place;
+mod shelf;
 
 pub use directory::{FileFault, file_name};
 pub use load::{read_load, write_load};
 pub use place::{Files, Place};
-
-#[cfg(test)]
-mod shelf;
-#[cfg(test)]
-mod tests;
+pub use shelf::Shelf;

@@ -1,14 +1,15 @@
-//! Files in memory, for tests.
+//! Files in memory.
 
-ghost use Rattle.std.specs.Prelude.{◌≡◌, Some, IfErr, IfOk, OnOk, option_map};
-ghost use Rattle.std.specs.BTreeMap.{get_by_text};
+ghost use Rattle.std.specs.Prelude.{◌≡◌, Some};
+ghost use Rattle.hy_place.specs.Files.{no_files};
+ghost use Rattle.hy_place.specs.Shelves.{files_on};
 
 use crate::place::Place;
 use std::alloc::Global;
 use std::collections::BTreeMap;
 use std::io;
 
-/// Files in memory, by their paths. Of folders it knows nothing.
+/// Files in memory, by their paths. Of folders it knows nothing: each is there.
 #[derive(Drop)]
 pub struct Shelf {
     alloc: Global,
@@ -17,22 +18,18 @@ pub struct Shelf {
 
 impl Shelf {
     /// A shelf without files.
-    pub fn new(alloc: Global) -> Shelf {
+    pub fn new(alloc: Global) -> Shelf
+        ensures { files_on result ≡ no_files }
+    {
         Shelf {
             alloc,
             files: BTreeMap::new(alloc),
         }
     }
-
-    /// Takes a file away.
-    pub fn remove(&mut self, path: &str) {
-        let _file = self.files.remove(path);
-    }
 }
 
 impl Place for Shelf {
-    ghost files = { λ shelf. Some (λ path. option_map (λ bytes. bytes.items)
-        (get_by_text shelf.files path)) };
+    ghost files = { λ shelf. Some (files_on shelf) };
 
     fn read(&mut self, _alloc: Global, path: &str) -> io::Result<Vec<u8>> {
         match self.files.get(path) {

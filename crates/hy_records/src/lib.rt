@@ -12,8 +12,6 @@ mod order_line;
 mod reading;
 mod row;
 mod stock;
-#[cfg(test)]
-mod tests;
 mod warehouse;
 mod writing;
 

@@ -11,6 +11,3 @@ pub use hy_rows::{
     SlotBytes, Stock, Tables, Text, Warehouse,
 };
 pub use refusal::{LoadFault, Refusal, Table};
-
-#[cfg(test)]
-mod tests;

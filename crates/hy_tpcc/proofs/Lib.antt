@@ -1,3 +1,7 @@
+pub mod LastLaws
+pub mod NamedLaws
+pub mod GatherLaws
+pub mod LevelLaws
 pub mod BeginLaws
 pub mod SliceLaws
 pub mod KeepsLaws

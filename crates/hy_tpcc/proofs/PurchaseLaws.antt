@@ -44,7 +44,7 @@ use Rattle.hy_slices.proofs.BetweenSlices.{number-slices, placing-slices}
 use Rattle.hy_slices.proofs.SliceLaws.{find-with_changed, purchase-known}
 use Rattle.hy_slices.proofs.WholeLaws.{home-district, number-is, whole-sound}
 use Rattle.hy_store.specs.Stored.{Stored}
-use Rattle.hy_fill.specs.Indexes.{HasIndexes}
+use Rattle.hy_indexes.specs.Indexes.{HasIndexes}
 use Rattle.hy_writers.specs.Begun.{IsBegunLine, IsBegunPurchase}
 use Rattle.hy_writers.specs.Changes.{IsFoundAt}
 use Rattle.hy_writers.specs.Limits.{AreInBounds, most_commits}

@@ -27,7 +27,7 @@ use Rattle.hy_writers.specs.Begun.{IsBegunDelivery, IsBegunPayment}
 use Rattle.hy_writers.specs.Limits.{AreInBounds}
 use Rattle.hy_schema.specs.Keys.{IsOneWarehouse}
 use Rattle.hy_commands.specs.declared.reply.Reply.{Reply}
-use Rattle.hy_fill.specs.Indexes.{HasIndexes}
+use Rattle.hy_indexes.specs.Indexes.{HasIndexes}
 use Rattle.hy_writers.specs.Payments.{payment_reply}
 use Rattle.hy_tpcc.proofs.KeepsLaws.{keeps-slices}
 use Rattle.hy_tpcc.specs.Executor.{HasDone, answer_of}

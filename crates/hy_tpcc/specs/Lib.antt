@@ -1,2 +1,5 @@
+pub mod Lines
+pub mod Levels
+pub mod WorkedLevels
 pub mod Executor
 pub mod Shortages

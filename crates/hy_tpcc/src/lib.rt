@@ -4,10 +4,12 @@
 mod begin;
 mod delivery;
 mod executor;
+mod level;
 mod payment;
 mod purchase;
 mod reading;
 mod refused;
+mod status;
 
 pub use executor::Executor;
 pub use refused::refusal_of_shortage;

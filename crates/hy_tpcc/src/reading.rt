@@ -8,10 +8,11 @@ ghost use Rattle.hy_store.specs.Stored.{HasStore};
 ghost use Rattle.hy_store.specs.Writes.{stored_in};
 ghost use Rattle.hy_tpcc.specs.Executor.{HasDone};
 
+use crate::level::stock_level;
+use crate::status::order_status;
 use hy_commands::{Command, OrderStatus, Reply, StockLevel};
 use hy_index::Entry;
 use hy_layout::Layout;
-use hy_readers::{order_status, stock_level};
 use hy_space::Space;
 use hy_store::LineKey;
 use std::alloc::{AllocError, Global};

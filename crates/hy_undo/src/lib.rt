@@ -380,4 +380,6 @@ fn put_image_back<const N: usize>(space: &mut Space<N>, image: LastImage<'_>)
 }
 
 #[cfg(test)]
+mod frame_tests;
+#[cfg(test)]
 mod tests;

@@ -3,8 +3,6 @@
 
 mod given;
 mod program;
-#[cfg(test)]
-mod tests;
 mod words;
 
 pub use words::{Line, LineFault, read_words};

@@ -36,9 +36,9 @@ use Rattle.hy_store.specs.declared.keys.WaitingKey.{WaitingKey}
 use Rattle.hy_store.specs.Keys.{is_lesser_order, is_lesser_waiting}
 use Rattle.hy_store.specs.Stored.{Stored}
 use Rattle.hy_layout.specs.Finds.{IsIn}
-use Rattle.hy_fill.specs.Indexes.{order_key_at, waiting_key_at}
-use Rattle.hy_fill.proofs.IndexLaws.{index-finds, index-has, index-lacks}
-use Rattle.hy_fill.proofs.KeyOrders.{order-of_orders, order-of_waiting}
+use Rattle.hy_indexes.specs.Indexes.{order_key_at, waiting_key_at}
+use Rattle.hy_indexes.proofs.IndexLaws.{index-finds, index-has, index-lacks}
+use Rattle.hy_indexes.proofs.KeyOrders.{order-of_orders, order-of_waiting}
 use Rattle.hy_writers.specs.Changes.{IsFoundAt}
 use Rattle.hy_writers.specs.Deliveries.{ChargesCustomer, HasLinesOf, with_delivery, with_lines}
 use Rattle.hy_writers.specs.Limits.{most_commits}

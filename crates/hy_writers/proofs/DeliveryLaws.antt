@@ -15,8 +15,8 @@ use Rattle.hy_index.specs.Index.{IsInOrder, between}
 use Rattle.hy_commands.specs.OrderStatus.{is_lesser_line}
 use Rattle.hy_commands.specs.Sorting.{inserted, sorted, with_all_changed}
 use Rattle.hy_store.specs.Keys.{is_lesser_line as is_lesser_key}
-use Rattle.hy_fill.proofs.IndexLaws.{between-in}
-use Rattle.hy_fill.proofs.KeyOrders.{order-of_lines}
+use Rattle.hy_indexes.proofs.IndexLaws.{between-in}
+use Rattle.hy_indexes.proofs.KeyOrders.{order-of_lines}
 use Rattle.hy_rows.specs.Ranges.{IsLineAmount}
 use Rattle.hy_rows.specs.declared.order_line.OrderLine.{OrderLine}
 use Rattle.hy_index.specs.declared.key.Entry.{Entry}

@@ -15,11 +15,11 @@ use Rattle.hy_store.specs.declared.keys.OrderKey.{OrderKey}
 use Rattle.hy_store.specs.declared.keys.WaitingKey.{WaitingKey}
 use Rattle.hy_store.specs.Keys.{is_lesser_line, is_lesser_order, is_lesser_waiting}
 use Rattle.hy_store.specs.Stored.{Stored}
-use Rattle.hy_fill.specs.Indexes.{HasIndexes, line_key_at, order_key_at, waiting_key_at}
-use Rattle.hy_fill.proofs.IndexedLaws.{last_orders-added, slot-past, slot-push_last, slot-push_other}
+use Rattle.hy_indexes.specs.Indexes.{HasIndexes, line_key_at, order_key_at, waiting_key_at}
+use Rattle.hy_indexes.proofs.IndexedLaws.{last_orders-added, slot-past, slot-push_last, slot-push_other}
 use Rattle.hy_writers.specs.Purchases.{with_order, with_order_line}
-use Rattle.hy_fill.proofs.IndexLaws.{index-added}
-use Rattle.hy_fill.proofs.KeyOrders.{order-of_lines, order-of_orders, order-of_waiting}
+use Rattle.hy_indexes.proofs.IndexLaws.{index-added}
+use Rattle.hy_indexes.proofs.KeyOrders.{order-of_lines, order-of_orders, order-of_waiting}
 use Rattle.hy_layout.proofs.PlaceLaws.{get-past, get-push_last, get-push_other}
 
 -- all orders of a district have numbers below one

@@ -16,10 +16,10 @@ use Rattle.hy_store.specs.declared.keys.WaitingKey.{WaitingKey}
 use Rattle.hy_store.specs.Keys.{is_lesser_waiting}
 use Rattle.hy_store.specs.Stored.{Stored}
 use Rattle.hy_layout.specs.Finds.{IsIn}
-use Rattle.hy_fill.specs.Finds.{IsIndexOf}
-use Rattle.hy_fill.specs.Indexes.{AreLastOrders, HasIndexes, buyer_key_at, line_key_at, order_key_at, waiting_key_at}
-use Rattle.hy_fill.proofs.IndexLaws.{index-erased}
-use Rattle.hy_fill.proofs.KeyOrders.{order-of_waiting}
+use Rattle.hy_indexes.specs.Finds.{IsIndexOf}
+use Rattle.hy_indexes.specs.Indexes.{AreLastOrders, HasIndexes, buyer_key_at, line_key_at, order_key_at, waiting_key_at}
+use Rattle.hy_indexes.proofs.IndexLaws.{index-erased}
+use Rattle.hy_indexes.proofs.KeyOrders.{order-of_waiting}
 use Rattle.hy_layout.proofs.PlaceLaws.{get-map, map-get}
 use Rattle.hy_writers.specs.Deliveries.{with_delivery}
 

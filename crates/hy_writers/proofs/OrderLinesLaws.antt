@@ -18,10 +18,10 @@ use Rattle.hy_commands.proofs.OnceLaws.{passes-three, tells-three}
 use Rattle.hy_store.specs.declared.keys.LineKey.{LineKey}
 use Rattle.hy_store.specs.Keys.{is_lesser_line as is_lesser_key}
 use Rattle.hy_layout.specs.Finds.{IsIn}
-use Rattle.hy_fill.specs.Finds.{IsIndexOf}
-use Rattle.hy_fill.specs.Indexes.{line_key_at}
-use Rattle.hy_fill.proofs.IndexLaws.{between-in, in-between}
-use Rattle.hy_fill.proofs.KeyOrders.{order-of_lines}
+use Rattle.hy_indexes.specs.Finds.{IsIndexOf}
+use Rattle.hy_indexes.specs.Indexes.{line_key_at}
+use Rattle.hy_indexes.proofs.IndexLaws.{between-in, in-between}
+use Rattle.hy_indexes.proofs.KeyOrders.{order-of_lines}
 use Rattle.hy_layout.proofs.MemberLaws.{filter-in, in-filter, in-place, place-in}
 use Rattle.hy_writers.specs.Deliveries.{is_listed, lines_at}
 use Rattle.hy_writers.proofs.LexLaws.{between-line, line-between, line-number}

@@ -15,10 +15,10 @@ use Rattle.hy_commands.proofs.OnceLaws.{tells-two}
 use Rattle.hy_store.specs.declared.keys.WaitingKey.{WaitingKey}
 use Rattle.hy_store.specs.Keys.{is_lesser_waiting}
 use Rattle.hy_layout.specs.Finds.{IsIn}
-use Rattle.hy_fill.specs.Finds.{IsIndexOf}
-use Rattle.hy_fill.specs.Indexes.{waiting_key_at}
-use Rattle.hy_fill.proofs.IndexLaws.{first_from-none, first_from-some}
-use Rattle.hy_fill.proofs.KeyOrders.{order-of_waiting}
+use Rattle.hy_indexes.specs.Finds.{IsIndexOf}
+use Rattle.hy_indexes.specs.Indexes.{waiting_key_at}
+use Rattle.hy_indexes.proofs.IndexLaws.{first_from-none, first_from-some}
+use Rattle.hy_indexes.proofs.KeyOrders.{order-of_waiting}
 use Rattle.hy_writers.proofs.LexLaws.{from-waiting, waiting-behind, waiting-from}
 use Rattle.hy_layout.proofs.MemberLaws.{filter-in, in-filter}
 

@@ -14,8 +14,8 @@ use Rattle.hy_commands.specs.Invariant.{line_key}
 use Rattle.hy_commands.specs.Deliveries.{customer_delivered, delivered_line, with_delivered}
 use Rattle.hy_store.specs.Keys.{is_lesser_waiting}
 use Rattle.hy_store.specs.Stored.{Stored}
-use Rattle.hy_fill.specs.Finds.{IsIndexOf}
-use Rattle.hy_fill.specs.Indexes.{line_key_at}
+use Rattle.hy_indexes.specs.Finds.{IsIndexOf}
+use Rattle.hy_indexes.specs.Indexes.{line_key_at}
 
 -- the lines, and what those that were delivered come to
 pub record Walked : Type 0 where

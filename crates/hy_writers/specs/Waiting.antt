@@ -11,7 +11,7 @@ use Rattle.hy_commands.specs.Invariant.{IsSoundWarehouse}
 use Rattle.hy_layout.specs.Layout.{KeepsPlaces, LayoutState, own_rows}
 use Rattle.hy_store.specs.declared.keys.WaitingKey.{WaitingKey}
 use Rattle.hy_store.specs.Stored.{Stored}
-use Rattle.hy_fill.specs.Indexes.{HasIndexes, waiting_key_at}
+use Rattle.hy_indexes.specs.Indexes.{HasIndexes, waiting_key_at}
 use Rattle.hy_writers.specs.Limits.{AreInBounds}
 
 -- a store between two slices of a delivery, or before a command: its rows are sound, in their places and within bounds, and

@@ -23,7 +23,7 @@ ghost use Rattle.hy_store.specs.Keys.{is_lesser_order, is_lesser_waiting};
 ghost use Rattle.hy_store.specs.Stored.{HasStore};
 ghost use Rattle.hy_store.specs.Writes.{WritesStore, stored_in};
 ghost use Rattle.hy_store.specs.declared.keys.LineKey.{LineKey};
-ghost use Rattle.hy_fill.specs.Indexes.{HasIndexes};
+ghost use Rattle.hy_indexes.specs.Indexes.{HasIndexes};
 ghost use Rattle.hy_writers.specs.Limits.{most_commits};
 ghost use Rattle.hy_writers.specs.Deliveries.{ChargesCustomer, DeliversLine, HasLinesOf, walk_over, with_delivery, with_lines};
 ghost use Rattle.hy_writers.specs.Begun.{IsBegunDelivery};

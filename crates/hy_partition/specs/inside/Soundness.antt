@@ -9,7 +9,7 @@ use Rattle.hy_space.specs.Space.{owner_bytes}
 use Rattle.hy_undo.specs.UndoLog.{undone, empty_log}
 use Rattle.hy_undo.specs.PrivatePages.{IsUndoLog}
 use Rattle.hy_store.specs.Stored.{HasStore, stored}
-use Rattle.hy_fill.specs.Indexes.{HasIndexes}
+use Rattle.hy_indexes.specs.Indexes.{HasIndexes}
 use Rattle.hy_tpcc.specs.Executor.{ExecutorState, IsUnderWay}
 use Rattle.hy_partition.specs.Partition.{PartitionState, layout_of, rows_now}
 use Rattle.hy_partition.specs.Limits.{most_kept}

@@ -1,6 +1,6 @@
 use Rattle.std.proofs.Common.{ℕ, take, filter, slice_get, subst, sym, ◌+◌}
 use Rattle.std.proofs.lemmas.List.{take_all}
-use Rattle.hy_fill.specs.Finds.{IsIndexOf}
+use Rattle.hy_indexes.specs.Finds.{IsIndexOf}
 use Rattle.hy_fill.specs.inside.Filling.{with_row}
 use Rattle.hy_fill.proofs.EntryLaws.{IsPlaced, row-added}
 use Rattle.hy_fill.proofs.RowLaws.{passed-more}

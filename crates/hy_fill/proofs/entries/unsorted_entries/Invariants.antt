@@ -1,5 +1,5 @@
 use Rattle.std.proofs.Common.{◌≡◌, take, filter, slice_get, length}
-use Rattle.hy_fill.specs.Finds.{IsIndexOf}
+use Rattle.hy_indexes.specs.Finds.{IsIndexOf}
 use Rattle.hy_fill.proofs.entries.unsorted_entries.Given as goal
 
 -- the entries are those of the own rows so far, as many as there are of these

@@ -6,11 +6,11 @@ use Rattle.hy_rows.specs.Tables.{Lists, Tables}
 use Rattle.hy_layout.specs.Layout.{LayoutState, own_rows}
 use Rattle.hy_store.specs.Stored.{Stored}
 use Rattle.hy_store.specs.Writes.{stored_in}
-use Rattle.hy_fill.specs.Finds.{IsIndexOf}
-use Rattle.hy_fill.specs.Indexes.{line_key_at, order_key_at, waiting_key_at}
+use Rattle.hy_indexes.specs.Finds.{IsIndexOf}
+use Rattle.hy_indexes.specs.Indexes.{line_key_at, order_key_at, waiting_key_at}
 use Rattle.hy_fill.specs.inside.Filling.{TellsApart}
 use Rattle.hy_fill.proofs.FilledLaws.{has_indexes}
-use Rattle.hy_fill.proofs.KeyOrders.{order-of_lines, order-of_orders, order-of_waiting}
+use Rattle.hy_indexes.proofs.KeyOrders.{order-of_lines, order-of_orders, order-of_waiting}
 use Rattle.hy_fill.proofs.fill.fill_indexes.Goals as goal
 
 -- the rows that are passed on are the layout's own

@@ -10,7 +10,7 @@ use Rattle.hy_store.specs.declared.keys.LineKey.{LineKey}
 use Rattle.hy_store.specs.declared.keys.OrderKey.{OrderKey}
 use Rattle.hy_store.specs.declared.keys.WaitingKey.{WaitingKey}
 use Rattle.hy_layout.specs.Finds.{IsIn}
-use Rattle.hy_fill.specs.Indexes.{line_key_at, order_key_at, waiting_key_at}
+use Rattle.hy_indexes.specs.Indexes.{line_key_at, order_key_at, waiting_key_at}
 use Rattle.hy_fill.proofs.EntryLaws.{unique-apart}
 use Rattle.hy_layout.proofs.MemberLaws.{filter-in}
 use Rattle.hy_fill.proofs.fill.know_keys.Goals as goal

@@ -1,6 +1,6 @@
 use Rattle.std.proofs.Common.{lit<, slice_get, subst, sym}
-use Rattle.hy_fill.specs.Finds.{IsIndexOf}
-use Rattle.hy_fill.specs.Indexes.{buyer_key_at}
+use Rattle.hy_indexes.specs.Finds.{IsIndexOf}
+use Rattle.hy_indexes.specs.Indexes.{buyer_key_at}
 use Rattle.hy_store.specs.Writes.{stored_in}
 use Rattle.hy_fill.proofs.last_orders.fill_last_orders.Goals as goal
 

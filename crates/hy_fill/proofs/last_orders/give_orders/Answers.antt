@@ -7,7 +7,7 @@ use Rattle.hy_store.specs.declared.keys.CustomerKey.{CustomerKey}
 use Rattle.hy_store.specs.Stored.{Stored}
 use Rattle.hy_store.specs.Writes.{stored_in}
 use Rattle.hy_layout.specs.Finds.{IsIn}
-use Rattle.hy_fill.specs.Indexes.{AreLastOrders}
+use Rattle.hy_indexes.specs.Indexes.{AreLastOrders}
 use Rattle.hy_fill.specs.inside.LastOrders.{AreLastOf, with_order}
 use Rattle.hy_fill.proofs.EntryLaws.{in-take}
 use Rattle.hy_fill.proofs.LastOrderLaws.{found-within, last-all, last-given, slot-within}

@@ -1,0 +1,3 @@
+pub mod IndexLaws
+pub mod KeyOrders
+pub mod IndexedLaws

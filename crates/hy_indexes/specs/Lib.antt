@@ -1,0 +1,3 @@
+pub mod Finds
+pub mod Indexes
+pub mod WorkedIndexes

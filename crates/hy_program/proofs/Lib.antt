@@ -1,0 +1,5 @@
+pub mod ScriptLaws
+pub mod CheckLaws
+pub mod FirstLaws
+pub mod GenerateLaws
+pub mod RunLaws

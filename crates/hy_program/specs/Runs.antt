@@ -1,0 +1,97 @@
+-- What a run of the program leaves, by the way in which it ended. Of files and of bytes that were written, a pair has
+-- what was there before, and what is there after it, as far as they are known.
+use Rattle.std.specs.Prelude.{◌≡◌, ◌⊎◌, ⊤, ℕ, List, Option}
+use Rattle.std.specs.declared.io.Error.{Error}
+use Rattle.hy_schema.specs.declared.refusal.Refusal.TheVariants as refusals
+use Rattle.hy_place.specs.Directory.{KeepsOtherFiles, tables}
+use Rattle.hy_place.specs.Files.{FilesByPath}
+use Rattle.hy_words.specs.CommandLine.{Says}
+use Rattle.hy_words.specs.declared.words.Line.{Line}
+use Rattle.hy_words.specs.declared.words.Line.TheVariants as line
+use Rattle.hy_program.specs.declared.ending.Ending.{Ending}
+use Rattle.hy_program.specs.declared.ending.Ending.TheVariants as ending
+use Rattle.hy_program.specs.declared.fault.RunFault.{RunFault}
+use Rattle.hy_program.specs.declared.fault.RunFault.TheVariants as fault
+use Rattle.hy_program.specs.declared.generate.Size.{Size}
+use Rattle.hy_program.specs.Check.{IsCheckFault, IsChecked}
+use Rattle.hy_program.specs.Faults.{Explains}
+use Rattle.hy_program.specs.First.{IsFirstFault, IsFirstPrinted}
+use Rattle.hy_program.specs.declared.script.Limits.{Limits}
+use Rattle.hy_program.specs.Script.{IsScriptDone, IsScriptFaultOf}
+use Rattle.hy_program.specs.Generate.{IsGenerateFault, IsGenerated, IsSize}
+
+abbrev pub KnownFiles : Type 0
+KnownFiles = Option FilesByPath × Option FilesByPath
+
+abbrev pub KnownBytes : Type 0
+KnownBytes = Option (List ℕ) × Option (List ℕ)
+
+-- the size that `gen` is given
+abbrev pub size_of : ℕ → ℕ → ℕ → Size
+size_of warehouses customers items = record {
+  warehouses = warehouses;
+  customers = customers;
+  items = items;
+}
+
+-- the limits that `script` is given
+abbrev pub limits_of : ℕ → ℕ → Limits
+limits_of frames kept = record { frames = frames; kept = kept }
+
+-- a command line was done: it printed what it found behind the bytes that were there
+abbrev pub IsDone : Line → KnownFiles → KnownBytes → Type 0
+IsDone (line.First amount) files bytes = IsFirstPrinted amount bytes.0 bytes.1
+IsDone (line.Generate directory warehouses customers items) files bytes =
+    IsGenerated directory.now (size_of warehouses customers items) files.1 bytes.0 bytes.1
+IsDone (line.Check directory) files bytes = IsChecked directory.now files.0 bytes.0 bytes.1
+IsDone (line.Script directory file frames kept) files bytes =
+    IsScriptDone directory.now file.now (limits_of frames kept) files.0 bytes.0 bytes.1
+
+-- why a command line isn't done; where it is refused, nothing is printed, but for a script's answers to the events
+-- before a bad one
+abbrev pub IsFaultOf : Line → KnownFiles → KnownBytes → Type 0 → RunFault → Type 0
+IsFaultOf (line.First amount) files bytes unprinted why = IsFirstFault amount unprinted why
+IsFaultOf (line.Generate directory warehouses customers items) files bytes unprinted why =
+    IsGenerateFault directory.now (size_of warehouses customers items) files unprinted why
+IsFaultOf (line.Check directory) files bytes unprinted why = IsCheckFault directory.now files.0 unprinted why
+IsFaultOf (line.Script directory file frames kept) files bytes unprinted why =
+    IsScriptFaultOf directory.now file.now (limits_of frames kept) files.0 bytes.0 bytes.1 unprinted why
+
+-- `gen` alone writes files, those of its folder, where there is a database of its size
+abbrev pub MayWrite : Line → KnownFiles → Type 0
+MayWrite (line.Generate directory warehouses customers items) files =
+    IsSize (size_of warehouses customers items) × KeepsOtherFiles files.0 files.1 directory.now tables
+MayWrite other files = ⊥
+
+-- the files stay as they were, but where the words say a command line that writes some
+abbrev pub KeepsFiles : List (List ℕ) → KnownFiles → Type 0
+KeepsFiles words files = (files.1 ≡ files.0) ⊎ ((line : Line) × Says words line × MayWrite line files)
+
+-- the words say a command line that was done
+abbrev pub Completes : List (List ℕ) → KnownFiles → KnownBytes → Type 0
+Completes words files bytes = (line : Line) × Says words line × IsDone line files bytes
+
+-- this is why the words aren't done: their command line isn't, or memory is refused
+abbrev pub IsWhyUndone : List (List ℕ) → KnownFiles → RunFault → Type 0
+IsWhyUndone words files why =
+    (why ≡ fault.Refused refusals.NoMemory) ⊎ ((line : Line) × (bytes : KnownBytes) × Says words line × IsFaultOf line files bytes ⊤ why)
+
+-- the words aren't done, and the line that says why stands behind the bytes that were there
+abbrev pub ExplainsRefusal : List (List ℕ) → KnownFiles → KnownBytes → Type 0
+ExplainsRefusal words files bytes = (why : RunFault) × IsWhyUndone words files why × Explains why bytes.0 bytes.1
+
+-- the words say a command line that is done as far as its print
+abbrev pub AreDoneUnprinted : List (List ℕ) → KnownFiles → Type 0
+AreDoneUnprinted words files = (error : Error) × IsWhyUndone words files (fault.Writer error)
+
+-- a script whose answers, up to a bad event, stand behind the bytes that were there
+abbrev pub EndsAtBadEvent : List (List ℕ) → KnownFiles → KnownBytes → Type 0
+EndsAtBadEvent words files bytes =
+    (line : Line) × (number : ℕ) × Says words line × IsFaultOf line files bytes ⊥ (fault.BadEvent number)
+
+-- the exit status of a run that ended so
+abbrev pub status_of : Ending → ℕ
+status_of ending.Done = 0
+status_of ending.Refused = 1
+status_of ending.WriterFailed = 1
+status_of ending.NoLine = 2

@@ -1,0 +1,50 @@
+-- What `script` does: it runs the events of a file on the database in the files of a folder.
+use Rattle.std.specs.Prelude.{◌≡◌, ◌⊎◌, ℕ, List, Option, None, Some}
+use Rattle.std.specs.declared.io.Error.{Error}
+use Rattle.hy_schema.specs.declared.refusal.Refusal.TheVariants as refusals
+use Rattle.hy_rows.specs.Tables.{Lists}
+use Rattle.hy_place.specs.declared.directory.FileFault.TheVariants as fileFault
+use Rattle.hy_place.specs.Files.{FilesByPath, HasFile, IsMissing, IsOutOfMemory}
+use Rattle.hy_place.specs.Loads.{IsReadFault}
+use Rattle.hy_script.specs.Scripts.{IsPrinted}
+use Rattle.hy_program.specs.declared.fault.RunFault.{RunFault}
+use Rattle.hy_program.specs.declared.fault.RunFault.TheVariants as fault
+use Rattle.hy_program.specs.declared.script.Limits.{Limits}
+use Rattle.hy_program.specs.Check.{HasLoad}
+use Rattle.hy_program.specs.Faults.{IsOfFiles}
+
+-- the files of the folder are those of a load with these lists, and the file has these bytes
+abbrev pub HasScript : List ℕ → List ℕ → Option FilesByPath → Lists → List ℕ → Type 0
+HasScript directory file files lists script = HasLoad files directory lists × HasFile files file script
+
+-- the answers to its events stand behind the bytes that were there
+abbrev pub IsScriptDone : List ℕ → List ℕ → Limits → Option FilesByPath → Option (List ℕ) → Option (List ℕ) → Type 0
+IsScriptDone directory file limits files old new =
+    (lists : Lists) × (script : List ℕ) × HasScript directory file files lists script
+    × IsPrinted 4_096 lists limits.frames limits.kept script old new None
+
+-- the file can't be read, or memory was refused
+abbrev pub IsWhyUnread : List ℕ → Error → RunFault → Type 0
+IsWhyUnread file error (fault.Refused refusal) = (refusal ≡ refusals.NoMemory) × IsOutOfMemory error
+IsWhyUnread file error (fault.CannotReadFile path) = (path.now ≡ file) × (IsOutOfMemory error → ⊥)
+IsWhyUnread file error other = ⊥
+
+-- why the files can't be read or are no load; of the script's file it is said that it isn't there
+abbrev pub IsReadAllFault : List ℕ → List ℕ → Option FilesByPath → RunFault → Type 0
+IsReadAllFault directory file files (fault.CannotReadFile path) = (path.now ≡ file) × IsMissing files file
+IsReadAllFault directory file files (fault.BadEvent number) = ⊥
+IsReadAllFault directory file files (fault.Writer error) = ⊥
+IsReadAllFault directory file files why = IsOfFiles directory (IsReadFault files directory) why
+
+-- why it isn't done: the files can't be read or are no load, or the partitions can't be made, before anything was
+-- printed; an event is bad, behind the answers to those before it; or the writer failed
+abbrev pub IsScriptFaultOf : List ℕ → List ℕ → Limits → Option FilesByPath → Option (List ℕ) → Option (List ℕ) → Type 0
+    → RunFault → Type 0
+IsScriptFaultOf directory file limits files old new unprinted (fault.BadEvent number) =
+    (lists : Lists) × (script : List ℕ) × HasScript directory file files lists script
+    × IsPrinted 4_096 lists limits.frames limits.kept script old new (Some number)
+IsScriptFaultOf directory file limits files old new unprinted (fault.Writer error) =
+    (lists : Lists) × (script : List ℕ) × HasScript directory file files lists script
+IsScriptFaultOf directory file limits files old new unprinted (fault.Refused refusal) =
+    (IsReadFault files directory (fileFault.Refused refusal) ⊎ (refusal ≡ refusals.NoFrame)) × unprinted
+IsScriptFaultOf directory file limits files old new unprinted why = IsReadAllFault directory file files why × unprinted

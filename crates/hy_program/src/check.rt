@@ -1,0 +1,78 @@
+//! The command `check`: what is found in the files of a load.
+
+ghost use Rattle.std.specs.Prelude.{◌≡◌, IfErr, IfOk, OnOk, length, string_bytes};
+ghost use Rattle.hy_rows.specs.Tables.{of_warehouse};
+ghost use Rattle.hy_program.specs.Check.{IsCheckFault, IsChecked, line_of, report, warehouse_line};
+
+use crate::fault::RunFault;
+use hy_place::{Place, read_load};
+use hy_rows::{Tables, Warehouse};
+use std::alloc::{AllocError, Global};
+use std::io;
+
+/// Tests the load in the files of a folder, and writes a line for each warehouse and one for the consistency
+/// conditions.
+pub fn run_check<'a, F: Place, O: io::Write>(
+    alloc: Global,
+    directory: &'a str,
+    place: &mut F,
+    out: &mut O,
+) -> Result<(), RunFault<'a>>
+    ensures files { F.files place.new ≡ F.files place.old }
+    ensures done { OnOk result
+        (IsChecked directory.entry.now (F.files place.old) (O.contents out.old) (O.contents out.new)) }
+    ensures fault { IfErr result (IsCheckFault directory.entry.now (F.files place.old) (out.new ≡ out.old)) }
+{
+    let load = match read_load(alloc, place, directory) {
+        Ok(load) => load,
+        Err(found) => return Err(RunFault::of_files(directory, found)),
+    };
+    let text = report(alloc, &load.lists().tables)?;
+    out.write_all(text.as_bytes())?;
+    Ok(())
+}
+
+/// What `check` prints of the rows of a load.
+fn report(alloc: Global, tables: &Tables) -> Result<String, AllocError>
+    ensures { IfOk result (λ text. string_bytes text ≡ report tables.now) }
+{
+    let mut text = String::new(alloc);
+    for warehouse in &tables.warehouses {
+        let line = line_of(alloc, tables, warehouse)?;
+        text.push_str(line.as_str())?;
+    }
+    text.push_str("conditions 1 2 3 4 5 6 7 8 9 10 12 hold\n")?;
+    Ok(text)
+}
+
+/// The line of a warehouse of these tables.
+fn line_of(alloc: Global, tables: &Tables, warehouse: &Warehouse) -> Result<String, AllocError>
+    ensures { IfOk result (λ text. string_bytes text ≡ line_of tables.now warehouse.now) }
+{
+    let undelivered = undelivered_orders(tables, warehouse.id);
+    warehouse_line(alloc, warehouse.id, warehouse.ytd, undelivered)
+}
+
+/// The line of a warehouse with this W_YTD and so many undelivered orders.
+fn warehouse_line(
+    alloc: Global,
+    number: u8,
+    ytd: i64,
+    undelivered: usize,
+) -> Result<String, AllocError>
+    ensures { IfOk result (λ text. string_bytes text ≡ warehouse_line number ytd undelivered) }
+{
+    let line = format!(in alloc; "warehouse {number} ytd {ytd} open {undelivered}\n")?;
+    Ok(line)
+}
+
+/// How many orders of a warehouse aren't delivered.
+fn undelivered_orders(tables: &Tables, warehouse: u8) -> usize
+    ensures { result ≡ length (of_warehouse warehouse tables.now).new_orders }
+{
+    tables
+        .new_orders
+        .iter()
+        .filter(|row| row.warehouse == warehouse)
+        .count()
+}

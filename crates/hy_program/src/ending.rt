@@ -1,0 +1,30 @@
+//! How a run of the program ends.
+
+ghost use Rattle.std.specs.Prelude.{◌≡◌};
+ghost use Rattle.hy_program.specs.Runs.{status_of};
+
+/// How a run of the program ended.
+#[derive(Clone, Copy, Debug, PartialEq, Eq)]
+pub enum Ending {
+    /// What the words say was done.
+    Done,
+    /// It was refused, and the second writer has the refusal.
+    Refused,
+    /// A writer failed.
+    WriterFailed,
+    /// The words are no command line, or ask for help, and the second writer has the parser's text.
+    NoLine,
+}
+
+impl Ending {
+    /// The exit status.
+    pub fn status(self) -> u8
+        ensures { result ≡ status_of self }
+    {
+        match self {
+            Ending::Done => 0,
+            Ending::Refused | Ending::WriterFailed => 1,
+            Ending::NoLine => 2,
+        }
+    }
+}

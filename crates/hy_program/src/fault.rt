@@ -1,0 +1,112 @@
+//! Why a command line isn't done.
+
+ghost use Rattle.std.specs.Prelude.{◌≡◌, Some};
+ghost use Rattle.hy_schema.specs.declared.refusal.Refusal.TheVariants as refusals;
+ghost use Rattle.hy_program.specs.declared.fault.RunFault.TheVariants as fault;
+ghost use Rattle.hy_program.specs.Faults.{IsAboutFiles, IsOfScript, fault_text, path_text};
+
+use hy_place::{FileFault, file_name};
+use hy_schema::{Refusal, Table};
+use hy_script::ScriptFault;
+use std::alloc::AllocError;
+use std::{fmt, io};
+
+/// The path of a table's file in a folder, which is printed as its text.
+#[derive(Clone, Copy, Debug)]
+pub struct FilePath<'a> {
+    /// The folder.
+    pub directory: &'a str,
+    /// The table.
+    pub table: Table,
+}
+
+impl fmt::Display for FilePath<'_> {
+    ghost output = { λ path. Some (path_text path) };
+
+    fn fmt<W: fmt::Write>(&self, f: &mut fmt::Formatter<W>) -> fmt::Result {
+        let directory = self.directory;
+        let name = file_name(self.table);
+        write!(f, "{directory}/{name}")
+    }
+}
+
+/// Why a command line isn't done.
+#[derive(Debug, Drop)]
+pub enum RunFault<'a> {
+    /// It is refused.
+    Refused(Refusal),
+    /// A file can't be read.
+    CannotRead(FilePath<'a>),
+    /// The file of a script can't be read.
+    CannotReadFile(&'a str),
+    /// The line of this number of a script is a bad event.
+    BadEvent(u64),
+    /// A file can't be written.
+    CannotWrite(FilePath<'a>),
+    /// The writer of what is found failed.
+    Writer(io::Error),
+}
+
+impl<'a> RunFault<'a> {
+    /// What a fault of the files of a folder is for a command line.
+    pub fn of_files(directory: &'a str, found: FileFault) -> RunFault<'a>
+        ensures { IsAboutFiles directory.entry.now found result }
+    {
+        match found {
+            FileFault::Refused(refusal) => RunFault::Refused(refusal),
+            FileFault::CannotRead(table) => RunFault::CannotRead(FilePath { directory, table }),
+            FileFault::CannotWrite(table) => RunFault::CannotWrite(FilePath { directory, table }),
+        }
+    }
+}
+
+impl From<Refusal> for RunFault<'_> {
+    ghost from_gives = { λ refusal made. made ≡ fault.Refused refusal };
+
+    fn from(refusal: Refusal) -> Self {
+        RunFault::Refused(refusal)
+    }
+}
+
+impl From<AllocError> for RunFault<'_> {
+    ghost from_gives = { λ _ made. made ≡ fault.Refused refusals.NoMemory };
+
+    fn from(_refused: AllocError) -> Self {
+        RunFault::Refused(Refusal::NoMemory)
+    }
+}
+
+impl From<io::Error> for RunFault<'_> {
+    ghost from_gives = { λ error made. made ≡ fault.Writer error };
+
+    fn from(error: io::Error) -> Self {
+        RunFault::Writer(error)
+    }
+}
+
+impl From<ScriptFault> for RunFault<'_> {
+    ghost from_gives = { IsOfScript };
+
+    fn from(found: ScriptFault) -> Self {
+        match found {
+            ScriptFault::Refused(refusal) => RunFault::Refused(refusal),
+            ScriptFault::BadEvent(line) => RunFault::BadEvent(line),
+            ScriptFault::Output(error) => RunFault::Writer(error),
+        }
+    }
+}
+
+impl fmt::Display for RunFault<'_> {
+    ghost output = { fault_text };
+
+    fn fmt<W: fmt::Write>(&self, f: &mut fmt::Formatter<W>) -> fmt::Result {
+        match self {
+            RunFault::Refused(refusal) => write!(f, "refused {refusal}"),
+            RunFault::CannotRead(path) => write!(f, "cannot read {path}"),
+            RunFault::CannotReadFile(path) => write!(f, "cannot read {path}"),
+            RunFault::BadEvent(line) => write!(f, "bad event on line {line}"),
+            RunFault::CannotWrite(path) => write!(f, "cannot write {path}"),
+            RunFault::Writer(error) => write!(f, "{error}"),
+        }
+    }
+}

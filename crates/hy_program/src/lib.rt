@@ -1,0 +1,17 @@
+//! The program `hyper` over any place of files and any two writers: what its command lines do and print, and how a run
+//! ends.
+#![tactic(auto)]
+
+mod check;
+mod ending;
+mod fault;
+mod first;
+mod generate;
+mod run;
+mod script;
+
+pub use ending::Ending;
+pub use run::run_words;
+
+/// The size of a page in bytes.
+const PAGE_BYTES: usize = 4096;

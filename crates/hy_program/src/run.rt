@@ -1,0 +1,128 @@
+//! The program, from its words to the way in which it ended.
+
+ghost use Rattle.std.specs.Prelude.{◌≡◌, ◌⊎◌, IfErr, OnOk};
+ghost use Rattle.hy_words.specs.CommandLine.{AreTaken, HasLimits, texts_of};
+ghost use Rattle.hy_words.specs.declared.words.Line.TheVariants as line;
+ghost use Rattle.hy_program.specs.declared.ending.Ending.{Ending};
+ghost use Rattle.hy_program.specs.Faults.{Explains};
+ghost use Rattle.hy_program.specs.Runs.{AreDoneUnprinted, Completes, EndsAtBadEvent, ExplainsRefusal, IsDone, IsFaultOf, KeepsFiles, MayWrite};
+
+use crate::check::run_check;
+use crate::ending::Ending;
+use crate::fault::RunFault;
+use crate::first::run_first;
+use crate::generate::{Size, run_generate};
+use crate::script::{Limits, run_script_file};
+use hy_place::Place;
+use hy_schema::Refusal;
+use hy_words::{Line, LineFault, read_words};
+use std::alloc::Global;
+use std::io;
+
+/// The program: does what the words after its name say. Files are read and written at `place`. What is found is
+/// written to `out`, and why it isn't done to `err`.
+pub fn run_words<F: Place, O: io::Write, X: io::Write>(
+    alloc: Global,
+    words: &[&str],
+    place: &mut F,
+    out: &mut O,
+    err: &mut X,
+) -> Ending
+    ensures files { KeepsFiles (texts_of words.entry.now) (F.files place.old, F.files place.new) }
+
+    ensures done { result ≡ Ending.Done →
+        Completes (texts_of words.entry.now) (F.files place.old, F.files place.new)
+        (O.contents out.old, O.contents out.new) }
+    ensures done_without_words { result ≡ Ending.Done → err.new ≡ err.old }
+
+    ensures refused { result ≡ Ending.Refused →
+        ExplainsRefusal (texts_of words.entry.now) (F.files place.old, F.files place.new)
+        (X.contents err.old, X.contents err.new) }
+    ensures refused_unprinted { result ≡ Ending.Refused → (out.new ≡ out.old)
+        ⊎ EndsAtBadEvent (texts_of words.entry.now) (F.files place.old, F.files place.new)
+        (O.contents out.old, O.contents out.new) }
+
+    // What was refused printed nothing, even where that couldn't be explained.
+    ensures writer_failed { result ≡ Ending.WriterFailed →
+        (out.new ≡ out.old)
+        ⊎ AreDoneUnprinted (texts_of words.entry.now) (F.files place.old, F.files place.new)
+        ⊎ EndsAtBadEvent (texts_of words.entry.now) (F.files place.old, F.files place.new)
+        (O.contents out.old, O.contents out.new) }
+
+    ensures at_fault { result ≡ Ending.NoLine → ¬ (AreTaken (texts_of words.entry.now)) }
+    ensures no_line { result ≡ Ending.NoLine → (place.new ≡ place.old) × (out.new ≡ out.old) }
+    ensures untaken { ¬ (AreTaken (texts_of words.entry.now)) →
+        (place.new ≡ place.old) × (out.new ≡ out.old) }
+{
+    match read_words(alloc, words) {
+        Ok(line) => match run_line(alloc, line, place, out) {
+            Ok(()) => Ending::Done,
+            Err(fault) => explain(fault, err),
+        },
+        Err(LineFault::Parser(error)) => match write!(err, "{error}") {
+            Ok(()) => Ending::NoLine,
+            Err(_) => Ending::WriterFailed,
+        },
+        Err(LineFault::NoMemory) => explain(RunFault::Refused(Refusal::NoMemory), err),
+    }
+}
+
+/// Writes the line that says why a command line isn't done.
+fn explain<X: io::Write>(fault: RunFault<'_>, err: &mut X) -> Ending
+    ensures refused { result ≡ Ending.Refused →
+        Explains fault.entry (X.contents err.old) (X.contents err.new) }
+    ensures otherwise { (result ≡ Ending.Refused) ⊎ (result ≡ Ending.WriterFailed) }
+{
+    let ending = match fault {
+        RunFault::Writer(_) => Ending::WriterFailed,
+        _ => Ending::Refused,
+    };
+    match writeln!(err, "{fault}") {
+        Ok(()) => ending,
+        Err(_) => Ending::WriterFailed,
+    }
+}
+
+/// Does what a command line says.
+fn run_line<'a, F: Place, O: io::Write>(
+    alloc: Global,
+    line: Line<'a>,
+    place: &mut F,
+    out: &mut O,
+) -> Result<(), RunFault<'a>>
+    requires { HasLimits line }
+    ensures files { (F.files place.new ≡ F.files place.old)
+        ⊎ MayWrite line.entry (F.files place.old, F.files place.new) }
+    ensures done { OnOk result
+        (IsDone line.entry (F.files place.old, F.files place.new) (O.contents out.old, O.contents out.new)) }
+    ensures fault { IfErr result
+        (IsFaultOf line.entry (F.files place.old, F.files place.new) (O.contents out.old, O.contents out.new)
+        (out.new ≡ out.old)) }
+{
+    match line {
+        Line::First { amount } => run_first(alloc, amount, out),
+        Line::Generate {
+            directory,
+            warehouses,
+            customers,
+            items,
+        } => {
+            let size = Size {
+                warehouses,
+                customers,
+                items,
+            };
+            run_generate(alloc, directory, size, place, out)
+        }
+        Line::Check { directory } => run_check(alloc, directory, place, out),
+        Line::Script {
+            directory,
+            file,
+            frames,
+            kept,
+        } => {
+            let limits = Limits { frames, kept };
+            run_script_file(alloc, directory, file, limits, place, out)
+        }
+    }
+}

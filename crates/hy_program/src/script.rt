@@ -1,0 +1,93 @@
+//! The command `script`: the events of a file, run on the database in the files of a folder.
+
+ghost use Rattle.std.specs.Prelude.{◌≡◌, ◌≤◌, IfErr, IfOk, OnOk};
+ghost use Rattle.hy_partition.specs.Limits.{most_kept};
+ghost use Rattle.hy_frames.specs.FrameTable.{max_frames as most_frames};
+ghost use Rattle.hy_program.specs.Script.{HasScript, IsReadAllFault, IsScriptDone, IsScriptFaultOf, IsWhyUnread};
+
+use crate::PAGE_BYTES;
+use crate::fault::RunFault;
+use hy_loads::Load;
+use hy_place::{FileFault, Place, read_load};
+use hy_schema::Refusal;
+use hy_script::run_script;
+use std::alloc::Global;
+use std::io;
+
+/// Runs the events of a file on the database in the files of a folder, with at most so many frames and kept commits for
+/// each warehouse, and writes their answers.
+pub fn run_script_file<'a, F: Place, O: io::Write>(
+    alloc: Global,
+    directory: &'a str,
+    file: &'a str,
+    limits: Limits,
+    place: &mut F,
+    out: &mut O,
+) -> Result<(), RunFault<'a>>
+    requires some_frames { 1 ≤ limits.frames }
+    requires frames { limits.frames ≤ most_frames }
+    requires some_kept { 1 ≤ limits.kept }
+    requires kept { limits.kept ≤ most_kept }
+    ensures files { F.files place.new ≡ F.files place.old }
+    ensures done { OnOk result (IsScriptDone directory.entry.now file.entry.now limits (F.files place.old)
+        (O.contents out.old) (O.contents out.new)) }
+    ensures fault { IfErr result (IsScriptFaultOf directory.entry.now file.entry.now limits (F.files place.old)
+        (O.contents out.old) (O.contents out.new) (out.new ≡ out.old)) }
+{
+    let (load, script) = read_all(alloc, directory, file, place)?;
+    run_script::<PAGE_BYTES, O>(
+        alloc,
+        &load,
+        script.as_slice(),
+        limits.frames,
+        limits.kept,
+        out,
+    )?;
+    Ok(())
+}
+
+/// How many frames and kept commits each warehouse may have.
+#[derive(Clone, Copy, Debug)]
+pub struct Limits {
+    /// How many frames.
+    pub frames: u64,
+    /// How many commits.
+    pub kept: u64,
+}
+
+/// The load in the files of a folder, and the bytes of a file behind them. What can't be read is named before what is
+/// wrong with the load.
+fn read_all<'a, F: Place>(
+    alloc: Global,
+    directory: &'a str,
+    file: &'a str,
+    place: &mut F,
+) -> Result<(Load, Vec<u8>), RunFault<'a>>
+    ensures files { F.files place.new ≡ F.files place.old }
+    ensures read { IfOk result
+        (λ read. HasScript directory.entry.now file.entry.now (F.files place.old) read.0 read.1.items) }
+    ensures fault { IfErr result (IsReadAllFault directory.entry.now file.entry.now (F.files place.old)) }
+{
+    let loaded = read_load(alloc, place, directory);
+    if let Err(FileFault::CannotRead(table)) = loaded {
+        return Err(RunFault::of_files(directory, FileFault::CannotRead(table)));
+    }
+    let script = match place.read(alloc, file) {
+        Ok(script) => script,
+        Err(error) => return Err(why_unread(file, error)),
+    };
+    match loaded {
+        Ok(load) => Ok((load, script)),
+        Err(found) => Err(RunFault::of_files(directory, found)),
+    }
+}
+
+/// Why a file wasn't read: memory was refused, or it can't be.
+fn why_unread<'a>(file: &'a str, error: io::Error) -> RunFault<'a>
+    ensures { IsWhyUnread file.entry.now error result }
+{
+    match error.kind() {
+        io::ErrorKind::OutOfMemory => RunFault::Refused(Refusal::NoMemory),
+        _ => RunFault::CannotReadFile(file),
+    }
+}

@@ -1,4 +1,0 @@
-pub mod LastLaws
-pub mod NamedLaws
-pub mod GatherLaws
-pub mod LevelLaws

@@ -1,0 +1,3 @@
+pub mod MarkLaws
+pub mod ScenarioLaws
+pub mod ReportLaws

@@ -1,0 +1,33 @@
+use Rattle.std.proofs.Common.{◌≡◌, ◌∙◌, ap, inl, inr}
+use Rattle.hy_place.specs.Shelves.{files_on}
+use Rattle.hy_program.specs.Runs.{status_of}
+use Rattle.hy_scenarios.proofs.commands.run.Goals as goal
+
+pub returns-in_default : goal.returns-in_default
+returns-in_default c =
+    let no_out = c.new-out.ensures.items in
+    let no_err = c.new-err.ensures.items in
+    let is = c.in_default.ending-is in (
+      c.in_default.ending,
+      record {
+        status = c.status.ensures ∙ ap status_of is;
+        printed_all = λ failed. c.in_default.not-WriterFailed (is ∙ failed);
+        files = c.run_words.ensures.files;
+        done = λ done. (
+          rw no_out at (c.run_words.ensures.done (is ∙ done)),
+          ap (λ v. v.items) (c.run_words.ensures.done_without_words (is ∙ done)) ∙ no_err,
+        );
+        refused = λ refused. (
+          rw no_err at (c.run_words.ensures.refused (is ∙ refused)),
+          elim (c.run_words.ensures.refused_unprinted (is ∙ refused)) [
+            | inl same ↦ inl (ap (λ v. v.items) same ∙ no_out)
+            | inr ended ↦ inr (rw no_out at ended)
+          ],
+        );
+        no_line = λ none. (
+          c.run_words.ensures.at_fault (is ∙ none),
+          ap (λ v. v.items) (c.run_words.ensures.no_line (is ∙ none)).1 ∙ no_out,
+          ap (λ shelf. files_on shelf) (c.run_words.ensures.no_line (is ∙ none)).0,
+        );
+      },
+    )

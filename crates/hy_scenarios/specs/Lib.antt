@@ -1,0 +1,5 @@
+pub mod Marks
+pub mod Changes
+pub mod Commands
+pub mod Scenarios
+pub mod Reports

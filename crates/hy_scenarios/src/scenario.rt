@@ -1,0 +1,209 @@
+//! Runs a scenario.
+
+ghost use Rattle.std.specs.Prelude.{◌≡◌, IfOk, MatchOption, OnOk, false, is_none, option_map};
+ghost use Rattle.hy_place.specs.Shelves.{files_on};
+ghost use Rattle.hy_words.specs.CommandLine.{texts_of};
+ghost use Rattle.hy_place.specs.Files.{no_files};
+ghost use Rattle.hy_scenarios.specs.Commands.{given_words, words_of};
+ghost use Rattle.hy_scenarios.specs.Marks.{blocks_of};
+ghost use Rattle.hy_scenarios.specs.Scenarios.{AreDone, IsChanged, IsCommand, IsDone, IsFile, IsMade, IsRun, IsVerdict, Puts, PutsEvents};
+
+use crate::changes::{bytes_of, replaced};
+use crate::commands::{Output, as_texts, given_words, is_same, run, wanted_by};
+use crate::marks::{behind, body_of, has_mark, is_head, steps_of, text_behind};
+use hy_place::{Place, Shelf};
+use std::alloc::{AllocError, Global};
+use std::io;
+
+/// Why a block of a scenario doesn't hold.
+#[derive(Drop)]
+pub enum Failure {
+    /// It can't be done: it is no command of the program, a path or a word is no text, a step of a new file says no
+    /// bytes, or a file doesn't have the lines that are taken out.
+    Undone,
+    /// A command printed something else than what is wanted.
+    Printed { printed: Output, wanted: Output },
+}
+
+/// Puts a file on a shelf.
+fn put(shelf: &mut Shelf, path: &str, bytes: &[u8]) -> Result<(), AllocError>
+    ensures { OnOk result (Puts (files_on shelf.old) (files_on shelf.new) path.now bytes.now) }
+{
+    match shelf.write(path, bytes) {
+        Ok(()) => Ok(()),
+        Err(_) => Err(AllocError),
+    }
+}
+
+/// Puts the lines of events into the file `events`, where there are some.
+fn put_events(alloc: Global, body: &[&[u8]], shelf: &mut Shelf) -> Result<(), AllocError>
+    ensures { OnOk result (PutsEvents (files_on shelf.old) (files_on shelf.new) (texts_of body.entry.now)) }
+{
+    if !has_mark(b'<', body) {
+        return Ok(());
+    }
+    let events = text_behind(alloc, b'<', body)?;
+    put(shelf, "events", &events)
+}
+
+/// Runs a command on the files of a shelf, and compares what it prints.
+fn do_command(
+    alloc: Global,
+    words: &[&str],
+    body: &[&[u8]],
+    shelf: &mut Shelf,
+) -> Result<Option<Failure>, AllocError>
+    ensures { IfOk result (λ failure.
+        IsRun (texts_of words.entry.now) (texts_of body.entry.now) (files_on shelf.old) (files_on shelf.new)
+        (is_none failure)) }
+{
+    put_events(alloc, body, shelf)?;
+    let wanted = wanted_by(alloc, body)?;
+    let printed = run(alloc, words, shelf)?;
+    if is_same(&printed, &wanted) {
+        Ok(None)
+    } else {
+        Ok(Some(Failure::Printed { printed, wanted }))
+    }
+}
+
+/// Makes a file.
+fn do_file(
+    alloc: Global,
+    path: &str,
+    body: &[&[u8]],
+    shelf: &mut Shelf,
+) -> Result<Option<Failure>, AllocError>
+    ensures { IfOk result (λ failure.
+        IsMade path.now (texts_of body.entry.now) (files_on shelf.old) (files_on shelf.new) (is_none failure)) }
+{
+    let Some(bytes) = bytes_of(alloc, body)? else {
+        return Ok(Some(Failure::Undone));
+    };
+    put(shelf, path, &bytes)?;
+    Ok(None)
+}
+
+/// A file of a shelf, if it is there.
+fn file_at(alloc: Global, path: &str, shelf: &mut Shelf) -> Result<Option<Vec<u8>>, AllocError>
+    ensures file { IfOk result (λ file. option_map (λ bytes. bytes.items) file ≡ files_on shelf.old path.now) }
+    ensures stays { files_on shelf.new ≡ files_on shelf.old }
+{
+    match shelf.read(alloc, path) {
+        Ok(bytes) => Ok(Some(bytes)),
+        Err(error) => match error.kind() {
+            io::ErrorKind::OutOfMemory => Err(AllocError),
+            _ => Ok(None),
+        },
+    }
+}
+
+/// Changes a file.
+fn do_change(
+    alloc: Global,
+    path: &str,
+    body: &[&[u8]],
+    shelf: &mut Shelf,
+) -> Result<Option<Failure>, AllocError>
+    ensures { IfOk result (λ failure.
+        IsChanged path.now (texts_of body.entry.now) (files_on shelf.old) (files_on shelf.new) (is_none failure)) }
+{
+    let Some(bytes) = file_at(alloc, path, shelf)? else {
+        return Ok(Some(Failure::Undone));
+    };
+    let old = text_behind(alloc, b'-', body)?;
+    let new = text_behind(alloc, b'+', body)?;
+    let Some(changed) = replaced(alloc, &old, &new, &bytes)? else {
+        return Ok(Some(Failure::Undone));
+    };
+    put(shelf, path, &changed)?;
+    Ok(None)
+}
+
+/// Does a command line, where it names the program.
+fn do_line(
+    alloc: Global,
+    line: &[u8],
+    body: &[&[u8]],
+    shelf: &mut Shelf,
+) -> Result<Option<Failure>, AllocError>
+    ensures { IfOk result (λ failure. MatchOption (given_words (words_of line.now)) (is_none failure ≡ false)
+        (λ words. IsCommand words (texts_of body.entry.now) (files_on shelf.old) (files_on shelf.new)
+        (is_none failure))) }
+{
+    let Some(words) = given_words(alloc, line)? else {
+        return Ok(Some(Failure::Undone));
+    };
+    let Some(texts) = as_texts(alloc, &words)? else {
+        return Ok(Some(Failure::Undone));
+    };
+    do_command(alloc, &texts, body, shelf)
+}
+
+/// Does a block of a scenario.
+fn do_block(
+    alloc: Global,
+    head: &[u8],
+    body: &[&[u8]],
+    shelf: &mut Shelf,
+) -> Result<Option<Failure>, AllocError>
+    ensures { IfOk result (λ failure. IsDone (record { head = head.now; body = texts_of body.entry.now })
+        (files_on shelf.old) (files_on shelf.new) (is_none failure)) }
+{
+    if let Some(line) = behind(b'$', head) {
+        return do_line(alloc, line, body, shelf);
+    }
+    if let Some(path) = behind(b'>', head) {
+        return match std::str::from_utf8(path) {
+            Ok(path) => do_file(alloc, path, body, shelf),
+            Err(_) => Ok(Some(Failure::Undone)),
+        };
+    }
+    let Some(path) = behind(b'@', head) else {
+        return Ok(Some(Failure::Undone));
+    };
+    match std::str::from_utf8(path) {
+        Ok(path) => do_change(alloc, path, body, shelf),
+        Err(_) => Ok(Some(Failure::Undone)),
+    }
+}
+
+/// Why a scenario doesn't hold: the step that begins the block, and what is wrong with it.
+#[derive(Drop)]
+pub struct Fault<'a> {
+    /// The step that begins the block.
+    pub head: &'a [u8],
+    /// What is wrong with it.
+    pub failure: Failure,
+}
+
+/// Runs a scenario on files in memory: its first block that doesn't hold, or none.
+pub fn run_scenario<'a>(alloc: Global, text: &'a [u8]) -> Result<Option<Fault<'a>>, AllocError>
+    ensures { IfOk result (λ fault. IsVerdict text.entry.now (is_none fault)) }
+{
+    let steps = steps_of(alloc, text)?;
+    if steps.is_empty() || !is_head(steps[0]) {
+        return Ok(Some(Fault {
+            head: text,
+            failure: Failure::Undone,
+        }));
+    }
+    run_steps(alloc, &steps)
+}
+
+/// Runs the blocks of steps.
+fn run_steps<'a>(alloc: Global, steps: &[&'a [u8]]) -> Result<Option<Fault<'a>>, AllocError>
+    ensures { IfOk result (λ fault. AreDone (blocks_of (texts_of steps.entry.now)) no_files (is_none fault)) }
+{
+    let mut shelf = Shelf::new(alloc);
+    for (place, head) in steps.iter().enumerate() {
+        if !is_head(head) {
+            continue;
+        }
+        let body = body_of(&steps[place + 1..]);
+        if let Some(failure) = do_block(alloc, head, body, &mut shelf)? {
+            return Ok(Some(Fault { head, failure }));
+        }
+    }
+    Ok(None)
+}

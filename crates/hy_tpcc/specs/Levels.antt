@@ -1,0 +1,25 @@
+-- Items that are gathered one by one, each once.
+use Rattle.std.specs.Prelude.{ℕ, ◌+◌, ◌&&◌, not, Bool, if◌then◌else◌, List, [], ◌∷◌, ◌++◌, fold, map}
+use Rattle.hy_rows.specs.declared.order_line.OrderLine.{OrderLine}
+use Rattle.hy_index.specs.declared.key.Entry.{Entry}
+use Rattle.hy_index.specs.Index.{between}
+use Rattle.hy_store.specs.declared.keys.LineKey.{LineKey}
+use Rattle.hy_store.specs.Keys.{is_lesser_line}
+use Rattle.hy_writers.specs.Deliveries.{is_listed}
+use Rattle.hy_tpcc.specs.Lines.{lines_named}
+
+-- an item that passes is put behind the others, where it isn't there yet
+abbrev pub with_item : (ℕ → Bool) → List ℕ → ℕ → List ℕ
+with_item test low item = if test item && not (is_listed item low) then low ++ item ∷ [] else low
+
+abbrev pub with_items : (ℕ → Bool) → List ℕ → List ℕ → List ℕ
+with_items test low items = fold (with_item test) low items
+
+abbrev pub items_named : List OrderLine → List (Entry LineKey) → List ℕ
+items_named rows entries = map (λ (row : OrderLine). row.item) (lines_named rows entries)
+
+-- the entries of the lines of an order of a district
+abbrev pub entries_of : ℕ → ℕ → List (Entry LineKey) → List (Entry LineKey)
+entries_of order district entries =
+    between is_lesser_line (record { order = order; district = district; number = 0 })
+    (record { order = order; district = district + 1; number = 0 }) entries
