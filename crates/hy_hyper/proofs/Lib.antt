@@ -1,2 +1,1 @@
-pub mod OpenLaws
 pub mod StoreLaws

@@ -1,62 +1,42 @@
 //! Writers and places that fail, and memory that is refused.
 
-ghost use Rattle.std.specs.Prelude.{None, Some};
+ghost use Rattle.std.specs.Prelude.{None};
 
 use hy_commands::Reply;
 use hy_events::write_reply;
-use hy_place::{FileFault, Files, Place, read_load, write_load};
+use hy_place::{FileFault, Place, Shelf, read_load, write_load};
 use hy_program::{Ending, run_words};
 use hy_schema::{Refusal, Table};
 use hy_tables::generate;
 use std::alloc::Global;
-use std::test::Fail;
-use std::{fs, io};
-
-/// A place without files.
-#[derive(Drop)]
-struct Nowhere;
-
-impl Place for Nowhere {
-    ghost files = { λ _. Some (λ _. None) };
-
-    fn read(&mut self, _alloc: Global, _path: &str) -> io::Result<Vec<u8>> {
-        Err(io::Error::from(io::ErrorKind::NotFound))
-    }
-
-    fn write(&mut self, _path: &str, _bytes: &[u8]) -> io::Result<()> {
-        Err(io::Error::from(io::ErrorKind::PermissionDenied))
-    }
-
-    fn make_folder(&mut self, _path: &str) -> io::Result<()> {
-        Err(io::Error::from(io::ErrorKind::PermissionDenied))
-    }
-}
-
-/// A writer that refuses each byte.
-#[derive(Drop)]
-struct Broken;
-
-impl io::Write for Broken {
-    fn write(&mut self, _bytes: &[u8]) -> io::Result<usize> {
-        Err(io::Error::from(io::ErrorKind::BrokenPipe))
-    }
-
-    fn flush(&mut self) -> io::Result<()> {
-        Ok(())
-    }
-}
+use std::io;
+use std::process::Abort;
 
 /// A writer that takes so many bytes and then fails.
 #[derive(Drop)]
-struct Short(usize);
+struct Short {
+    left: usize,
+    is_empty: bool,
+}
+
+impl Short {
+    /// A writer of which nothing is taken yet.
+    fn new(left: usize) -> Short {
+        Short {
+            left,
+            is_empty: true,
+        }
+    }
+}
 
 impl io::Write for Short {
-    fn write(&mut self, buf: &[u8]) -> io::Result<usize> {
-        if self.0 == 0 {
+    fn write(&mut self, bytes: &[u8]) -> io::Result<usize> {
+        if self.left == 0 {
             return Err(io::Error::from(io::ErrorKind::BrokenPipe));
         }
-        let taken = buf.len().min(self.0);
-        self.0 -= taken;
+        let taken = bytes.len().min(self.left);
+        self.left -= taken;
+        self.is_empty = false;
         Ok(taken)
     }
 
@@ -90,71 +70,65 @@ impl Place for Locked {
     }
 }
 
-#[test]
-fn answers_1_where_a_writer_fails(rt: HostRuntime) -> Result<(), Fail> {
-    let alloc = rt.alloc();
-    let mut text = Vec::new(alloc);
-    assert_eq!(rt;
-        run_words(alloc, &["first"], &mut Nowhere, &mut Broken, &mut text),
-        Ending::WriterFailed
-    );
-    assert!(rt; !text.is_empty());
-    for words in [["--help"].as_slice(), &["first", "--amount", "99"]] {
-        let mut text = Vec::new(alloc);
-        assert_eq!(rt;
-            run_words(alloc, words, &mut Nowhere, &mut text, &mut Broken),
-            Ending::WriterFailed
-        );
-        assert!(rt; text.is_empty());
-    }
-    assert_eq!(rt; Ending::WriterFailed.status(), 1);
-    Ok(())
+/// Whether a reply of six bytes is written by a writer that takes so many.
+fn is_written(bytes: usize) -> bool {
+    write_reply(&mut Short::new(bytes), &Reply::StockLevel { low: 1 }).is_ok()
 }
 
 #[test]
-fn fails_as_the_writer_does(rt: HostRuntime) {
-    let reply = Reply::StockLevel { low: 1 };
-    assert!(rt; write_reply(&mut Short(6), &reply).is_ok());
-    assert!(rt; write_reply(&mut Short(5), &reply).is_err());
-    assert!(rt; write_reply(&mut Short(0), &reply).is_err());
+fn a_reply_fails_as_the_writer_does(rt: HostRuntime) {
+    assert!(rt; is_written(6));
+    assert!(rt; !is_written(5));
+    assert!(rt; !is_written(0));
+}
+
+/// How a run of the program ends whose writers take so many bytes, and whether each is left without a text.
+fn run(shelf: &mut Shelf, alloc: Global, words: &[&str], sizes: [usize; 2]) -> (Ending, [bool; 2]) {
+    let mut out = Short::new(sizes[0]);
+    let mut err = Short::new(sizes[1]);
+    let ending = run_words(alloc, words, shelf, &mut out, &mut err);
+    (ending, [out.is_empty, err.is_empty])
 }
 
 #[test]
-fn a_locked_file_is_named(rt: HostRuntime) -> Result<(), Fail> {
-    let alloc = rt.alloc();
-    let load = generate(alloc, 1, 1, 1).expect(&rt, "the size is in range");
+fn answers_1_where_a_writer_fails(rt: HostRuntime) {
+    let mut shelf = Shelf::new(rt.alloc());
+    let failed = Ending::WriterFailed;
+    assert!(rt; run(&mut shelf, rt.alloc(), &["first"], [0, 999]) == (failed, [true, false]));
+    assert!(rt; run(&mut shelf, rt.alloc(), &["--help"], [999, 0]) == (failed, [true, true]));
+    let words = ["first", "--amount", "99"];
+    assert!(rt; run(&mut shelf, rt.alloc(), &words, [999, 0]) == (failed, [true, true]));
+    assert!(rt; failed.status() == 1);
+}
+
+#[test]
+fn first_leaves_a_shelf(rt: HostRuntime) {
+    let mut shelf = Shelf::new(rt.alloc());
+    let (ending, _) = run(&mut shelf, rt.alloc(), &["first"], [999, 999]);
+    assert!(rt; ending == Ending::Done);
+    assert!(rt; shelf.read(rt.alloc(), "ytd").is_err());
+}
+
+/// Why a load isn't written where one file is locked.
+fn locked_out(rt: &(impl Abort + AllocGlobal), path: &'static str) -> Option<FileFault> {
+    let load = generate(rt.alloc(), 1, 1, 1).expect(rt, "a load");
+    write_load(rt.alloc(), &mut Locked { path }, "data", &load).err()
+}
+
+#[test]
+fn a_locked_file_is_named(rt: HostRuntime) {
     for (path, table) in [
         ("data/warehouse.csv", Table::Warehouse),
         ("data/neworder.csv", Table::NewOrder),
         ("data/history.csv", Table::History),
     ] {
-        let fault = write_load(alloc, &mut Locked { path }, "data", &load).err();
-        assert_eq!(rt; fault, Some(FileFault::CannotWrite(table)));
+        assert!(rt; locked_out(&rt, path) == Some(FileFault::CannotWrite(table)));
     }
-    let mut open = Locked { path: "data" };
-    assert!(rt; write_load(alloc, &mut open, "data", &load).is_ok());
-    Ok(())
+    assert!(rt; locked_out(&rt, "data") == None);
 }
 
 #[test]
-fn refused_memory_is_no_missing_file(rt: HostRuntime) -> Result<(), Fail> {
-    let alloc = rt.alloc();
-    let fault = read_load(alloc, &mut Locked { path: "data" }, "data").err();
-    assert_eq!(rt; fault, Some(FileFault::Refused(Refusal::NoMemory)));
-    Ok(())
-}
-
-#[test]
-fn the_system_keeps_files(rt: HostRuntime) {
-    let alloc = rt.alloc();
-    let path = "/tmp/hy_hyper_the_system_keeps_files";
-    let mut files = Files::new(&rt);
-    for bytes in ["one", "three"] {
-        assert!(rt; files.write(path, bytes.as_bytes()).is_ok());
-        let read = files.read(alloc, path).expect(&rt, "a file");
-        assert!(rt; read.as_slice() == bytes.as_bytes());
-    }
-    assert!(rt; fs::remove_file(&rt, path).is_ok());
-    assert!(rt; files.read(alloc, path).is_err());
-    assert!(rt; files.write("/tmp/no such folder/file", b"one").is_err());
+fn refused_memory_is_no_missing_file(rt: HostRuntime) {
+    let fault = read_load(rt.alloc(), &mut Locked { path: "data" }, "data").err();
+    assert!(rt; fault == Some(FileFault::Refused(Refusal::NoMemory)));
 }

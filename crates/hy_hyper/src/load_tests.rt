@@ -1,51 +1,68 @@
-//! Loads in files, and generated ones.
+//! Loads in files: the nine files of an example, a large generated load, and the files of the system.
 
 use crate::example::FILES;
-use hy_place::{Place, Shelf, read_load, write_load};
-use hy_program::{Ending, run_words};
+use hy_place::{Files, Place, Shelf, read_load, write_load};
 use hy_rows::Customer;
 use hy_tables::generate;
-use std::alloc::Global;
+use hy_words::{Line, read_words};
+use std::fs;
 use std::process::Abort;
 
-/// A shelf with the example's files in the folder `db`.
-fn example(rt: &impl Abort, alloc: Global) -> Shelf {
-    let mut shelf = Shelf::new(alloc);
-    for (name, text) in FILES {
-        let path = format!(in alloc; "db/{name}").expect(rt, "a path");
-        shelf
-            .write(path.as_str(), text.as_bytes())
-            .expect(rt, "a file");
-    }
+/// The path of a file in a folder.
+fn path_in(rt: &(impl Abort + AllocGlobal), folder: &str, name: &str) -> String {
+    format!(in rt.alloc(); "{folder}/{name}").expect(rt, "a path")
+}
+
+/// Puts a file of the example on a shelf, in the folder `db`.
+fn put(rt: &(impl Abort + AllocGlobal), shelf: &mut Shelf, name: &str, text: &str) {
+    let path = path_in(rt, "db", name);
     shelf
+        .write(path.as_str(), text.as_bytes())
+        .expect(rt, "a file");
+}
+
+/// Whether a file of the folder `copy` has this text.
+fn is_copied(rt: &(impl Abort + AllocGlobal), shelf: &mut Shelf, name: &str, text: &str) -> bool {
+    let path = path_in(rt, "copy", name);
+    let bytes = shelf.read(rt.alloc(), path.as_str()).expect(rt, "a file");
+    bytes.as_slice() == text.as_bytes()
 }
 
 #[test]
 fn a_load_is_saved_as_it_was(rt: HostRuntime) {
-    let alloc = rt.alloc();
-    let mut shelf = example(&rt, alloc);
-    let load = read_load(alloc, &mut shelf, "db").expect(&rt, "a load");
-    write_load(alloc, &mut shelf, "copy", &load).expect(&rt, "files");
+    let mut shelf = Shelf::new(rt.alloc());
     for (name, text) in FILES {
-        let path = format!(in alloc; "copy/{name}").expect(&rt, "a path");
-        let bytes = shelf.read(alloc, path.as_str()).expect(&rt, "a file");
-        assert!(rt; bytes.as_slice() == text.as_bytes(), "not {name}");
+        put(&rt, &mut shelf, name, text);
+    }
+    let load = read_load(rt.alloc(), &mut shelf, "db").expect(&rt, "a load");
+    write_load(rt.alloc(), &mut shelf, "copy", &load).expect(&rt, "files");
+    for (name, text) in FILES {
+        assert!(rt; is_copied(&rt, &mut shelf, name, text));
     }
 }
 
 #[test]
-fn first_leaves_a_shelf(rt: HostRuntime) {
-    let alloc = rt.alloc();
-    let mut shelf = Shelf::new(alloc);
-    let mut out = Vec::new(alloc);
-    let mut err = Vec::new(alloc);
-    let ending = run_words(alloc, &["first"], &mut shelf, &mut out, &mut err);
-    assert_eq!(rt; ending, Ending::Done);
-    assert!(rt; shelf.read(alloc, "ytd").is_err());
+fn generates_many_customers(rt: HostRuntime) {
+    let load = generate(rt.alloc(), 1, 1001, 1).expect(&rt, "a load");
+    assert!(rt; load.list::<Customer>().len() == 10_010);
 }
 
 #[test]
-fn generates_customers(rt: HostRuntime) {
-    let load = generate(rt.alloc(), 1, 1001, 1).expect(&rt, "a load");
-    assert_eq!(rt; load.list::<Customer>().len(), 10_010);
+fn a_folder_has_any_letters(rt: HostRuntime) {
+    let line = read_words(rt.alloc(), &["check", "ä/ß"]).expect(&rt, "a command line");
+    assert!(rt; line == Line::Check { directory: "ä/ß" });
+}
+
+#[test]
+fn the_system_keeps_files(rt: HostRuntime) {
+    let path = "/tmp/hy_hyper_the_system_keeps_files";
+    let mut files = Files::new(&rt);
+    for bytes in ["one", "three"] {
+        assert!(rt; files.write(path, bytes.as_bytes()).is_ok());
+        let read = files.read(rt.alloc(), path).expect(&rt, "a file");
+        assert!(rt; read.as_slice() == bytes.as_bytes());
+    }
+    assert!(rt; fs::remove_file(&rt, path).is_ok());
+    assert!(rt; files.read(rt.alloc(), path).is_err());
+    assert!(rt; files.write("/tmp/no such folder/file", b"one").is_err());
 }

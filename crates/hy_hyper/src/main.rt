@@ -6,15 +6,13 @@ mod system;
 use std::process::ExitCode;
 
 #[cfg(test)]
-mod command_tests;
-#[cfg(test)]
 mod example;
 #[cfg(test)]
 mod failing_tests;
 #[cfg(test)]
 mod load_tests;
 #[cfg(test)]
-mod record_tests;
+mod partition_tests;
 #[cfg(test)]
 mod row_tests;
 #[cfg(test)]

@@ -1,80 +1,27 @@
-//! Rows as bytes, lists of rows, texts, and refusals that nothing prints yet.
+//! Rows, texts and refusals: as bytes, in lists and tables, as records of CSV texts; and values of commands.
 
+ghost use Rattle.std.specs.Prelude.{◌≡◌, length};
+
+use hy_commands::{
+    Command, Name, Payment, PlacedOrder, Purchase, PurchaseLine, PurchaseLines, StatusLines, Who,
+};
+use hy_layout::Layout;
+use hy_records::{CsvRow, Reading, read, write};
 use hy_rows::{
-    Customer, District, Item, Lists, OrderLine, Row, SlotBytes, Stock, Tables, Text, Warehouse,
+    Customer, District, Item, Lists, NewOrder, Order, OrderLine, Row, SlotBytes, Stock, Tables,
+    Text, Warehouse,
 };
 use hy_schema::Refusal;
-use std::alloc::Global;
+use hy_tables::generate;
 use std::process::Abort;
-use std::test::Fail;
 
-/// A fresh warehouse with ten districts of three customers.
-fn fresh(rt: &impl Abort, alloc: Global) -> Result<Tables, Fail> {
-    let mut warehouses = Vec::new(alloc);
-    warehouses.push(warehouse(rt))?;
-    let mut districts = Vec::new(alloc);
-    let mut customers = Vec::new(alloc);
-    for number in 1..=10 {
-        districts.push(district(rt, number))?;
-        for id in 1..=3 {
-            customers.push(customer(rt, number, id))?;
-        }
-    }
-    Ok(Tables {
-        warehouses,
-        districts,
-        customers,
-        history: Vec::new(alloc),
-        new_orders: Vec::new(alloc),
-        orders: Vec::new(alloc),
-        order_lines: Vec::new(alloc),
-        stock: Vec::new(alloc),
-    })
-}
-
+/// A text that fits.
 fn text<const WIDTH: usize>(rt: &impl Abort, bytes: &[u8]) -> Text<WIDTH> {
     Text::new(bytes).expect(rt, "the text fits")
 }
 
-fn warehouse(rt: &impl Abort) -> Warehouse {
-    Warehouse {
-        id: 1,
-        name: text(rt, b"W1"),
-        tax: 500,
-        ytd: 30_000,
-    }
-}
-
-fn district(rt: &impl Abort, id: u8) -> District {
-    District {
-        id,
-        warehouse: 1,
-        name: text(rt, b"D3"),
-        tax: 300,
-        ytd: 3_000,
-        next_order: 1,
-    }
-}
-
-fn customer(rt: &impl Abort, district: u8, id: u16) -> Customer {
-    Customer {
-        id,
-        district,
-        warehouse: 1,
-        first: text(rt, b"F0002"),
-        middle: text(rt, b"OE"),
-        last: text(rt, b"BARBAROUGHT"),
-        credit: text(rt, b"GC"),
-        discount: 200,
-        balance: -1_000,
-        ytd_payment: 1_000,
-        payment_count: 1,
-        delivery_count: 0,
-    }
-}
-
 #[test]
-fn refusals_print_their_numbers_and_names(rt: HostRuntime) -> Result<(), Fail> {
+fn refusals_print_their_numbers_and_names(rt: HostRuntime) {
     let cases = [
         (Refusal::NoMemory, "E1 NoMemory"),
         (Refusal::NotMine, "E11 NotMine"),
@@ -85,53 +32,77 @@ fn refusals_print_their_numbers_and_names(rt: HostRuntime) -> Result<(), Fail> {
         (Refusal::QueueFull, "E17 QueueFull"),
     ];
     for (refusal, text) in cases {
-        assert_eq!(rt; format!(in rt.alloc(); "{refusal}")?.as_str(), text);
+        let printed = format!(in rt.alloc(); "{refusal}").expect(&rt, "a text");
+        assert_eq!(rt; printed.as_str(), text);
     }
-    Ok(())
 }
 
 #[test]
-fn tables_of_one_warehouse(rt: HostRuntime) -> Result<(), Fail> {
-    let tables = fresh(&rt, rt.alloc())?;
-    let own = tables.of_warehouse(rt.alloc(), 1)?;
-    assert_eq!(rt; own.list::<Warehouse>().len(), 1);
-    assert_eq!(rt; own.list::<District>(), tables.list::<District>());
-    assert_eq!(rt; own.list::<Customer>().len(), 30);
-    let other = tables.of_warehouse(rt.alloc(), 2)?;
-    assert_eq!(rt; other.list::<Warehouse>().is_empty(), true);
-    assert_eq!(rt; other.list::<Customer>().is_empty(), true);
-    Ok(())
+fn tables_of_one_warehouse(rt: HostRuntime) {
+    let load = generate(rt.alloc(), 1, 3, 1).expect(&rt, "a load");
+    let tables = load.tables();
+    let own = tables.of_warehouse(rt.alloc(), 1).expect(&rt, "its rows");
+    assert!(rt; own.list::<Warehouse>().len() == 1);
+    assert!(rt; own.list::<District>() == tables.list::<District>());
+    assert!(rt; own.list::<Customer>().len() == 30);
+    let other = tables.of_warehouse(rt.alloc(), 2).expect(&rt, "no rows");
+    assert!(rt; other.list::<Warehouse>().is_empty());
+    assert!(rt; other.list::<Customer>().is_empty());
+}
+
+/// Whether a row is written as these bytes, and read from them.
+fn is_bytes<R: Row + PartialEq>(row: R, bytes: &[u8]) -> bool
+    requires { length bytes.now ≡ R.BYTES }
+{
+    let mut slot = SlotBytes::new();
+    row.encode(&mut slot);
+    slot.as_slice() == bytes && R::decode(bytes) == row
 }
 
 #[test]
 fn rows_are_bytes(rt: HostRuntime) {
-    let mut slot = SlotBytes::new();
-    let row = warehouse(&rt);
-    row.encode(&mut slot);
+    let row = Warehouse {
+        id: 1,
+        name: text(&rt, b"W1"),
+        tax: 500,
+        ytd: 30_000,
+    };
     let bytes = b"\x01W1\0\0\0\0\0\0\0\0\xf4\x01\x30\x75\0\0\0\0\0\0";
-    assert_eq!(rt; slot.as_slice(), bytes.as_slice());
-    assert_eq!(rt; Warehouse::decode(bytes), row);
-
-    let mut slot = SlotBytes::new();
-    let row = district(&rt, 3);
-    row.encode(&mut slot);
+    assert!(rt; is_bytes(row, bytes));
+    let row = District {
+        id: 3,
+        warehouse: 1,
+        name: text(&rt, b"D3"),
+        tax: 300,
+        ytd: 3_000,
+        next_order: 1,
+    };
     let bytes = b"\x03\x01D3\0\0\0\0\0\0\0\0\x2c\x01\xb8\x0b\0\0\0\0\0\0\x01\0\0\0";
-    assert_eq!(rt; slot.as_slice(), bytes.as_slice());
-    assert_eq!(rt; District::decode(bytes), row);
+    assert!(rt; is_bytes(row, bytes));
 }
 
 #[test]
 fn customers_are_bytes(rt: HostRuntime) {
-    let mut slot = SlotBytes::new();
-    let row = customer(&rt, 3, 2);
-    row.encode(&mut slot);
+    let row = Customer {
+        id: 2,
+        district: 3,
+        warehouse: 1,
+        first: text(&rt, b"F0002"),
+        middle: text(&rt, b"OE"),
+        last: text(&rt, b"BARBAROUGHT"),
+        credit: text(&rt, b"GC"),
+        discount: 200,
+        balance: -1_000,
+        ytd_payment: 1_000,
+        payment_count: 1,
+        delivery_count: 0,
+    };
     let bytes = b"\x02\0\x03\x01F0002\0\0\0\0\0\0\0\0\0\0\0OEBARBAROUGHT\0\0\0\0\0GC\xc8\0\
         \x18\xfc\xff\xff\xff\xff\xff\xff\xe8\x03\0\0\0\0\0\0\x01\0\0\0\0\0\0\0\0\0\0\0\0\0\0\0";
-    assert_eq!(rt; slot.as_slice(), bytes.as_slice());
-    assert_eq!(rt; Customer::decode(bytes), row);
+    assert!(rt; is_bytes(row, bytes));
 }
 
-/// The line of the worked example.
+/// A line of an order.
 fn line() -> OrderLine {
     OrderLine {
         order: 3_001,
@@ -148,59 +119,230 @@ fn line() -> OrderLine {
 
 #[test]
 fn lines_are_bytes(rt: HostRuntime) {
-    let mut slot = SlotBytes::new();
-    line().encode(&mut slot);
     let bytes =
         b"\xb9\x0b\0\0\x05\x06\x08\x70\x11\x01\0\x0a\x01\xf1\x53\x65\0\0\0\0\x09\x40\xe2\x01\0\0\0\0\0";
-    assert_eq!(rt; slot.as_slice(), bytes.as_slice());
-    assert_eq!(rt; OrderLine::decode(bytes), line());
+    assert!(rt; is_bytes(line(), bytes));
     assert!(rt; line().is_in_range());
     assert!(rt; line().belongs_to(6));
 }
 
 #[test]
-fn lists_of_all_tables(rt: HostRuntime) -> Result<(), Fail> {
+fn lists_of_all_tables(rt: HostRuntime) {
     let alloc = rt.alloc();
-    let mut items = Vec::new(alloc);
-    items.push(Item {
+    let item = Item {
         id: 1,
         image: 1,
         name: text(&rt, b"one"),
         price: 100,
-    })?;
-    let mut order_lines = Vec::new(alloc);
-    order_lines.push(line())?;
-    let tables = Tables {
-        warehouses: Vec::new(alloc),
-        districts: Vec::new(alloc),
-        customers: Vec::new(alloc),
-        history: Vec::new(alloc),
-        new_orders: Vec::new(alloc),
-        orders: Vec::new(alloc),
-        order_lines,
-        stock: Vec::new(alloc),
     };
-    let lists = Lists { items, tables };
-    assert_eq!(rt; lists.list::<Item>().len(), 1);
+    let lists = Lists {
+        items: Vec::from_slice(alloc, &[item]).expect(&rt, "a row"),
+        tables: Tables {
+            warehouses: Vec::new(alloc),
+            districts: Vec::new(alloc),
+            customers: Vec::new(alloc),
+            history: Vec::new(alloc),
+            new_orders: Vec::new(alloc),
+            orders: Vec::new(alloc),
+            order_lines: Vec::from_slice(alloc, &[line()]).expect(&rt, "a row"),
+            stock: Vec::new(alloc),
+        },
+    };
+    assert!(rt; lists.list::<Item>().len() == 1);
     assert!(rt; lists.list::<Item>().iter().all(|item| item.is_in_range()));
-    assert_eq!(rt; lists.list::<OrderLine>().first(), Some(&line()));
-    assert_eq!(rt; lists.list::<Stock>().is_empty(), true);
-    Ok(())
+    assert!(rt; lists.list::<OrderLine>().first() == Some(&line()));
+    assert!(rt; lists.list::<Stock>().is_empty());
 }
 
 #[test]
 fn texts(rt: HostRuntime) {
-    let name = Text::<4>::new(b"AB");
-    assert_eq!(rt;
-        name.map(|text| text.as_bytes() == b"AB".as_slice()),
-        Some(true)
-    );
-    assert_eq!(rt;
-        name.map(|text| text.field() == b"AB\0\0".as_slice()),
-        Some(true)
-    );
-    assert_eq!(rt; name, Some(Text::of_field(b"AB\0C")));
-    assert_eq!(rt; Text::<4>::new(b"ABCDE"), None);
-    assert_eq!(rt; Text::<4>::new(b"A\0B"), None);
+    let name = text::<4>(&rt, b"AB");
+    assert!(rt; name.as_bytes() == b"AB".as_slice());
+    assert!(rt; name.field() == b"AB\0\0".as_slice());
+    assert!(rt; name == Text::of_field(b"AB\0C"));
+    assert!(rt; Text::<4>::new(b"ABCDE").is_none());
+    assert!(rt; Text::<4>::new(b"A\0B").is_none());
     assert!(rt; !text::<4>(&rt, b"A\n").is_printable());
+}
+
+/// Whether rows are written as this text, and read from it.
+fn is_text<R: CsvRow + PartialEq>(
+    rt: &(impl Abort + AllocGlobal),
+    rows: &[R],
+    expected: &[u8],
+) -> bool {
+    let text = write(rt.alloc(), rows).expect(rt, "a text");
+    let found: Reading<R> = read(rt.alloc(), expected).expect(rt, "rows");
+    text.as_slice() == expected && found.rows.as_slice() == rows && found.unread == None
+}
+
+#[test]
+fn writes_customers(rt: HostRuntime) {
+    let customer = Customer {
+        id: 3_000,
+        district: 2,
+        warehouse: 1,
+        first: text(&rt, b"F3000"),
+        middle: text(&rt, b"OE"),
+        last: text(&rt, b"BARBARBAR"),
+        credit: text(&rt, b"BC"),
+        discount: 5_000,
+        balance: i64::MIN,
+        ytd_payment: i64::MAX,
+        payment_count: u64::MAX,
+        delivery_count: 0,
+    };
+    let expected =
+        b"C_ID,C_D_ID,C_W_ID,C_FIRST,C_MIDDLE,C_LAST,C_CREDIT,C_DISCOUNT,C_BALANCE,C_YTD_PAYMENT,C_PAYMENT_CNT,C_DELIVERY_CNT\n3000,2,1,F3000,OE,BARBARBAR,BC,5000,-9223372036854775808,9223372036854775807,18446744073709551615,0\n";
+    assert!(rt; is_text(&rt, &[customer], expected));
+}
+
+#[test]
+fn writes_orders(rt: HostRuntime) {
+    let new_order = NewOrder {
+        order: 2_101,
+        district: 9,
+        warehouse: 5,
+    };
+    let expected = b"NO_O_ID,NO_D_ID,NO_W_ID\n2101,9,5\n";
+    assert!(rt; is_text(&rt, &[new_order], expected));
+    let order = Order {
+        id: u32::MAX,
+        district: 1,
+        warehouse: 2,
+        customer: 3,
+        entry_date: 4,
+        carrier: 0,
+        line_count: 15,
+        all_local: 1,
+    };
+    let expected =
+        b"O_ID,O_D_ID,O_W_ID,O_C_ID,O_ENTRY_D,O_CARRIER_ID,O_OL_CNT,O_ALL_LOCAL\n4294967295,1,2,3,4,0,15,1\n";
+    assert!(rt; is_text(&rt, &[order], expected));
+}
+
+#[test]
+fn writes_order_lines(rt: HostRuntime) {
+    let line = OrderLine {
+        order: 1,
+        district: 2,
+        warehouse: 3,
+        number: 4,
+        item: 100_000,
+        supply_warehouse: 6,
+        delivery_date: 0,
+        quantity: 10,
+        amount: 1_234,
+    };
+    let expected =
+        b"OL_O_ID,OL_D_ID,OL_W_ID,OL_NUMBER,OL_I_ID,OL_SUPPLY_W_ID,OL_DELIVERY_D,OL_QUANTITY,OL_AMOUNT\n1,2,3,4,100000,6,0,10,1234\n1,2,3,4,100000,6,0,10,1234\n";
+    assert!(rt; is_text(&rt, &[line, line], expected));
+}
+
+/// An item with a name.
+fn item(rt: &impl Abort, name: &[u8]) -> Item {
+    Item {
+        id: 1,
+        image: 2,
+        name: text(rt, name),
+        price: 100,
+    }
+}
+
+#[test]
+fn writes_texts_in_quotes(rt: HostRuntime) {
+    let items = [item(&rt, b""), item(&rt, b" a, b"), item(&rt, b"a \"b\" ~")];
+    let expected =
+        b"I_ID,I_IM_ID,I_NAME,I_PRICE\n1,2,,100\n1,2,\" a, b\",100\n1,2,\"a \"\"b\"\" ~\",100\n";
+    assert!(rt; is_text(&rt, &items, expected));
+}
+
+/// Whether a text says one row, and nothing that is none.
+fn is_one_row<R: CsvRow>(rt: &(impl Abort + AllocGlobal), text: &[u8]) -> bool {
+    let found: Reading<R> = read(rt.alloc(), text).expect(rt, "rows");
+    found.rows.len() == 1 && found.unread == None
+}
+
+#[test]
+fn reads_the_ends_of_the_column_types(rt: HostRuntime) {
+    let text =
+        b"S_I_ID,S_W_ID,S_QUANTITY,S_YTD,S_ORDER_CNT,S_REMOTE_CNT\n4294967295,255,65535,0,0,18446744073709551615\n";
+    assert!(rt; is_one_row::<Stock>(&rt, text));
+    let text = b"W_ID,W_NAME,W_TAX,W_YTD\n1,a,2,-9223372036854775808\n";
+    assert!(rt; is_one_row::<Warehouse>(&rt, text));
+    let text = b"W_ID,W_NAME,W_TAX,W_YTD\n1,a,2,9223372036854775807\n";
+    assert!(rt; is_one_row::<Warehouse>(&rt, text));
+}
+
+/// A line of an order that a warehouse supplies.
+fn line_of(item: u64, supply_warehouse: u64) -> PurchaseLine {
+    PurchaseLine {
+        item,
+        supply_warehouse,
+        quantity: 5,
+    }
+}
+
+/// Whether an order in warehouse 1 of five items, the last of which another warehouse may supply, names these.
+fn names_warehouses(
+    rt: &(impl Abort + AllocGlobal),
+    supply_warehouse: u64,
+    expected: &[u64],
+) -> bool {
+    let lines = [
+        line_of(1, 1),
+        line_of(2, 1),
+        line_of(3, 1),
+        line_of(4, 1),
+        line_of(5, supply_warehouse),
+    ];
+    let lines = Vec::from_slice(rt.alloc(), &lines).expect(rt, "lines");
+    let order = Command::NewOrder(Purchase {
+        warehouse: 1,
+        district: 2,
+        customer: 3,
+        at: 1,
+        lines: PurchaseLines::new(lines),
+    });
+    assert!(rt; order.check().is_ok());
+    order.warehouses().as_slice() == expected
+}
+
+#[test]
+fn commands_name_warehouses(rt: HostRuntime) {
+    assert!(rt; names_warehouses(&rt, 1, &[1]));
+    assert!(rt; names_warehouses(&rt, 7, &[1, 7]));
+    let payment = Command::Payment(Payment {
+        warehouse: 1,
+        district: 1,
+        customer_warehouse: 2,
+        customer_district: 3,
+        who: Who::Number(65_537),
+        amount: 100,
+        at: 1,
+    });
+    assert!(rt; payment.warehouses().as_slice() == [1, 2].as_slice());
+}
+
+#[test]
+fn values_of_commands_are_slices(rt: HostRuntime) {
+    let lines = Vec::from_slice(rt.alloc(), &[line_of(1, 1)]).expect(&rt, "a line");
+    assert!(rt; PurchaseLines::new(lines).as_slice().len() == 1);
+    assert!(rt; Name::new(Vec::new(rt.alloc())).as_bytes().len() == 0);
+    let order = PlacedOrder {
+        number: 1,
+        entry_date: 2,
+        carrier: 0,
+        lines: StatusLines::new(Vec::new(rt.alloc())),
+    };
+    assert!(rt; order.lines.as_slice().len() == 0);
+}
+
+#[test]
+fn a_layout_has_its_load(rt: HostRuntime) {
+    let load = generate(rt.alloc(), 2, 3, 2).expect(&rt, "a load");
+    assert!(rt; load.tables().warehouses.len() == 2);
+    let layout = Layout::new(rt.alloc(), &load, 2).expect(&rt, "a layout");
+    assert!(rt; layout.warehouse() == 2);
+    assert!(rt; layout.load().tables().stock.len() == 4);
 }

@@ -1,31 +1,151 @@
-//! Snapshots beside payments, with small and with large pages.
+//! Snapshots beside payments and orders, with small and with large pages.
 
+ghost use Rattle.std.specs.Prelude.{◌≡◌, ◌≤◌};
 ghost use Rattle.hy_frames.specs.FrameTable.{IsPageSize};
-ghost use Rattle.hy_partition.specs.Steps.{Closes, Forks};
-ghost use Rattle.hy_hyper.specs.Open.{Holds, KeepsOpen};
 
 use hy_commands::{Command, Payment, Purchase, PurchaseLine, PurchaseLines, Reply, Who};
 use hy_partition::{Job, Partition, Progress, Snapshot};
 use hy_rows::{District, NewOrder, Order, Stock, Warehouse};
 use hy_schema::Refusal;
 use hy_tables::generate;
+use std::marker::Model;
 use std::process::Abort;
-use std::test::Fail;
 
 /// How many frames the partitions may have.
 const FRAMES: u64 = 1000;
 
-/// The partition of a generated warehouse of three customers a district.
-fn begun<const N: usize>(rt: &(impl Abort + AllocGlobal)) -> Partition<N>
-    requires { IsPageSize N }
-{
-    let load = generate(rt.alloc(), 1, 3, 1).expect(rt, "a load");
-    Partition::new(rt.alloc(), &load, 1, FRAMES, 1000).expect(rt, "a partition")
+/// A partition with the snapshots that are open of it, in the order in which they were taken.
+struct Forked<const N: usize> {
+    partition: Partition<N>,
+    snapshots: Vec<Snapshot<N>>,
+}
+
+// Each snapshot is open, with a child of its own. Clauses see the partition.
+impl<const N: usize> Model for Forked<N> {
+    ghost use Rattle.hy_partition.specs.Partition.{PartitionState};
+    ghost use Rattle.hy_script.specs.inside.Open.{AreOpen};
+
+    ghost Value = { PartitionState };
+
+    ghost view = { λ forked. forked.partition };
+
+    ghost invariant = { λ forked.
+        AreOpen forked.partition.warehouse forked.partition.snapshots forked.snapshots.items };
+}
+
+impl<const N: usize> Forked<N> {
+    /// The partition of a generated warehouse of three customers a district, without a snapshot.
+    fn new(rt: &(impl Abort + AllocGlobal), items: u64) -> Forked<N>
+        requires { IsPageSize N }
+    {
+        let load = generate(rt.alloc(), 1, 3, items).expect(rt, "a load");
+        let partition = Partition::new(rt.alloc(), &load, 1, FRAMES, 1000).expect(
+            rt,
+            "a partition",
+        );
+        Forked {
+            partition,
+            snapshots: Vec::new(rt.alloc()),
+        }
+    }
+
+    /// Takes a snapshot of all that is kept, behind the others.
+    fn fork(&mut self, rt: &impl Abort) -> Result<(), Refusal> {
+        self.snapshots.reserve(1).expect(rt, "a place");
+        let snapshot = self.partition.fork()?;
+        self.snapshots.push_reserved(snapshot);
+        Ok(())
+    }
+
+    /// Closes the snapshot at a place.
+    fn close(&mut self, rt: &impl Abort, place: usize) {
+        assert!(rt; place < self.snapshots.len());
+        let snapshot = self.snapshots.remove(place);
+        match self.partition.close(snapshot) {
+            Ok(()) => {}
+            Err(_) => panic!(rt; "a snapshot of another partition"),
+        }
+    }
+
+    /// Begins a command.
+    fn begin(&mut self, command: Command) -> Result<(), Refusal> {
+        match self.partition.begin(Job::new(command)) {
+            Ok(()) => Ok(()),
+            Err((_job, refusal)) => Err(refusal),
+        }
+    }
+
+    /// One slice of the job that runs.
+    fn step(&mut self) -> Result<Progress, Refusal> {
+        self.partition.step()
+    }
+
+    /// All slices of the job that runs.
+    fn finish(&mut self) {
+        self.partition.finish_running();
+    }
+
+    /// The answer that waits to be taken.
+    fn answer(&mut self) -> Option<Reply> {
+        self.partition.take_done().map(|done| done.open())
+    }
+
+    /// Lets so many frames be free, of which there may be `FRAMES` until then.
+    fn limit(&mut self, rt: &impl Abort, free: u64) {
+        let used = FRAMES.saturating_sub(self.partition.free());
+        assert!(rt; self.partition.set_max(used.saturating_add(free)).is_ok());
+    }
+
+    /// The number of the warehouse.
+    fn warehouse(&self) -> u8 {
+        self.partition.warehouse()
+    }
+
+    /// Whether the next slice is the last one.
+    fn at_last(&self) -> bool {
+        self.partition.at_last()
+    }
+
+    /// How many frames are free.
+    fn free(&self) -> u64 {
+        self.partition.free()
+    }
+
+    /// How many frames more than one page table maps.
+    fn shared(&self) -> u64 {
+        self.partition.shared()
+    }
+
+    /// How many pages the job that runs has written.
+    fn touched(&self) -> u64 {
+        self.partition.touched()
+    }
+
+    /// How many commits are kept.
+    fn kept(&self) -> usize {
+        self.partition.kept().len()
+    }
+
+    /// The snapshot at a place.
+    fn snapshot(&self, rt: &impl Abort, place: usize) -> &Snapshot<N> {
+        self.snapshots.get(place).expect(rt, "a snapshot")
+    }
+
+    /// The partition, of which no snapshot is open any more, is given up. Answers how many frames are free.
+    fn end(self, rt: &impl Abort) -> u64 {
+        let Forked {
+            partition,
+            snapshots,
+        } = self;
+        assert!(rt; snapshots.is_empty() && partition.shared() == 0);
+        snapshots.destroy_empty();
+        partition.free()
+    }
 }
 
 /// A payment by customer 1 of district 1.
-fn payment(amount: u64) -> Job {
-    Job::new(Command::Payment(Payment {
+fn payment(amount: u64) -> Command {
+    Command::Payment(Payment {
         warehouse: 1,
         district: 1,
         customer_warehouse: 1,
@@ -33,484 +153,351 @@ fn payment(amount: u64) -> Job {
         who: Who::Number(1),
         amount,
         at: 1,
-    }))
+    })
 }
 
 /// The balance that a reply to a payment tells, in cents, or why it was refused.
-fn balance_of(reply: Reply) -> Result<i64, Refusal> {
+fn balance_of(reply: Option<Reply>) -> Result<i64, Refusal> {
     match reply {
-        Reply::Payment { balance, .. } => Ok(balance),
-        Reply::Refused(refusal) => Err(refusal),
-        _ => Err(Refusal::OutOfRange),
-    }
-}
-
-/// The balance after a payment, or why it was refused.
-fn pay<const N: usize>(partition: &mut Partition<N>, amount: u64) -> Result<i64, Refusal>
-    ensures { KeepsOpen partition.old partition.new }
-{
-    if let Err((_job, refusal)) = partition.begin(payment(amount)) {
-        return Err(refusal);
-    }
-    partition.finish_running();
-    match partition.take_done() {
-        Some(done) => balance_of(done.open()),
-        None => Err(Refusal::NotRunning),
-    }
-}
-
-/// One slice of the job that runs.
-fn slice<const N: usize>(partition: &mut Partition<N>) -> Result<Progress, Refusal>
-    ensures { KeepsOpen partition.old partition.new }
-{
-    partition.step()
-}
-
-/// The balance of the answer that waits to be taken, or why it was refused.
-fn answer<const N: usize>(partition: &mut Partition<N>) -> Result<i64, Refusal>
-    ensures { KeepsOpen partition.old partition.new }
-{
-    match partition.take_done() {
-        Some(done) => balance_of(done.open()),
-        None => Err(Refusal::NotRunning),
-    }
-}
-
-/// The last slice of the payment that runs, and the balance after it.
-fn pay_rest<const N: usize>(partition: &mut Partition<N>) -> Result<i64, Refusal>
-    ensures { KeepsOpen partition.old partition.new }
-{
-    match slice(partition) {
-        Ok(Progress::Finished) => answer(partition),
+        Some(Reply::Payment { balance, .. }) => Ok(balance),
+        Some(Reply::Refused(refusal)) => Err(refusal),
         _ => Err(Refusal::NotRunning),
     }
 }
 
+/// The balance after a payment, or why it was refused.
+fn pay<const N: usize>(forked: &mut Forked<N>, amount: u64) -> Result<i64, Refusal> {
+    forked.begin(payment(amount))?;
+    forked.finish();
+    balance_of(forked.answer())
+}
+
 /// The first slice of a payment.
-fn pay_half<const N: usize>(partition: &mut Partition<N>, amount: u64) -> Result<Progress, Refusal>
-    ensures { KeepsOpen partition.old partition.new }
-{
-    if let Err((_job, refusal)) = partition.begin(payment(amount)) {
-        return Err(refusal);
+fn pay_half<const N: usize>(forked: &mut Forked<N>, amount: u64) -> Result<Progress, Refusal> {
+    forked.begin(payment(amount))?;
+    forked.step()
+}
+
+/// The last slice of the payment that runs, and the balance after it.
+fn pay_rest<const N: usize>(forked: &mut Forked<N>) -> Result<i64, Refusal> {
+    match forked.step() {
+        Ok(Progress::Finished) => balance_of(forked.answer()),
+        _ => Err(Refusal::NotRunning),
     }
-    slice(partition)
+}
+
+/// Whether W_YTD is this in the snapshot at a place.
+fn has_ytd<const N: usize>(
+    rt: &(impl Abort + AllocGlobal),
+    forked: &Forked<N>,
+    place: usize,
+    ytd: i64,
+) -> bool {
+    let rows = forked
+        .snapshot(rt, place)
+        .list::<Warehouse>()
+        .expect(rt, "the rows");
+    match rows.as_slice() {
+        [warehouse] => warehouse.ytd == ytd,
+        _ => false,
+    }
+}
+
+/// Whether the snapshot at a place has so many commits.
+fn has_commits<const N: usize>(
+    rt: &impl Abort,
+    forked: &Forked<N>,
+    place: usize,
+    commits: u64,
+) -> bool {
+    forked.snapshot(rt, place).commits() == commits
+}
+
+/// A snapshot before a payment and one behind it.
+fn stays<const N: usize>(rt: &(impl Abort + AllocGlobal))
+    requires { IsPageSize N }
+{
+    let mut forked: Forked<N> = Forked::new(rt, 1);
+    assert!(rt; forked.fork(rt) == Ok(()));
+    assert!(rt; pay(&mut forked, 100) == Ok(-1100));
+    assert!(rt; forked.fork(rt) == Ok(()));
+    assert!(rt; has_ytd(rt, &forked, 0, 30_000) && has_commits(rt, &forked, 0, 0));
+    assert!(rt; has_ytd(rt, &forked, 1, 30_100) && has_commits(rt, &forked, 1, 1));
+    forked.close(rt, 0);
+    forked.close(rt, 0);
+    forked.end(rt);
+}
+
+/// Three snapshots with payments between them, closed in another order than they were opened. HISTORY grows by some pages.
+fn closed_in_another_order<const N: usize>(rt: &(impl Abort + AllocGlobal), grown: u64)
+    requires { IsPageSize N }
+{
+    let mut forked: Forked<N> = Forked::new(rt, 1);
+    let free = forked.free();
+    assert!(rt; forked.fork(rt) == Ok(()));
+    assert!(rt; pay(&mut forked, 100).is_ok());
+    assert!(rt; forked.fork(rt) == Ok(()));
+    assert!(rt; pay(&mut forked, 500).is_ok());
+    assert!(rt; forked.fork(rt) == Ok(()));
+    forked.close(rt, 1);
+    assert!(rt; has_ytd(rt, &forked, 0, 30_000) && has_ytd(rt, &forked, 1, 30_600));
+    forked.close(rt, 1);
+    assert!(rt; has_ytd(rt, &forked, 0, 30_000));
+    forked.close(rt, 0);
+    assert!(rt; forked.end(rt).saturating_add(grown) == free);
+}
+
+/// A payment that finds one free frame, beside a snapshot, and once the snapshot is closed. HISTORY grows by some pages.
+fn without_a_frame<const N: usize>(rt: &(impl Abort + AllocGlobal), grown: u64)
+    requires { IsPageSize N }
+{
+    let mut forked: Forked<N> = Forked::new(rt, 1);
+    forked.limit(rt, 1);
+    assert!(rt; forked.free() == 1 && forked.fork(rt) == Ok(()));
+    assert!(rt; pay(&mut forked, 100) == Err(Refusal::NoFrame));
+    assert!(rt; forked.fork(rt) == Ok(()) && forked.kept() == 0);
+    assert!(rt; has_ytd(rt, &forked, 0, 30_000) && has_ytd(rt, &forked, 1, 30_000));
+    forked.close(rt, 0);
+    forked.close(rt, 0);
+    assert!(rt; pay(&mut forked, 100) == Ok(-1100));
+    assert!(rt; forked.fork(rt) == Ok(()) && has_ytd(rt, &forked, 0, 30_100));
+    forked.close(rt, 0);
+    assert!(rt; forked.end(rt).saturating_add(grown) == 1);
+}
+
+/// A snapshot with a payment beside it.
+fn paid_beside<const N: usize>(rt: &impl Abort, forked: &mut Forked<N>, free: u64) {
+    assert!(rt; forked.fork(rt) == Ok(()));
+    assert!(rt; pay(forked, 100).is_ok());
+    assert!(rt; forked.free() < free && forked.shared() > 0);
+    forked.close(rt, 0);
+}
+
+/// Many snapshots, each with a payment beside it. HISTORY grows by some pages.
+fn many<const N: usize>(rt: &(impl Abort + AllocGlobal), grown: u64)
+    requires { IsPageSize N }
+{
+    let mut forked: Forked<N> = Forked::new(rt, 1);
+    let free = forked.free();
+    for _ in 0..50 {
+        paid_beside(rt, &mut forked, free);
+    }
+    assert!(rt; forked.kept() == 50);
+    assert!(rt; forked.end(rt).saturating_add(grown) == free);
+}
+
+/// Snapshots before, between and after the slices of a payment, closed in another order. HISTORY grows by some pages.
+fn between_slices<const N: usize>(rt: &(impl Abort + AllocGlobal), grown: u64)
+    requires { IsPageSize N }
+{
+    let mut forked: Forked<N> = Forked::new(rt, 1);
+    let free = forked.free();
+    assert!(rt; forked.fork(rt) == Ok(()));
+    assert!(rt; pay_half(&mut forked, 100) == Ok(Progress::More));
+    assert!(rt; forked.fork(rt) == Ok(()));
+    assert!(rt; pay_rest(&mut forked) == Ok(-1100));
+    assert!(rt; forked.fork(rt) == Ok(()));
+    assert!(rt; has_commits(rt, &forked, 1, 0) && has_commits(rt, &forked, 2, 1));
+    forked.close(rt, 1);
+    assert!(rt; has_ytd(rt, &forked, 0, 30_000) && has_ytd(rt, &forked, 1, 30_100));
+    forked.close(rt, 1);
+    assert!(rt; has_ytd(rt, &forked, 0, 30_000));
+    forked.close(rt, 0);
+    assert!(rt; forked.end(rt).saturating_add(grown) == free);
+}
+
+/// Snapshots between the slices of two payments, the later one closed first. HISTORY grows by some pages.
+fn between_two_payments<const N: usize>(rt: &(impl Abort + AllocGlobal), grown: u64)
+    requires { IsPageSize N }
+{
+    let mut forked: Forked<N> = Forked::new(rt, 1);
+    let free = forked.free();
+    assert!(rt; pay_half(&mut forked, 100) == Ok(Progress::More) && forked.fork(rt) == Ok(()));
+    assert!(rt; pay_rest(&mut forked) == Ok(-1100));
+    assert!(rt; pay_half(&mut forked, 500) == Ok(Progress::More) && forked.fork(rt) == Ok(()));
+    assert!(rt; pay_rest(&mut forked) == Ok(-1600));
+    assert!(rt; has_ytd(rt, &forked, 0, 30_000) && has_ytd(rt, &forked, 1, 30_100));
+    forked.close(rt, 1);
+    assert!(rt; has_ytd(rt, &forked, 0, 30_000));
+    forked.close(rt, 0);
+    assert!(rt; forked.end(rt).saturating_add(grown) == free);
+}
+
+/// A half-done payment beside a snapshot, and no frame free: the second slice is refused, and the first undone.
+fn refused_between_slices<const N: usize>(rt: &(impl Abort + AllocGlobal))
+    requires { IsPageSize N }
+{
+    let mut forked: Forked<N> = Forked::new(rt, 1);
+    assert!(rt; pay_half(&mut forked, 100) == Ok(Progress::More) && forked.fork(rt) == Ok(()));
+    forked.limit(rt, 0);
+    assert!(rt; forked.free() == 0 && pay_rest(&mut forked) == Err(Refusal::NoFrame));
+    assert!(rt; forked.fork(rt) == Ok(()) && forked.kept() == 0 && forked.touched() == 0);
+    assert!(rt; has_ytd(rt, &forked, 0, 30_000) && has_ytd(rt, &forked, 1, 30_000));
+    forked.close(rt, 0);
+    forked.close(rt, 0);
+    forked.end(rt);
+}
+
+#[test]
+fn first_snapshot_stays(rt: HostRuntime) {
+    stays::<256>(&rt);
+    stays::<4096>(&rt);
+}
+
+#[test]
+fn forks_closed_in_another_order(rt: HostRuntime) {
+    closed_in_another_order::<256>(&rt, 1);
+    closed_in_another_order::<4096>(&rt, 0);
+}
+
+#[test]
+fn a_write_without_a_frame(rt: HostRuntime) {
+    without_a_frame::<256>(&rt, 1);
+    without_a_frame::<4096>(&rt, 0);
+}
+
+#[test]
+fn frames_come_back(rt: HostRuntime) {
+    many::<256>(&rt, 10);
+    many::<4096>(&rt, 0);
+}
+
+#[test]
+fn forks_between_slices(rt: HostRuntime) {
+    between_slices::<256>(&rt, 1);
+    between_slices::<4096>(&rt, 0);
+    between_two_payments::<256>(&rt, 1);
+    between_two_payments::<4096>(&rt, 0);
+}
+
+#[test]
+fn rollback_without_frames(rt: HostRuntime) {
+    refused_between_slices::<256>(&rt);
+    refused_between_slices::<4096>(&rt);
 }
 
 /// A partition with the first slice of a payment of 100 cents done, and so many frames free. The slice has written the
 /// pages of its warehouse and of its district, and two of HISTORY.
-fn half_done(rt: &(impl Abort + AllocGlobal), free: u64) -> Partition<4096> {
-    let mut partition: Partition<4096> = begun(rt);
-    assert_eq!(rt; pay_half(&mut partition, 100), Ok(Progress::More));
-    assert_eq!(rt; partition.touched(), 4);
-    let used = FRAMES.saturating_sub(partition.free());
-    assert!(rt; partition.set_max(used.saturating_add(free)).is_ok());
-    assert_eq!(rt; partition.free(), free);
-    partition
+fn half_done(rt: &(impl Abort + AllocGlobal), free: u64) -> Forked<4096> {
+    let mut forked: Forked<4096> = Forked::new(rt, 1);
+    assert!(rt; pay_half(&mut forked, 100) == Ok(Progress::More));
+    assert!(rt; forked.touched() == 4);
+    forked.limit(rt, free);
+    assert!(rt; forked.free() == free);
+    forked
 }
 
-/// A snapshot of all that is kept.
-fn take<const N: usize>(
+#[test]
+fn thin_half_done(rt: HostRuntime) {
+    let mut forked = half_done(&rt, 5);
+    assert!(rt; forked.fork(&rt) == Ok(()) && forked.free() == 1);
+    assert!(rt; has_ytd(&rt, &forked, 0, 30_000));
+    assert!(rt; pay_rest(&mut forked) == Ok(-1100) && forked.free() == 0);
+    forked.close(&rt, 0);
+    forked.end(&rt);
+}
+
+#[test]
+fn half_done_without_a_frame_behind_the_fork(rt: HostRuntime) {
+    let mut forked = half_done(&rt, 4);
+    assert!(rt; forked.fork(&rt) == Ok(()) && forked.free() == 0);
+    assert!(rt; has_ytd(&rt, &forked, 0, 30_000));
+    assert!(rt; pay_rest(&mut forked) == Err(Refusal::NoFrame));
+    forked.close(&rt, 0);
+    forked.end(&rt);
+}
+
+#[test]
+fn half_done_without_the_frames_of_a_fork(rt: HostRuntime) {
+    let mut forked = half_done(&rt, 3);
+    assert!(rt; forked.fork(&rt) == Err(Refusal::NoFrame));
+    assert!(rt; forked.shared() == 0 && forked.free() == 3 && forked.touched() == 4);
+    assert!(rt; pay_rest(&mut forked) == Ok(-1100));
+    forked.end(&rt);
+}
+
+#[test]
+fn slices_one_by_one(rt: HostRuntime) {
+    let mut forked: Forked<4096> = Forked::new(&rt, 1);
+    assert!(rt; forked.warehouse() == 1 && forked.step() == Err(Refusal::NotRunning));
+    assert!(rt; forked.begin(payment(100)) == Ok(()));
+    assert!(rt; !forked.at_last() && forked.touched() == 0);
+    assert!(rt; forked.step() == Ok(Progress::More));
+    assert!(rt; forked.at_last() && forked.touched() == 4 && forked.kept() == 0);
+    assert!(rt; forked.begin(payment(200)) == Err(Refusal::Busy));
+    assert!(rt; forked.step() == Ok(Progress::Finished));
+    assert!(rt; forked.touched() == 0 && forked.kept() == 1);
+    assert!(rt; balance_of(forked.answer()) == Ok(-1100));
+    assert!(rt; forked.answer().is_none());
+    forked.end(&rt);
+}
+
+/// Whether these orders, this next number in district 1 and this stock of item 1 are in the snapshot at a place.
+fn has_orders<const N: usize>(
     rt: &(impl Abort + AllocGlobal),
-    partition: &mut Partition<N>,
-) -> Snapshot<N>
-    ensures { Forks N partition.old partition.new result }
-{
-    partition.fork().expect(rt, "a snapshot")
-}
-
-/// Gives an open snapshot back.
-fn close<const N: usize>(partition: &mut Partition<N>, snapshot: Snapshot<N>)
-    requires { Holds partition.old snapshot }
-    ensures { Closes partition.old partition.new snapshot.entry.child }
-{
-    match partition.close(snapshot) {
-        Ok(()) => {}
-        Err(_) => unreachable!(),
-    }
-}
-
-/// W_YTD as a snapshot has it.
-fn ytd<const N: usize>(rt: &(impl Abort + AllocGlobal), snapshot: &Snapshot<N>) -> i64 {
-    let rows = snapshot.list::<Warehouse>().expect(rt, "the rows");
-    match rows.as_slice() {
-        [warehouse] => warehouse.ytd,
-        _ => 0,
-    }
-}
-
-/// A snapshot before a payment and one behind it.
-fn stays<const N: usize>(rt: &(impl Abort + AllocGlobal)) -> Result<(), Fail>
-    requires { IsPageSize N }
-{
-    let mut partition: Partition<N> = begun(rt);
-    let first = take(rt, &mut partition);
-    assert_eq!(rt; pay(&mut partition, 100), Ok(-1100));
-    let second = take(rt, &mut partition);
-    partition.spells(&second);
-    assert!(rt; ytd(rt, &first) == 30_000 && first.commits() == 0);
-    assert!(rt; ytd(rt, &second) == 30_100 && second.commits() == 1);
-    close(&mut partition, first);
-    close(&mut partition, second);
-    assert_eq!(rt; partition.shared(), 0);
-    Ok(())
-}
-
-/// Three snapshots with payments between them, closed in another order than they were opened. HISTORY grows by some pages.
-fn closed_in_another_order<const N: usize>(
-    rt: &(impl Abort + AllocGlobal),
-    grown: u64,
-) -> Result<(), Fail>
-    requires { IsPageSize N }
-{
-    let mut partition: Partition<N> = begun(rt);
-    let free = partition.free();
-    let first = take(rt, &mut partition);
-    assert!(rt; pay(&mut partition, 100).is_ok());
-    let second = take(rt, &mut partition);
-    assert!(rt; pay(&mut partition, 500).is_ok());
-    let third = take(rt, &mut partition);
-    close(&mut partition, second);
-    assert!(rt; ytd(rt, &first) == 30_000 && ytd(rt, &third) == 30_600);
-    close(&mut partition, third);
-    assert_eq!(rt; ytd(rt, &first), 30_000);
-    close(&mut partition, first);
-    assert!(rt; partition.shared() == 0 && partition.free().saturating_add(grown) == free);
-    Ok(())
-}
-
-/// A payment that finds one free frame, beside a snapshot, and once the snapshot is closed. HISTORY grows by some pages.
-fn without_a_frame<const N: usize>(rt: &(impl Abort + AllocGlobal), grown: u64) -> Result<(), Fail>
-    requires { IsPageSize N }
-{
-    let mut partition: Partition<N> = begun(rt);
-    let used = FRAMES.saturating_sub(partition.free());
-    assert!(rt; partition.set_max(used.saturating_add(1)).is_ok() && partition.free() == 1);
-    let first = take(rt, &mut partition);
-    assert_eq!(rt; pay(&mut partition, 100), Err(Refusal::NoFrame));
-    let second = take(rt, &mut partition);
-    assert!(rt; ytd(rt, &first) == 30_000 && ytd(rt, &second) == 30_000);
-    assert!(rt; partition.kept().is_empty());
-    close(&mut partition, first);
-    close(&mut partition, second);
-    assert_eq!(rt; pay(&mut partition, 100), Ok(-1100));
-    let third = take(rt, &mut partition);
-    assert_eq!(rt; ytd(rt, &third), 30_100);
-    close(&mut partition, third);
-    assert!(rt; partition.shared() == 0 && partition.free().saturating_add(grown) == 1);
-    Ok(())
-}
-
-/// Many snapshots, each with a payment beside it. HISTORY grows by some pages.
-fn many<const N: usize>(rt: &(impl Abort + AllocGlobal), grown: u64) -> Result<(), Fail>
-    requires { IsPageSize N }
-{
-    let mut partition: Partition<N> = begun(rt);
-    let free = partition.free();
-    for _ in 0..50 {
-        let snapshot = take(rt, &mut partition);
-        assert!(rt; pay(&mut partition, 100).is_ok());
-        assert!(rt; partition.free() < free && partition.shared() > 0);
-        close(&mut partition, snapshot);
-    }
-    assert!(rt; partition.free().saturating_add(grown) == free && partition.shared() == 0);
-    assert_eq!(rt; partition.kept().len(), 50);
-    Ok(())
-}
-
-/// Lowers the limit of the frames, of which there may be `FRAMES`, to those in use.
-fn without_free_frames<const N: usize>(
-    rt: &(impl Abort + AllocGlobal),
-    partition: &mut Partition<N>,
-)
-    ensures { KeepsOpen partition.old partition.new }
-{
-    let used = FRAMES.saturating_sub(partition.free());
-    assert!(rt; partition.set_max(used).is_ok() && partition.free() == 0);
-}
-
-/// Snapshots before, between and after the slices of a payment, closed in another order. HISTORY grows by some pages.
-fn between_slices<const N: usize>(rt: &(impl Abort + AllocGlobal), grown: u64) -> Result<(), Fail>
-    requires { IsPageSize N }
-{
-    let mut partition: Partition<N> = begun(rt);
-    let free = partition.free();
-    let first = take(rt, &mut partition);
-    assert_eq!(rt; pay_half(&mut partition, 100), Ok(Progress::More));
-    let second = take(rt, &mut partition);
-    assert_eq!(rt; pay_rest(&mut partition), Ok(-1100));
-    let third = take(rt, &mut partition);
-    assert!(rt; second.commits() == 0 && third.commits() == 1);
-    close(&mut partition, second);
-    assert!(rt; ytd(rt, &first) == 30_000 && ytd(rt, &third) == 30_100);
-    close(&mut partition, third);
-    assert_eq!(rt; ytd(rt, &first), 30_000);
-    close(&mut partition, first);
-    assert!(rt; partition.shared() == 0 && partition.free().saturating_add(grown) == free);
-    Ok(())
-}
-
-/// Snapshots between the slices of two payments, the later one closed first. HISTORY grows by some pages.
-fn between_two_payments<const N: usize>(
-    rt: &(impl Abort + AllocGlobal),
-    grown: u64,
-) -> Result<(), Fail>
-    requires { IsPageSize N }
-{
-    let mut partition: Partition<N> = begun(rt);
-    let free = partition.free();
-    assert_eq!(rt; pay_half(&mut partition, 100), Ok(Progress::More));
-    let first = take(rt, &mut partition);
-    assert_eq!(rt; pay_rest(&mut partition), Ok(-1100));
-    assert_eq!(rt; pay_half(&mut partition, 500), Ok(Progress::More));
-    let second = take(rt, &mut partition);
-    assert_eq!(rt; pay_rest(&mut partition), Ok(-1600));
-    assert!(rt; ytd(rt, &first) == 30_000 && ytd(rt, &second) == 30_100);
-    close(&mut partition, second);
-    assert_eq!(rt; ytd(rt, &first), 30_000);
-    close(&mut partition, first);
-    assert!(rt; partition.shared() == 0 && partition.free().saturating_add(grown) == free);
-    Ok(())
-}
-
-/// A half-done payment beside a snapshot, and no frame free: the second slice is refused, and the first undone.
-fn refused_between_slices<const N: usize>(rt: &(impl Abort + AllocGlobal)) -> Result<(), Fail>
-    requires { IsPageSize N }
-{
-    let mut partition: Partition<N> = begun(rt);
-    assert_eq!(rt; pay_half(&mut partition, 100), Ok(Progress::More));
-    let first = take(rt, &mut partition);
-    without_free_frames(rt, &mut partition);
-    assert_eq!(rt; pay_rest(&mut partition), Err(Refusal::NoFrame));
-    let second = take(rt, &mut partition);
-    assert!(rt; ytd(rt, &first) == 30_000 && ytd(rt, &second) == 30_000);
-    assert!(rt; partition.kept().is_empty() && partition.touched() == 0);
-    close(&mut partition, first);
-    close(&mut partition, second);
-    assert_eq!(rt; partition.shared(), 0);
-    Ok(())
-}
-
-#[test]
-fn first_snapshot_stays(rt: HostRuntime) -> Result<(), Fail> {
-    stays::<256>(&rt)?;
-    stays::<4096>(&rt)
-}
-
-#[test]
-fn forks_closed_in_another_order(rt: HostRuntime) -> Result<(), Fail> {
-    closed_in_another_order::<256>(&rt, 1)?;
-    closed_in_another_order::<4096>(&rt, 0)
-}
-
-#[test]
-fn a_write_without_a_frame(rt: HostRuntime) -> Result<(), Fail> {
-    without_a_frame::<256>(&rt, 1)?;
-    without_a_frame::<4096>(&rt, 0)
-}
-
-#[test]
-fn frames_come_back(rt: HostRuntime) -> Result<(), Fail> {
-    many::<256>(&rt, 10)?;
-    many::<4096>(&rt, 0)
-}
-
-#[test]
-fn forks_between_slices(rt: HostRuntime) -> Result<(), Fail> {
-    between_slices::<256>(&rt, 1)?;
-    between_slices::<4096>(&rt, 0)?;
-    between_two_payments::<256>(&rt, 1)?;
-    between_two_payments::<4096>(&rt, 0)
-}
-
-#[test]
-fn rollback_without_frames(rt: HostRuntime) -> Result<(), Fail> {
-    refused_between_slices::<256>(&rt)?;
-    refused_between_slices::<4096>(&rt)
-}
-
-#[test]
-fn thin_half_done(rt: HostRuntime) -> Result<(), Fail> {
-    let mut partition: Partition<4096> = half_done(&rt, 5);
-    let snapshot = take(&rt, &mut partition);
-    assert!(rt; ytd(&rt, &snapshot) == 30_000 && partition.free() == 1);
-    assert_eq!(rt; pay_rest(&mut partition), Ok(-1100));
-    assert_eq!(rt; partition.free(), 0);
-    close(&mut partition, snapshot);
-    let mut partition: Partition<4096> = half_done(&rt, 4);
-    let snapshot = take(&rt, &mut partition);
-    assert!(rt; ytd(&rt, &snapshot) == 30_000 && partition.free() == 0);
-    assert_eq!(rt; pay_rest(&mut partition), Err(Refusal::NoFrame));
-    close(&mut partition, snapshot);
-    let mut partition: Partition<4096> = half_done(&rt, 3);
-    match partition.fork() {
-        Ok(_) => panic!(rt; "four pages in three frames"),
-        Err(refusal) => assert_eq!(rt; refusal, Refusal::NoFrame),
-    }
-    assert!(rt; partition.shared() == 0 && partition.free() == 3 && partition.touched() == 4);
-    assert_eq!(rt; pay_rest(&mut partition), Ok(-1100));
-    Ok(())
-}
-
-#[test]
-fn slices_one_by_one(rt: HostRuntime) -> Result<(), Fail> {
-    let mut partition: Partition<4096> = begun(&rt);
-    assert!(rt; partition.warehouse() == 1 && partition.step() == Err(Refusal::NotRunning));
-    assert!(rt; partition.begin(payment(100)).is_ok());
-    assert!(rt; !partition.at_last() && partition.touched() == 0);
-    assert_eq!(rt; partition.step(), Ok(Progress::More));
-    assert!(rt; partition.at_last() && partition.touched() == 4 && partition.kept().is_empty());
-    match partition.begin(payment(200)) {
-        Ok(()) => panic!(rt; "a second job began"),
-        Err((job, refusal)) => {
-            assert_eq!(rt; refusal, Refusal::Busy);
-            assert_eq!(rt; balance_of(job.refuse(refusal).open()), Err(Refusal::Busy));
-        }
-    }
-    assert_eq!(rt; partition.step(), Ok(Progress::Finished));
-    assert!(rt; partition.touched() == 0 && partition.kept().len() == 1);
-    let done = partition.take_done().expect(&rt, "an answer");
-    assert_eq!(rt; balance_of(done.open()), Ok(-1100));
-    assert!(rt; partition.take_done().is_none());
-    partition.headline();
-    Ok(())
-}
-
-/// A payment of an amount in a district of a warehouse, by the customer of a district of a warehouse, at a moment.
-fn of(
-    warehouse: u64,
-    district: u64,
-    customer_warehouse: u64,
-    customer_district: u64,
-    customer: u64,
-    amount: u64,
-    at: u64,
-) -> Payment {
-    Payment {
-        warehouse,
-        district,
-        customer_warehouse,
-        customer_district,
-        who: Who::Number(customer),
-        amount,
-        at,
-    }
-}
-
-#[test]
-fn refuses_in_order(rt: HostRuntime) -> Result<(), Fail> {
-    let mut partition: Partition<4096> = begun(&rt);
-    let cases: [(Payment, Refusal); 6] = [
-        (of(2, 1, 1, 1, 1, 99, 1), Refusal::OutOfRange),
-        (of(1, 1, 1, 1, 1, 100, 0), Refusal::OutOfRange),
-        (of(2, 11, 1, 1, 1, 100, 1), Refusal::NoSuchWarehouse),
-        (of(1, 1, 2, 1, 1, 100, 1), Refusal::NoSuchWarehouse),
-        (of(1, 1, 1, 11, 4, 100, 1), Refusal::NoSuchDistrict),
-        (of(1, 1, 1, 1, 4, 100, 1), Refusal::NoSuchCustomer),
-    ];
-    for (payment, refusal) in cases {
-        match partition.begin(Job::new(Command::Payment(payment))) {
-            Ok(()) => panic!(rt; "a wrong payment began"),
-            Err((_job, found)) => assert_eq!(rt; found, refusal),
-        }
-    }
-    Ok(())
-}
-
-#[test]
-fn limits_of_a_partition(rt: HostRuntime) -> Result<(), Fail> {
-    let load = generate(rt.alloc(), 1, 3, 1).expect(&rt, "a load");
-    match Partition::<4096>::new(rt.alloc(), &load, 1, 16, 1) {
-        Ok(_) => panic!(rt; "seventeen pages in sixteen frames"),
-        Err(refusal) => assert_eq!(rt; refusal, Refusal::NoFrame),
-    }
-    let mut partition = Partition::<4096>::new(rt.alloc(), &load, 1, 17, 1).expect(
-        &rt,
-        "a partition",
-    );
-    assert!(rt; partition.free() == 0 && partition.set_max(16) == Err(Refusal::OutOfRange));
-    assert!(rt; pay(&mut partition, 100).is_ok());
-    assert_eq!(rt; pay(&mut partition, 100), Err(Refusal::HistoryFull));
-    Ok(())
-}
-
-/// What a snapshot has of the orders of district 1: how many orders, the next number, and the stock of item 1.
-fn orders_in<const N: usize>(
-    rt: &(impl Abort + AllocGlobal),
-    snapshot: &Snapshot<N>,
-) -> (usize, u32, u16) {
+    forked: &Forked<N>,
+    place: usize,
+    (count, next, quantity): (usize, u32, u16),
+) -> bool {
+    let snapshot = forked.snapshot(rt, place);
     let orders = snapshot.list::<Order>().expect(rt, "the orders");
     let undelivered = snapshot
         .list::<NewOrder>()
         .expect(rt, "the undelivered orders");
-    assert_eq!(rt; orders.len(), undelivered.len());
     let districts = snapshot.list::<District>().expect(rt, "the districts");
     let stock = snapshot.list::<Stock>().expect(rt, "the stock");
     match (districts.as_slice(), stock.as_slice()) {
-        ([district, ..], [item, ..]) => (orders.len(), district.next_order, item.quantity),
-        _ => (0, 0, 0),
+        ([district, ..], [item, ..]) => {
+            orders.len() == count
+                && undelivered.len() == count
+                && district.next_order == next
+                && item.quantity == quantity
+        }
+        _ => false,
     }
 }
 
-/// The same of a snapshot of all that is kept.
-fn orders_now<const N: usize>(
-    rt: &(impl Abort + AllocGlobal),
-    partition: &mut Partition<N>,
-) -> (usize, u32, u16) {
-    let snapshot = take(rt, partition);
-    let found = orders_in(rt, &snapshot);
-    close(partition, snapshot);
-    found
-}
-
-/// A partition of a generated warehouse of twenty items, with three slices done of an order of five lines in district 1,
-/// whose third line asks for an item.
-fn ordering<const N: usize>(rt: &(impl Abort + AllocGlobal), third: u64) -> Partition<N>
-    requires { IsPageSize N }
-{
-    let load = generate(rt.alloc(), 1, 3, 20).expect(rt, "a load");
-    let mut partition: Partition<N> = Partition::new(rt.alloc(), &load, 1, FRAMES, 1000).expect(
-        rt,
-        "a partition",
-    );
+/// An order of five lines in district 1, whose third line asks for an item.
+fn order_of(rt: &(impl Abort + AllocGlobal), third: u64) -> Command {
     let mut lines = Vec::new(rt.alloc());
     for item in [1, 2, third, 4, 5] {
-        let line = PurchaseLine {
-            item,
-            supply_warehouse: 1,
-            quantity: 5,
-        };
-        assert!(rt; lines.push(line).is_ok());
+        lines
+            .push(PurchaseLine {
+                item,
+                supply_warehouse: 1,
+                quantity: 5,
+            })
+            .expect(rt, "a line");
     }
-    let order = Command::NewOrder(Purchase {
+    Command::NewOrder(Purchase {
         warehouse: 1,
         district: 1,
         customer: 1,
         at: 1,
         lines: PurchaseLines::new(lines),
-    });
-    assert!(rt; partition.begin(Job::new(order)).is_ok());
-    for _ in 0..3 {
-        assert_eq!(rt; partition.step(), Ok(Progress::More));
-    }
-    partition
+    })
 }
 
-/// Runs a job to its end, and takes its answer.
-fn end<const N: usize>(partition: &mut Partition<N>) -> Option<Reply>
-    ensures { KeepsOpen partition.old partition.new }
+/// A partition of a generated warehouse of twenty items, with three slices done of an order of five lines.
+fn ordering<const N: usize>(rt: &(impl Abort + AllocGlobal), third: u64) -> Forked<N>
+    requires { IsPageSize N }
 {
-    partition.finish_running();
-    partition.take_done().map(|done| done.open())
+    let mut forked: Forked<N> = Forked::new(rt, 20);
+    assert!(rt; forked.begin(order_of(rt, third)).is_ok());
+    for _ in 0..3 {
+        assert!(rt; forked.step() == Ok(Progress::More));
+    }
+    forked
 }
 
 /// A snapshot of a half-done order has nothing of it, also once the order is whole.
-fn half_done_order<const N: usize>(rt: &(impl Abort + AllocGlobal)) -> Result<(), Fail>
+fn half_done_order<const N: usize>(rt: &(impl Abort + AllocGlobal))
     requires { IsPageSize N }
 {
-    let mut partition: Partition<N> = ordering(rt, 3);
-    let first = take(rt, &mut partition);
-    assert_eq!(rt; orders_in(rt, &first), (0, 1, 18));
-    let answer = end(&mut partition);
+    let mut forked: Forked<N> = ordering(rt, 3);
+    assert!(rt; forked.fork(rt) == Ok(()) && has_orders(rt, &forked, 0, (0, 1, 18)));
+    forked.finish();
+    let answer = forked.answer();
     assert!(rt;
         matches!(
             answer,
@@ -520,28 +507,31 @@ fn half_done_order<const N: usize>(rt: &(impl Abort + AllocGlobal)) -> Result<()
             })
         )
     );
-    assert_eq!(rt; orders_in(rt, &first), (0, 1, 18));
-    close(&mut partition, first);
-    assert_eq!(rt; orders_now(rt, &mut partition), (1, 2, 13));
-    Ok(())
+    assert!(rt; has_orders(rt, &forked, 0, (0, 1, 18)));
+    forked.close(rt, 0);
+    assert!(rt; forked.fork(rt) == Ok(()) && has_orders(rt, &forked, 0, (1, 2, 13)));
+    forked.close(rt, 0);
+    forked.end(rt);
 }
 
 /// An order whose third item isn't there leaves nothing.
-fn order_without_its_item<const N: usize>(rt: &(impl Abort + AllocGlobal)) -> Result<(), Fail>
+fn order_without_its_item<const N: usize>(rt: &(impl Abort + AllocGlobal))
     requires { IsPageSize N }
 {
-    let mut partition: Partition<N> = ordering(rt, 21);
-    let answer = end(&mut partition);
+    let mut forked: Forked<N> = ordering(rt, 21);
+    forked.finish();
+    let answer = forked.answer();
     assert!(rt; matches!(answer, Some(Reply::Refused(Refusal::NoSuchItem))));
-    assert!(rt; partition.kept().is_empty() && partition.touched() == 0);
-    assert_eq!(rt; orders_now(rt, &mut partition), (0, 1, 18));
-    Ok(())
+    assert!(rt; forked.kept() == 0 && forked.touched() == 0);
+    assert!(rt; forked.fork(rt) == Ok(()) && has_orders(rt, &forked, 0, (0, 1, 18)));
+    forked.close(rt, 0);
+    forked.end(rt);
 }
 
 #[test]
-fn snapshots_of_orders(rt: HostRuntime) -> Result<(), Fail> {
-    half_done_order::<256>(&rt)?;
-    half_done_order::<4096>(&rt)?;
-    order_without_its_item::<256>(&rt)?;
-    order_without_its_item::<4096>(&rt)
+fn snapshots_of_orders(rt: HostRuntime) {
+    half_done_order::<256>(&rt);
+    half_done_order::<4096>(&rt);
+    order_without_its_item::<256>(&rt);
+    order_without_its_item::<4096>(&rt);
 }

@@ -210,7 +210,7 @@ impl<const N: usize> Store<N> {
     /// Puts a row in the place of the one that a slot has.
     fn put(&mut self, rt: &impl Abort, slot: u64, row: &NewOrder) {
         let Some(_row) = relation().get(&self.space, slot) else {
-            panic!(rt; "no row in slot {slot}");
+            panic!(rt; "no row in the slot");
         };
         relation()
             .put(&mut self.space, &mut self.undo, slot, row)
@@ -220,7 +220,7 @@ impl<const N: usize> Store<N> {
     /// Erases the row of a slot that has one.
     fn erase(&mut self, rt: &impl Abort, slot: u64) {
         let Some(_row) = relation().get(&self.space, slot) else {
-            panic!(rt; "no row in slot {slot}");
+            panic!(rt; "no row in the slot");
         };
         relation()
             .erase(&mut self.space, &mut self.undo, slot)
@@ -329,10 +329,10 @@ impl Lists {
 
     /// The row of a number is in a slot behind the others.
     fn add(&mut self, rt: &impl Abort, number: u64, slot: u64) {
-        assert_eq!(rt; slot, self.rows.len() as u64);
+        assert!(rt; slot == self.rows.len() as u64);
         self.rows.push(Some(row_of(number))).expect(rt, "a place");
         let Some(place) = self.slots.get_mut(number as usize) else {
-            panic!(rt; "number {number}");
+            panic!(rt; "no such number");
         };
         *place = Some(slot);
     }
@@ -340,14 +340,14 @@ impl Lists {
     /// The row of a number, which was in this slot, is gone.
     fn remove(&mut self, rt: &impl Abort, number: u64, slot: u64) {
         let Some(place) = self.slots.get_mut(number as usize) else {
-            panic!(rt; "number {number}");
+            panic!(rt; "no such number");
         };
-        assert_eq!(rt; *place, Some(slot));
+        assert!(rt; *place == Some(slot));
         *place = None;
         let Some(row) = self.rows.get_mut(slot as usize) else {
-            panic!(rt; "slot {slot}");
+            panic!(rt; "no such slot");
         };
-        assert_eq!(rt; *row, Some(row_of(number)));
+        assert!(rt; *row == Some(row_of(number)));
         *row = None;
     }
 
@@ -391,19 +391,19 @@ impl Lists {
 
 /// The relation has the rows of the lists.
 fn rows_agree<const N: usize>(rt: &(impl Abort + AllocGlobal), store: &Store<N>, lists: &Lists) {
-    assert_eq!(rt; store.slots(), lists.rows.len() as u64);
-    assert_eq!(rt; store.get(store.slots()), None);
+    assert!(rt; store.slots() == lists.rows.len() as u64);
+    assert!(rt; store.get(store.slots()).is_none());
     for (slot, row) in lists.rows.iter().enumerate() {
-        assert_eq!(rt; store.get(slot as u64), *row);
+        assert!(rt; store.get(slot as u64) == *row);
     }
     assert!(rt; store.scan(rt).as_slice() == lists.live_rows(rt).as_slice());
 }
 
 /// Both lists have the same entries.
 fn entries_agree(rt: &impl Abort, found: &[Entry<OrderKey>], all: &[(OrderKey, u64)]) {
-    assert_eq!(rt; found.len(), all.len());
+    assert!(rt; found.len() == all.len());
     for (entry, pair) in found.iter().zip(all) {
-        assert_eq!(rt; pair_of(*entry), *pair);
+        assert!(rt; pair_of(*entry) == *pair);
     }
 }
 
@@ -430,8 +430,8 @@ fn keys_agree<const N: usize>(rt: &impl Abort, store: &Store<N>, lists: &Lists, 
 {
     for number in (0..ROWS as usize).step_by(stride) {
         let key = key_at(number as u64);
-        assert_eq!(rt; store.find(&key), lists.find(number));
-        assert_eq!(rt; store.first_from(&key), lists.first_from(number));
+        assert!(rt; store.find(&key) == lists.find(number));
+        assert!(rt; store.first_from(&key) == lists.first_from(number));
     }
 }
 
@@ -462,7 +462,7 @@ fn add<const N: usize>(rt: &impl Abort, store: &mut Store<N>, lists: &mut Lists,
 fn remove<const N: usize>(rt: &impl Abort, store: &mut Store<N>, lists: &mut Lists, number: u64) {
     let key = key_at(number);
     let Some(slot) = store.find(&key) else {
-        panic!(rt; "number {number} isn't there");
+        panic!(rt; "the number isn't there");
     };
     store.erase(rt, slot);
     store.remove(rt, &key);

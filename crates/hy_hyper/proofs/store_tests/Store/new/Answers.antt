@@ -1,4 +1,4 @@
-use Rattle.std.proofs.Common.{rules, ◌≡◌, ℕ, [], length, replicate, ap, ◌∙◌, arith, lit<}
+use Rattle.std.proofs.Common.{rules, ◌≡◌, [], length, replicate, ap, ◌∙◌, arith, lit<}
 use Rattle.hy_rows.specs.Spelling.{HasSlots, list_at}
 use Rattle.hy_space.specs.Space.{owner_bytes, page_count}
 use Rattle.hy_undo.specs.PrivatePages.{IsUndoLog}
