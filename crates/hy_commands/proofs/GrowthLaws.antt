@@ -45,7 +45,7 @@ use Rattle.hy_commands.proofs.OnceLaws.{tells-three}
 -- ---- lists
 
 -- what holds of the rows once the first that passes was changed
-All-with_changed_to : {Row : Type 0} (P Q : Row → Type 0) (test : Row → Bool) (change : Row → Row)
+pub All-with_changed_to : {Row : Type 0} (P Q : Row → Type 0) (test : Row → Bool) (change : Row → Row)
     → ((row : Row) → P row → Q (change row)) → ((row : Row) → P row → Q row) → (rows : List Row)
     → All P rows → All Q (with_changed test change rows)
 All-with_changed_to P Q test change changed same [] all = All-nil Q
@@ -92,7 +92,7 @@ All-at P none fits (row ∷ rows) zero all = All-head P row rows all
 All-at P none fits (row ∷ rows) (suc place) all = All-at P none fits rows place (All-tail P row rows all)
 
 -- a sum of amounts from 0 to a bound
-sum-between : {Row : Type 0} (column : Row → ℤ) (rows : List Row)
+pub sum-between : {Row : Type 0} (column : Row → ℤ) (rows : List Row)
     → All (λ row. (pos 0 ≤ℤ column row) × (column row ≤ℤ pos 10_000_000)) rows
     → (pos 0 ≤ℤ column_sum column rows) × (column_sum column rows ≤ℤ pos (10_000_000 * length rows))
 sum-between column [] all = (omega (arith, ints), omega (arith, ints))
@@ -115,7 +115,7 @@ sum-between column (row ∷ rows) all =
 
 -- ---- money
 
-money-later : (growth target : ℕ) (cents : ℤ) → growth ≤ target → IsMoneyUpTo growth cents → IsMoneyUpTo target cents
+pub money-later : (growth target : ℕ) (cents : ℤ) → growth ≤ target → IsMoneyUpTo growth cents → IsMoneyUpTo target cents
 money-later growth target cents more up = (omega (arith, ints, up.0, more), omega (arith, ints, up.1, more))
 
 money-more : (growth more target : ℕ) (cents amount : ℤ) → growth + more ≤ target → pos 0 ≤ℤ amount → amount ≤ℤ pos more
@@ -175,7 +175,7 @@ module _ (n : ℕ) where
     amount = up.amount;
   }
 
-stock-later : (k j : ℕ) → k ≤ j → (row : Stock) → IsStockUpTo k row → IsStockUpTo j row
+pub stock-later : (k j : ℕ) → k ≤ j → (row : Stock) → IsStockUpTo k row → IsStockUpTo j row
 stock-later k j below row up = record {
   quantity = up.quantity;
   ytd = omega (arith, up.ytd, below);
@@ -341,7 +341,7 @@ module _ (items : List Item) (fits : ItemsFit items) (order : Purchase) (number 
       (All-tail (λ line. line.supply_warehouse ≤ 16) line lines near))
 
 -- what is left of a stock, and what the supplied lines add to it
-left-small : (stock quantity : ℕ) → stock ≤ 9_999 → quantity_left stock quantity ≤ 9_999
+pub left-small : (stock quantity : ℕ) → stock ≤ 9_999 → quantity_left stock quantity ≤ 9_999
 left-small stock quantity small =
     elim (nat_le (quantity + 10) stock) as (λ b. nat_le (quantity + 10) stock ≡ b
     → cond b (stock - quantity) (stock + 91 - quantity) ≤ 9_999) [
@@ -349,6 +349,25 @@ left-small stock quantity small =
       | false ↦ λ scarce. omega (arith, leb-false (quantity + 10) stock scarce)
     ] refl
 
+-- the stock after a line
+pub line-sold : (supplier : ℕ) (order : Purchase) (line : PurchaseLine) (k : ℕ) (rows : List Stock) → line.quantity ≤ 10
+    → All (IsStockUpTo k) rows → All (IsStockUpTo (k + 1)) (sold_line supplier order rows line)
+line-sold supplier order line k rows few all =
+    let remote : Bool = not (order.warehouse == supplier) in
+    All-with_changed_to (IsStockUpTo k) (IsStockUpTo (k + 1)) (is_stock supplier line.item) (sold remote line.quantity)
+    (λ row up. record {
+      quantity = left-small row.quantity line.quantity up.quantity;
+      ytd = omega (arith, up.ytd, few);
+      order_count = omega (arith, up.order_count);
+      remote_count = remote-more remote row.remote_count k up.remote_count;
+    }) (stock-later k (k + 1) (omega arith)) rows all
+  where
+    remote-more : (remote : Bool) (count k : ℕ) → count ≤ 1_000_000_000_000_000 + k
+        → count + cond remote 1 0 ≤ 1_000_000_000_000_000 + (k + 1)
+    remote-more true count k below = omega (arith, below)
+    remote-more false count k below = omega (arith, below)
+
+-- lines that are sold one after the other
 stock-sold : (supplier : ℕ) (order : Purchase) (lines : List PurchaseLine) (k : ℕ) (rows : List Stock)
     → All (λ line. line.quantity ≤ 10) lines → All (IsStockUpTo k) rows
     → All (IsStockUpTo (k + length lines)) (fold (sold_line supplier order) rows lines)
@@ -356,24 +375,12 @@ stock-sold supplier order [] k rows few all = All-weaker (IsStockUpTo k) (IsStoc
     (omega arith)) rows all
 stock-sold supplier order (line ∷ lines) k rows few all =
     let quantity = All-head (λ line. line.quantity ≤ 10) line lines few in
-    let remote : Bool = not (order.warehouse == supplier) in
     let after : List Stock = sold_line supplier order rows line in
     All-weaker (IsStockUpTo (k + 1 + length lines)) (IsStockUpTo (k + suc (length lines)))
     (stock-later (k + 1 + length lines) (k + suc (length lines)) (omega arith))
     (fold (sold_line supplier order) after lines)
     (stock-sold supplier order lines (k + 1) after (All-tail (λ line. line.quantity ≤ 10) line lines few)
-    (All-with_changed_to (IsStockUpTo k) (IsStockUpTo (k + 1)) (is_stock supplier line.item) (sold remote line.quantity)
-    (λ row up. record {
-      quantity = left-small row.quantity line.quantity up.quantity;
-      ytd = omega (arith, up.ytd, quantity);
-      order_count = omega (arith, up.order_count);
-      remote_count = remote-more remote row.remote_count k up.remote_count;
-    }) (stock-later k (k + 1) (omega arith)) rows all))
-  where
-    remote-more : (remote : Bool) (count k : ℕ) → count ≤ 1_000_000_000_000_000 + k
-        → count + cond remote 1 0 ≤ 1_000_000_000_000_000 + (k + 1)
-    remote-more true count k below = omega (arith, below)
-    remote-more false count k below = omega (arith, below)
+    (line-sold supplier order line k rows quantity all))
 
 module _ (items : List Item) (fits : ItemsFit items) (number : ℕ) (order : Purchase) (tables : Tables) (n : ℕ) (count : IsBetween 5 15 (length order.lines)) (in_range : list_all is_line_in_range order.lines ≡ true) (moment : IsBetween 1 1_000_000_000_000_000 order.at) (known : list_all (has_item items) order.lines ≡ true) (near : All (λ line. line.supply_warehouse ≤ 16) order.lines) (buyer : list_any (is_customer order.warehouse order.district order.customer) tables.customers ≡ true) (grown : HasGrownBy n tables) where
   number-small : order_number order tables ≤ 1_000_000_000 + n

@@ -29,7 +29,7 @@ ghost use Rattle.hy_conditions.specs.Keys.{
   same_order,
 };
 
-use crate::keys::{CustomerKey, DistrictKey, OrderKey};
+use crate::keys::{CustomerKey, OrderKey};
 use crate::orders;
 use crate::sums::{sum_at, sums_by_key};
 use hy_schema::{Customer, History, Order, OrderLine, Tables};
@@ -299,7 +299,7 @@ fn line_entries(alloc: Global, lines: &[OrderLine]) -> Result<Vec<(OrderKey, i64
         .iter()
         .map(|row| {
             (
-                orders::key(row.warehouse, row.district, row.order),
+                OrderKey::new(row.warehouse, row.district, row.order),
                 line_amount(row),
             )
         })
@@ -339,7 +339,7 @@ fn paid_entries(alloc: Global, history: &[History]) -> Result<Vec<(CustomerKey, 
         .iter()
         .map(|row| {
             (
-                key(row.customer_warehouse, row.customer_district, row.customer),
+                CustomerKey::new(row.customer_warehouse, row.customer_district, row.customer),
                 row.amount,
             )
         })
@@ -350,26 +350,12 @@ fn paid_entries(alloc: Global, history: &[History]) -> Result<Vec<(CustomerKey, 
 fn key_of(row: &Customer) -> CustomerKey
     ensures { result ≡ key_of_customer row.now }
 {
-    key(row.warehouse, row.district, row.id)
+    CustomerKey::new(row.warehouse, row.district, row.id)
 }
 
 /// The key of an order's customer.
 fn customer_of(row: &Order) -> CustomerKey
     ensures { result ≡ customer_of_order row.now }
 {
-    key(row.warehouse, row.district, row.customer)
-}
-
-/// The key of a customer by its numbers.
-fn key(warehouse: u8, district: u8, customer: u16) -> CustomerKey
-    ensures { result
-        ≡ record { district = record { warehouse = warehouse; district = district }; customer = customer } }
-{
-    CustomerKey {
-        district: DistrictKey {
-            warehouse,
-            district,
-        },
-        customer,
-    }
+    CustomerKey::new(row.warehouse, row.district, row.customer)
 }

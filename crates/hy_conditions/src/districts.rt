@@ -224,7 +224,7 @@ fn order_entries(alloc: Global, orders: &[Order]) -> Result<Vec<(DistrictKey, u3
 {
     orders
         .iter()
-        .map(|row| (key(row.warehouse, row.district), row.id))
+        .map(|row| (DistrictKey::new(row.warehouse, row.district), row.id))
         .collect(alloc)
 }
 
@@ -249,7 +249,7 @@ fn new_order_entries(
         (record { warehouse = row.warehouse; district = row.district }, row.order)) news.now) }
 {
     news.iter()
-        .map(|row| (key(row.warehouse, row.district), row.order))
+        .map(|row| (DistrictKey::new(row.warehouse, row.district), row.order))
         .collect(alloc)
 }
 
@@ -275,7 +275,10 @@ fn line_count_entries(
 {
     orders
         .iter()
-        .map(|row| (key(row.warehouse, row.district), i64::from(row.line_count)))
+        .map(|row| (
+            DistrictKey::new(row.warehouse, row.district),
+            i64::from(row.line_count),
+        ))
         .collect(alloc)
 }
 
@@ -298,7 +301,7 @@ fn line_entries(alloc: Global, lines: &[OrderLine]) -> Result<Vec<(DistrictKey, 
 {
     lines
         .iter()
-        .map(|row| (key(row.warehouse, row.district), 1))
+        .map(|row| (DistrictKey::new(row.warehouse, row.district), 1))
         .collect(alloc)
 }
 
@@ -321,16 +324,6 @@ fn paid_entries(alloc: Global, history: &[History]) -> Result<Vec<(DistrictKey, 
 {
     history
         .iter()
-        .map(|row| (key(row.warehouse, row.district), row.amount))
+        .map(|row| (DistrictKey::new(row.warehouse, row.district), row.amount))
         .collect(alloc)
-}
-
-/// The key of a district by its numbers.
-fn key(warehouse: u8, district: u8) -> DistrictKey
-    ensures { result ≡ record { warehouse = warehouse; district = district } }
-{
-    DistrictKey {
-        warehouse,
-        district,
-    }
 }

@@ -28,7 +28,7 @@ ghost use Rattle.hy_conditions.specs.Keys.{
 };
 ghost use Rattle.hy_conditions.specs.Lines.{disagreeing, is_other};
 
-use crate::keys::{DistrictKey, OrderKey};
+use crate::keys::OrderKey;
 use crate::sums::{sum_at, sums_by_key};
 use hy_schema::{NewOrder, Order, OrderLine, Tables};
 use indexmap::IndexMap;
@@ -77,7 +77,7 @@ fn new_order_entries(alloc: Global, news: &[NewOrder]) -> Result<Vec<(OrderKey, 
     ensures { IfOk result (λ entries. entries.items ≡ map (λ row. (key_of_new_order row, pos 1)) news.now) }
 {
     news.iter()
-        .map(|row| (key(row.warehouse, row.district, row.order), 1))
+        .map(|row| (OrderKey::new(row.warehouse, row.district, row.order), 1))
         .collect(alloc)
 }
 
@@ -123,7 +123,7 @@ fn line_entries(alloc: Global, lines: &[OrderLine]) -> Result<Vec<(OrderKey, i64
 {
     lines
         .iter()
-        .map(|row| (key(row.warehouse, row.district, row.order), 1))
+        .map(|row| (OrderKey::new(row.warehouse, row.district, row.order), 1))
         .collect(alloc)
 }
 
@@ -196,7 +196,7 @@ fn other_entries(
         .iter()
         .map(|row| {
             (
-                key(row.warehouse, row.district, row.order),
+                OrderKey::new(row.warehouse, row.district, row.order),
                 other(row, undelivered),
             )
         })
@@ -219,19 +219,5 @@ fn other(row: &OrderLine, undelivered: bool) -> i64
 pub fn key_of(row: &Order) -> OrderKey
     ensures { result ≡ key_of_order row.now }
 {
-    key(row.warehouse, row.district, row.id)
-}
-
-/// The key of an order by its numbers.
-pub fn key(warehouse: u8, district: u8, order: u32) -> OrderKey
-    ensures { result
-        ≡ record { district = record { warehouse = warehouse; district = district }; order = order } }
-{
-    OrderKey {
-        district: DistrictKey {
-            warehouse,
-            district,
-        },
-        order,
-    }
+    OrderKey::new(row.warehouse, row.district, row.id)
 }

@@ -1,5 +1,5 @@
 -- What a line of a script says.
-use Rattle.std.specs.Prelude.{◌≡◌, ◌≢◌, ℕ, ◌==◌, if◌then◌else◌, List, [], ◌∷◌, Option, None, Some, option_map, Result, Ok, Err, ⊤, bytes_eq, codes}
+use Rattle.std.specs.Prelude.{◌≡◌, ◌≢◌, ℕ, ◌==◌, if◌then◌else◌, Bool, true, false, List, [], ◌∷◌, Option, None, Some, IsSomeAnd, option_map, Result, Ok, Err, bytes_eq, codes}
 use Rattle.hy_commands.specs.declared.command.Command.{Command}
 use Rattle.hy_commands.specs.declared.command.Command.TheVariants as commands
 use Rattle.hy_commands.specs.declared.command.Delivery.{Delivery}
@@ -151,9 +151,33 @@ event_named name given =
 abbrev pub event_of : List ℕ → Option Event
 event_of line = first_word (words line) >>= λ name. event_named name (later_words (words line))
 
+-- ---- which events take memory to be read
+
+-- a customer by last name
+abbrev pub is_by_name : Who → Bool
+is_by_name (who.Number number) = false
+is_by_name (who.Last name) = true
+
+-- a command has the lines of an order, or a last name
+abbrev pub takes_memory : Command → Bool
+takes_memory (commands.NewOrder order) = true
+takes_memory (commands.Payment payment) = is_by_name payment.who
+takes_memory (commands.OrderStatus status) = is_by_name status.who
+takes_memory (commands.Delivery delivery) = false
+takes_memory (commands.StockLevel level) = false
+
+-- an event runs or begins such a command; no other event takes memory
+abbrev pub TakesMemory : Event → Type 0
+TakesMemory (events.Run command) = takes_memory command ≡ true
+TakesMemory (events.Begin command) = takes_memory command ≡ true
+TakesMemory other = ⊥
+
+-- ---- lines
+
 -- a line was read: an empty one says nothing, and each other one says its event or is a bad event. Memory may be refused
+-- where the line says an event that takes some
 abbrev pub IsRead : List ℕ → Result (Option Event) EventFault → Type 0
 IsRead line (Ok None) = line ≡ []
 IsRead line (Ok (Some event)) = event_of line ≡ Some event
 IsRead line (Err faults.BadEvent) = (line ≢ []) × (event_of line ≡ None)
-IsRead line (Err faults.NoMemory) = ⊤
+IsRead line (Err faults.NoMemory) = IsSomeAnd (event_of line) TakesMemory

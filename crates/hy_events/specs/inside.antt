@@ -1,2 +1,3 @@
 -- What parts of this crate's own contracts say; nothing here is part of what is promised.
 pub mod Parts
+pub mod Who

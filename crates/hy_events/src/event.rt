@@ -1,7 +1,7 @@
 //! Events, as a script says them.
 
-ghost use Rattle.std.specs.Prelude.{◌≡◌, IfOk};
-ghost use Rattle.hy_events.specs.Events.{IsRead, begun_of, event_named, event_of, limit_of, snapshot_of, warehouse_of};
+ghost use Rattle.std.specs.Prelude.{◌≡◌, IfOk, IsSomeAnd, OnErr, true};
+ghost use Rattle.hy_events.specs.Events.{IsRead, TakesMemory, begun_of, event_named, event_of, limit_of, snapshot_of, takes_memory, warehouse_of};
 
 use crate::command::{is, read_command};
 use crate::parts::Parts;
@@ -82,7 +82,8 @@ impl From<AllocError> for EventFault {
 }
 
 /// The event that a line of a script says, without the line's end. An empty line says none. `BadEvent` where it isn't
-/// empty and is no event, `NoMemory` where the lines of a purchase or a last name find no memory.
+/// empty and is no event, also where memory is refused; `NoMemory` where it is an event, and the lines of its purchase or
+/// its last name find no memory.
 pub fn read_event<'a>(alloc: Global, line: &'a [u8]) -> Result<Option<Event<'a>>, EventFault>
     ensures { IsRead line.now result }
 {
@@ -97,7 +98,8 @@ pub fn read_event<'a>(alloc: Global, line: &'a [u8]) -> Result<Option<Event<'a>>
 
 /// The event that a line says, if it says one.
 fn event_of<'a>(alloc: Global, line: &'a [u8]) -> Result<Option<Event<'a>>, AllocError>
-    ensures { IfOk result (λ found. found ≡ event_of line.now) }
+    ensures read { IfOk result (λ found. found ≡ event_of line.now) }
+    ensures refused { OnErr result (IsSomeAnd (event_of line.now) TakesMemory) }
 {
     let mut words = Parts::new(b' ', line);
     match words.take_part() {
@@ -112,7 +114,8 @@ fn event_named<'a>(
     name: &'a [u8],
     given: &mut Parts<'a>,
 ) -> Result<Option<Event<'a>>, AllocError>
-    ensures { IfOk result (λ found. found ≡ event_named name.now given.old) }
+    ensures read { IfOk result (λ found. found ≡ event_named name.now given.old) }
+    ensures refused { OnErr result (IsSomeAnd (event_named name.now given.old) TakesMemory) }
 {
     if is(name, "begin") {
         return Ok(read_begun(alloc, given)?.map(|command| Event::Begin(command)));
@@ -146,7 +149,9 @@ fn event_named<'a>(
 
 /// A command of its own words.
 fn read_begun(alloc: Global, given: &mut Parts<'_>) -> Result<Option<Command>, AllocError>
-    ensures { IfOk result (λ found. found ≡ begun_of given.old) }
+    ensures read { IfOk result (λ found. found ≡ begun_of given.old) }
+    ensures refused { OnErr result
+        (IsSomeAnd (begun_of given.old) (λ command. takes_memory command ≡ true)) }
 {
     match given.take_part() {
         Some(name) => read_command(alloc, name, given),

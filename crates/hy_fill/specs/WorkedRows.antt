@@ -5,29 +5,9 @@ use Rattle.hy_index.specs.declared.key.Entry.{Entry}
 use Rattle.hy_store.specs.declared.keys.CustomerKey.{CustomerKey}
 use Rattle.hy_store.specs.declared.keys.OrderKey.{OrderKey}
 use Rattle.hy_indexes.specs.Indexes.{order_key_at}
+use Rattle.hy_indexes.specs.WorkedIndexes.{of_customer, of_order, order}
 use Rattle.hy_fill.specs.inside.Filling.{with_row}
 use Rattle.hy_fill.specs.inside.LastOrders.{with_order}
-
--- an order by its warehouse, district, number and customer
-abbrev order : ℕ → ℕ → ℕ → ℕ → Order
-order warehouse district number customer = record {
-  id = number;
-  district = district;
-  warehouse = warehouse;
-  customer = customer;
-  entry_date = 1;
-  carrier = 0;
-  line_count = 5;
-  all_local = 1;
-}
-
--- the entry of an order by its number and district, and that of a customer by district and number
-abbrev of_order : ℕ → ℕ → ℕ → Entry OrderKey
-of_order number district slot = record { key = record { order = number; district = district }; slot = slot }
-
-abbrev of_customer : ℕ → ℕ → ℕ → Entry CustomerKey
-of_customer district customer slot =
-    record { key = record { district = district; customer = customer }; slot = slot }
 
 -- the orders of a load, the second of another warehouse
 abbrev loaded : List Order

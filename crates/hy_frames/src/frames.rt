@@ -225,17 +225,6 @@ impl<const N: usize> Frames<N> {
         self.slots[f.index()].write(offset, bytes);
     }
 
-    /// Puts another page into a frame with one user. This needs no memory.
-    pub fn replace(&mut self, f: FrameNo, page: Hold<N>)
-        requires { count_of self.old f ≡ 1 }
-        ensures set { Sets self.old self.new f (record { count = 1; bytes = page.entry; lent = true }) }
-        ensures free { free_of self.new ≡ free_of self.old }
-        ensures shared { shared_of self.new ≡ shared_of self.old }
-    {
-        page.know_size();
-        self.slots[f.index()].replace(page);
-    }
-
     /// Sets how many frames can be in use. A number outside 1 to 10,000,000, or below the frames in
     /// use, is refused.
     pub fn set_max(&mut self, max: u64) -> Result<(), OutOfRange>

@@ -199,14 +199,6 @@ impl<const N: usize> Slot<N> {
             }
         }
     }
-
-    /// Puts another page in the place of the one there.
-    pub(crate) fn replace(&mut self, page: Hold<N>)
-        requires { 0 < self.old.count }
-        ensures { self.new ≡ record { count = self.old.count; bytes = page.entry; lent = true } }
-    {
-        self.memory = Memory::Lent(page);
-    }
 }
 
 /// A page in memory of its own.

@@ -21,5 +21,5 @@ mod snapshot_tests;
 mod store_tests;
 
 fn main(rt: HostRuntime) -> ExitCode {
-    ExitCode::from(system::run_on_system(&rt).status())
+    system::run_on_system(&rt).exit_code()
 }

@@ -1,15 +1,18 @@
 -- An index in a space: what a search in it finds, and what is left of it by a change.
-use Rattle.std.proofs.Common.{◌≡◌, ℕ, ◌+◌, ◌-◌, ◌<◌, ◌≤◌, ◌^◌, Bool, true, false, cond, None, Some, List, [], ◌∷◌, length, take, replicate, sym, ap, ap₂, ◌∙◌, subst, arith, length-append}
+use Rattle.std.proofs.Common.{◌≡◌, ℕ, zero, suc, ◌+◌, ◌-◌, ◌*◌, ◌/◌, ◌<◌, ◌≤◌, ◌^◌, Bool, true, false, cond, None, Some, List, [], ◌∷◌, length, take, replicate, sym, ap, ap₂, ◌∙◌, subst, arith, length-append}
 use Rattle.std.proofs.lemmas.List.{take_at}
+use Rattle.std.proofs.lemmas.Nat.{div-mul-add}
 use Rattle.hy_page.specs.Bytes.{bytes_of}
 use Rattle.hy_page.proofs.ByteLaws.{field_of_zeros, length-bytes_of}
 use Rattle.hy_space.specs.Space.{SpaceState}
 use Rattle.hy_index.specs.Index.{IsInOrder, between, first_from, found, is_less_bytes, with_entry, without}
-use Rattle.hy_index.specs.Writes.{IsIndex, entries}
+use Rattle.hy_index.specs.Writes.{FillsPages, HasPagesFor, IsIndex, KeepsPagesFor, entries}
 use Rattle.hy_index.specs.Writes.{pages_of}
-use Rattle.hy_index.specs.inside.Layout.{HasEntries, IsSpelled, bytes_of_entry, entry_at, entry_of, entry_width, first_items, used}
+use Rattle.hy_index.specs.inside.Layout.{HasEntries, IsSpelled, bytes_of_entry, entry_at, entry_of, entry_width, first_items, per_page, used}
 use Rattle.hy_index.specs.inside.Bounds.{IsSought, IsSplit}
-use Rattle.hy_index.specs.inside.Moves.{Holds, moved_down, moved_up, replaced}
+use Rattle.hy_index.specs.inside.Moves.{GrowsForEntries, Holds, IsFull, moved_down, moved_up, replaced}
+use Rattle.hy_index.proofs.SequenceLaws.{length-first_items}
+use Rattle.hy_index.proofs.LayoutLaws.{most_pages-grown}
 use Rattle.hy_index.proofs.OrderLaws.{same-from_not}
 use Rattle.hy_index.proofs.BoundLaws.{IsSplit-absent, IsSplit-there}
 use Rattle.hy_index.proofs.MapLaws.{HasEntries-held, each-added, each-replaced, each-taken_out, first_from-none, first_from-some, found-none, found-some, items-added, items-between, items-in_order, items-replaced, items-taken_out, items-without_none, rising-added, rising-replaced, rising-taken_out}
@@ -161,3 +164,60 @@ module _ {Key : Type 0} (n kw : ℕ) (bytes_of_key : Key → List ℕ) (key_of_b
 -- how many bytes an entry has
 pub width-entry : {Key : Type 0} (kw : ℕ) (bytes_of_key : Key → List ℕ) (key : Key) → length (bytes_of_key key) ≡ kw → (bytes : List ℕ) (slot : ℕ) → bytes ≡ bytes_of_entry bytes_of_key key slot → length bytes ≡ entry_width kw
 width-entry kw bytes_of_key key wide bytes slot is_bytes = ap length is_bytes ∙ length-append (bytes_of_key key) (bytes_of 8 slot) ∙ ap₂ ◌+◌ wide (length-bytes_of 8 slot)
+
+-- ---- how many pages an index has
+
+pub length-entries : {Key : Type 0} (n kw : ℕ) (key_of_bytes : List ℕ → Key) (pages : List (List ℕ)) → length (entries n kw key_of_bytes pages) ≡ used pages
+unfolding entries
+length-entries n kw key_of_bytes pages = length-first_items (λ k. entry_of kw key_of_bytes (entry_at n (entry_width kw) pages k)) (used pages)
+
+module _ {Key : Type 0} (n kw : ℕ) (key_of_bytes : List ℕ → Key) (old new : SpaceState) (segment seg width : ℕ) (is_seg : seg ≡ segment) (is_width : width ≡ entry_width kw) where
+  -- an entry more, by the number of entries
+  pub grows-indexed : GrowsForEntries n width (used (pages_of old seg)) (pages_of old seg) (pages_of new seg)
+      → KeepsPagesFor n kw (length (entries n kw key_of_bytes (pages_of old segment))) (pages_of old segment) (pages_of new segment)
+  grows-indexed grows =
+      subst (λ count. GrowsForEntries n (entry_width kw) count (pages_of old segment) (pages_of new segment)) (sym (length-entries n kw key_of_bytes (pages_of old segment)))
+      (subst (λ s. GrowsForEntries n (entry_width kw) (used (pages_of old s)) (pages_of old s) (pages_of new s)) is_seg
+      (subst (λ w. GrowsForEntries n w (used (pages_of old seg)) (pages_of old seg) (pages_of new seg)) is_width grows))
+
+  pub full-indexed : IsFull n width (pages_of old seg) → FillsPages n kw (length (entries n kw key_of_bytes (pages_of old segment))) (pages_of old segment)
+  full-indexed full =
+      length-entries n kw key_of_bytes (pages_of old segment)
+      ∙ subst (λ s. IsFull n (entry_width kw) (pages_of old s)) is_seg (subst (λ w. IsFull n w (pages_of old seg)) is_width full)
+
+-- pages for so many entries are pages for more
+pub HasPagesFor-more : (n kw count more : ℕ) (pages : List (List ℕ)) → 0 < per_page n (entry_width kw) → count ≤ more → HasPagesFor n kw count pages → HasPagesFor n kw more pages
+HasPagesFor-more n kw count more pages some within few =
+    omega (arith, few, most_pages-grown n (entry_width kw) count more some within)
+
+-- what `KeepsPagesFor` comes to: no page more where the entries leave a place, and one at most where they fill the pages
+module _ (n kw count : ℕ) (old new : List (List ℕ)) (some : 0 < per_page n (entry_width kw)) (keeps : KeepsPagesFor n kw count old new) where
+  pub no_page-with_room : count < per_page n (entry_width kw) * (length old - 1) → length new ≤ length old
+  no_page-with_room room =
+      let per = per_page n (entry_width kw) in
+      let pages = length old - 2 in
+      let more : 2 ≤ length old = two_pages per (length old) count room in
+      let product : per * (length old - 1) ≡ pages * per + per = next_page per (length old) more in
+      let exact : (pages * per + (per - 1)) / per ≡ pages = div-mul-add pages per (per - 1) (omega (arith, some)) in
+      omega (arith, exact, more, keeps (pages * per + (per - 1)) (omega (arith, room, product, some)) (omega (arith, exact, more)))
+    where
+      two_pages : (per pages k : ℕ) → k < per * (pages - 1) → 2 ≤ pages
+      two_pages per zero k below = absurd (omega (arith, below))
+      two_pages per (suc zero) k below = absurd (omega (arith, below))
+      two_pages per (suc (suc pages)) k below = omega arith
+
+      next_page : (per pages : ℕ) → 2 ≤ pages → per * (pages - 1) ≡ (pages - 2) * per + per
+      next_page per zero more = absurd (omega (arith, more))
+      next_page per (suc zero) more = absurd (omega (arith, more))
+      next_page per (suc (suc pages)) more =
+          let last : suc (suc pages) - 1 ≡ suc pages = omega arith in
+          let front : suc (suc pages) - 2 ≡ pages = omega arith in
+          let step : per * suc pages ≡ pages * per + per = omega arith in
+          ap (λ k. per * k) last ∙ step ∙ ap (λ k. k * per + per) (sym front)
+
+  pub one_page-where_full : 0 < length old → FillsPages n kw count old → length new ≤ length old + 1
+  one_page-where_full first full =
+      let per = per_page n (entry_width kw) in
+      let pages = length old - 1 in
+      let exact : (pages * per + 0) / per ≡ pages = div-mul-add pages per 0 some in
+      omega (arith, exact, first, keeps (pages * per + 0) (omega (arith, full)) (omega (arith, exact, first)))

@@ -3,11 +3,11 @@ use Rattle.std.proofs.Common.{◌≡◌, ◌≢◌, ℕ, ◌+◌, ◌-◌, ◌*�
 use Rattle.std.proofs.Math.Nat.{mul-le-mul_right, mul-le-mul_left, mod-lt, div-mul-le_self, le-div_iff_mul-le, div-add-mod, div-le_of_le-mul}
 use Rattle.std.proofs.lemmas.Bool.{cases_lt, cases_eq}
 use Rattle.std.proofs.lemmas.List.{length-take-le, drop_at, drop-drop, take-append-le, drop-append-le, get_or_append_left}
-use Rattle.std.proofs.lemmas.Nat.{div_below, div-mul-add}
+use Rattle.std.proofs.lemmas.Nat.{div_below, div-mul-add, le-div}
 use Rattle.hy_page.specs.Bytes.{number_of, bytes_of, bytes_at, overwritten}
 use Rattle.hy_page.proofs.ByteLaws.{field_written, bytes_at-overwritten_before, bytes_at-overwritten_behind}
-use Rattle.hy_index.specs.inside.Layout.{entry_at, entry_offset, entry_page, list_at, per_page, used}
-use Rattle.hy_index.specs.inside.Moves.{HasRoom, WritesRun, WritesUsed, with_bytes}
+use Rattle.hy_index.specs.inside.Layout.{entry_at, entry_offset, entry_page, list_at, most_pages, per_page, used}
+use Rattle.hy_index.specs.inside.Moves.{HasRoom, IsFull, WritesRun, WritesUsed, with_bytes}
 
 -- where bytes were written, a part of them stands
 pub bytes_at-overwritten_inside : (bytes : List ℕ) (offset : ℕ) (others : List ℕ) (from count : ℕ) → offset ≤ length bytes → from + count ≤ length others → bytes_at (overwritten bytes offset others) (offset + from) count ≡ bytes_at others from count
@@ -168,3 +168,21 @@ HasRoom-there n width pages first room some differs =
       room = omega arith;
       entries = λ k within. refl;
     }
+
+-- a page behind those that entries fill is one that an index of as many or more may have
+pub most_pages-grown : (n width count most : ℕ) → 0 < per_page n width → count ≤ most → entry_page n width count + 1 ≤ most_pages n width most
+most_pages-grown n width count most some within =
+    let per = per_page n width in
+    let enough : count / per * per ≤ count = div-mul-le_self count per in
+    let more : count / per ≤ most / per = le-div (count / per) most per some (omega (arith, enough, within)) in
+    omega (arith, more)
+
+-- where the next entry's page isn't there, each place has its entry
+pub IsFull-last : (n width : ℕ) (pages : List (List ℕ)) → used pages ≤ per_page n width * (length pages - 1) → entry_page n width (used pages) ≡ length pages → IsFull n width pages
+IsFull-last n width pages room last =
+    let per = per_page n width in
+    let count = length pages - 1 in
+    let place : used pages / per ≡ count = omega (arith, last) in
+    let enough : used pages / per * per ≤ used pages = div-mul-le_self (used pages) per in
+    let product : used pages / per * per ≡ count * per = ap (λ q. q * per) place in
+    omega (arith, room, enough, product)

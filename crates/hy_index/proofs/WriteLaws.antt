@@ -3,9 +3,11 @@ use Rattle.std.proofs.Common.{◌≡◌, ℕ, ◌<◌, List, [], ◌∷◌, ◌+
 use Rattle.std.proofs.lemmas.List.{length-map}
 use Rattle.hy_page.specs.Bytes.{overwritten}
 use Rattle.hy_frames.specs.FrameTable.{page_of}
-use Rattle.hy_space.specs.Space.{SpaceState, GrowsPage, child_bytes, owner_bytes, page_at, with_page}
+use Rattle.hy_space.specs.Space.{SpaceState, GrowsPage, HasPage, IsSound, LacksFrame, child_bytes, owner_bytes, page_at, with_page}
 use Rattle.hy_undo.specs.UndoLog.{Image, UndoLog}
 use Rattle.hy_undo.specs.PrivatePages.{IsUndoLog, LogsImage, UndoesTheSame}
+use Rattle.hy_undo.specs.Writes.{IsOutOfFrames}
+use Rattle.hy_undo.proofs.WriteLaws.{on_failure, out_of_frames}
 use Rattle.hy_index.specs.Writes.{pages_of}
 use Rattle.hy_index.specs.inside.Layout.{list_at}
 use Rattle.hy_index.specs.inside.Moves.{with_bytes}
@@ -75,6 +77,20 @@ writes-call n segment page offset old new before after bytes image (Err e) writt
   segments = ap (λ (s : SpaceState). length s.owner) same.1;
   others = λ other differs. ap (λ (s : SpaceState). list_at (owner_bytes s) other) same.1;
 }
+
+-- such a call adds no page
+pub pages-call : {T E : Type 0} (n segment page offset : ℕ) (old new : SpaceState) (before after : UndoLog) (bytes : List ℕ) (result : Result T E) → segment < length old.owner
+    → OnOk result (owner_bytes new ≡ with_page (owner_bytes old) segment page (overwritten (page_at (owner_bytes old) segment page) offset bytes))
+    → OnErr result ((after ≡ before) × (new ≡ old)) → length (pages_of new segment) ≡ length (pages_of old segment)
+pages-call n segment page offset old new before after bytes (Ok x) there written same =
+    ap length (pages-written n segment page offset old new before after bytes written there) ∙ length-set (pages_of old segment) page _
+pages-call n segment page offset old new before after bytes (Err e) there written same = ap (λ (s : SpaceState). length (pages_of s segment)) same.1
+
+-- it lacks a frame only where a child is open, and then it changes nothing
+pub out_of_frames-call : {T E : Type 0} (n segment page : ℕ) (old new : SpaceState) (before after : UndoLog) (result : Result T E) (e : E) → IsSound n old → HasPage old segment page
+    → (result ≡ Err e → LacksFrame old segment page) → OnErr result ((after ≡ before) × (new ≡ old)) → result ≡ Err e → IsOutOfFrames new
+out_of_frames-call n segment page old new before after result e sound there lacks same failed =
+    subst IsOutOfFrames (sym (on_failure result e failed same).1) (out_of_frames n old segment page sound there (lacks failed))
 
 -- a page was added
 module _ (n segment page : ℕ) (old new : SpaceState) (grows : GrowsPage n old new segment page) where

@@ -1,12 +1,13 @@
 //! Finite maps from keys to slots on the pages of a space, with their keys in order.
 #![tactic(auto)]
 
-ghost use Rattle.std.specs.Prelude.{◌≡◌, ℕ, ◌+◌, ◌<◌, ◌≤◌, [], length, None, OnOk, IfOk, IsOk, IsErrOf};
+ghost use Rattle.std.specs.Prelude.{◌≡◌, ℕ, ◌+◌, ◌<◌, ◌≤◌, ◌↔◌, ◌⊎◌, [], length, None, IsSome, OnOk, OnErr, IfOk, IsOk, IsErrOf};
 ghost use Rattle.hy_frames.specs.FrameTable.{free_of};
 ghost use Rattle.hy_space.specs.Space.{page_count};
 ghost use Rattle.hy_undo.specs.PrivatePages.{IsUndoLog};
+ghost use Rattle.hy_undo.specs.Writes.{HasChild, IsOutOfFrames};
 ghost use Rattle.hy_index.specs.Index.{IsInOrder, between, first_from, found, with_entry, without};
-ghost use Rattle.hy_index.specs.Writes.{IsIndex, WritesSegment, entries, entries as entries_of, pages_of};
+ghost use Rattle.hy_index.specs.Writes.{FillsPages, IsIndex, KeepsPagesFor, WritesSegment, entries, entries as entries_of, pages_of};
 ghost use Rattle.hy_index.specs.inside.Layout.{entry_at, entry_of, entry_width, used};
 ghost use Rattle.hy_index.specs.inside.Bounds.{IsSought};
 
@@ -63,8 +64,10 @@ impl<K: Key> Index<K> {
         ensures index { OnOk result
             (IsIndex N K.BYTES K.bytes_of_key K.key_of_bytes K.IsKey (pages_of space.new self.now)) }
         ensures empty { OnOk result (entries N K.BYTES K.key_of_bytes (pages_of space.new self.now) ≡ []) }
+        ensures pages { OnOk result (length (pages_of space.new self.now) ≡ 1) }
         ensures writes { WritesSegment N self.now space.old space.new undo.old undo.new }
-        ensures no_frame { IsErrOf result Shortage.NoFrame → free_of space.new.frames ≡ 0 }
+        ensures full { IsErrOf result Shortage.NoFrame ↔ (free_of space.old.frames ≡ 0) }
+        ensures err { OnErr result ((undo.new ≡ undo.old) × (space.new ≡ space.old)) }
     {
         space.sound();
         undo.grow(space, self.segment)?;
@@ -176,8 +179,19 @@ impl<K: Key> Index<K> {
         ensures entries { OnOk result (entries N K.BYTES K.key_of_bytes (pages_of space.new self.now)
             ≡ with_entry K.is_less key.now slot
             (entries N K.BYTES K.key_of_bytes (pages_of space.old self.now))) }
+        ensures pages { KeepsPagesFor N K.BYTES
+            (length (entries N K.BYTES K.key_of_bytes (pages_of space.old self.now)))
+            (pages_of space.old self.now) (pages_of space.new self.now) }
+        ensures replaces { IsSome (found K.is_less key.now
+            (entries N K.BYTES K.key_of_bytes (pages_of space.old self.now)))
+            → length (pages_of space.new self.now) ≤ length (pages_of space.old self.now) }
         ensures writes { WritesSegment N self.now space.old space.new undo.old undo.new }
         ensures no_frame { IsErrOf result Shortage.NoFrame → free_of space.new.frames ≡ 0 }
+        ensures wanted { IsErrOf result Shortage.NoFrame → HasChild space.new
+            ⊎ (found K.is_less key.now
+            (entries N K.BYTES K.key_of_bytes (pages_of space.old self.now)) ≡ None)
+            × FillsPages N K.BYTES (length (entries N K.BYTES K.key_of_bytes
+            (pages_of space.old self.now))) (pages_of space.old self.now) }
     {
         let bytes = bytes_of(key);
         let sought = self.seek(space, key, bytes.as_slice());
@@ -207,8 +221,9 @@ impl<K: Key> Index<K> {
         ensures absent { found K.is_less key.now
             (entries N K.BYTES K.key_of_bytes (pages_of space.old self.now)) ≡ None
             → IsOk result × (space.new ≡ space.old) × (undo.new ≡ undo.old) }
+        ensures pages { length (pages_of space.new self.now) ≤ length (pages_of space.old self.now) }
         ensures writes { WritesSegment N self.now space.old space.new undo.old undo.new }
-        ensures no_frame { IsErrOf result Shortage.NoFrame → free_of space.new.frames ≡ 0 }
+        ensures no_frame { IsErrOf result Shortage.NoFrame → IsOutOfFrames space.new }
     {
         let bytes = bytes_of(key);
         let sought = self.seek(space, key, bytes.as_slice());

@@ -1,14 +1,15 @@
 //! Writes of entries: in the place of another, between others, and none in the place of one.
 
-ghost use Rattle.std.specs.Prelude.{◌≡◌, ℕ, ◌+◌, ◌*◌, ◌-◌, ◌%◌, ◌^◌, ◌<◌, ◌≤◌, ◌++◌, length, take, OnOk, IsErrOf};
+ghost use Rattle.std.specs.Prelude.{◌≡◌, ℕ, ◌+◌, ◌*◌, ◌-◌, ◌%◌, ◌^◌, ◌<◌, ◌≤◌, ◌++◌, ◌⊎◌, length, take, OnOk, IsErrOf};
 ghost use Rattle.arrayvec.specs.ArrayVec.{array_vec_len};
 ghost use Rattle.hy_page.specs.Bytes.{bytes_of};
 ghost use Rattle.hy_frames.specs.FrameTable.{free_of};
 ghost use Rattle.hy_undo.specs.PrivatePages.{IsUndoLog};
+ghost use Rattle.hy_undo.specs.Writes.{HasChild, IsOutOfFrames};
 ghost use Rattle.hy_index.specs.Writes.{WritesSegment};
 ghost use Rattle.hy_index.specs.Writes.{pages_of};
 ghost use Rattle.hy_index.specs.inside.Layout.{entry_at, entry_offset, per_page, used};
-ghost use Rattle.hy_index.specs.inside.Moves.{HasRoom, Holds, IsRun, MovesBefore, MovesFrom, WritesRun, WritesUsed, moved_down, moved_up, replaced};
+ghost use Rattle.hy_index.specs.inside.Moves.{GrowsForEntries, HasRoom, Holds, IsFull, IsRun, MovesBefore, MovesFrom, WritesRun, WritesUsed, moved_down, moved_up, replaced};
 ghost use Rattle.hy_index.specs.declared.key.TheConstants.{MAX_KEY_BYTES};
 
 use crate::key::EntryBytes;
@@ -61,7 +62,8 @@ fn write_run<const N: usize>(
     ensures writes { WritesSegment N segment space.old space.new undo.old undo.new }
     ensures run { OnOk result (WritesRun N width (pages_of space.old segment) (pages_of space.new segment)
         start end bytes.now) }
-    ensures no_frame { IsErrOf result Shortage.NoFrame → free_of space.new.frames ≡ 0 }
+    ensures pages { length (pages_of space.new segment) ≡ length (pages_of space.old segment) }
+    ensures no_frame { IsErrOf result Shortage.NoFrame → IsOutOfFrames space.new }
 {
     space.sound();
     let place = place_of(space, segment, width, start);
@@ -89,7 +91,8 @@ pub(crate) fn write_entry<const N: usize>(
     ensures holds { OnOk result (Holds N (length bytes.now) (pages_of space.new segment)
         (replaced (entry_at N (length bytes.now) (pages_of space.old segment)) k bytes.now)
         (used (pages_of space.old segment))) }
-    ensures no_frame { IsErrOf result Shortage.NoFrame → free_of space.new.frames ≡ 0 }
+    ensures pages { length (pages_of space.new segment) ≡ length (pages_of space.old segment) }
+    ensures no_frame { IsErrOf result Shortage.NoFrame → IsOutOfFrames space.new }
 {
     space.sound();
     write_run(space, undo, segment, bytes.len(), k, k + 1, bytes)
@@ -108,7 +111,8 @@ fn write_used<const N: usize>(
     ensures writes { WritesSegment N segment space.old space.new undo.old undo.new }
     ensures used { OnOk result ((width : ℕ) → WritesUsed N width (pages_of space.old segment)
         (pages_of space.new segment) count) }
-    ensures no_frame { IsErrOf result Shortage.NoFrame → free_of space.new.frames ≡ 0 }
+    ensures pages { length (pages_of space.new segment) ≡ length (pages_of space.old segment) }
+    ensures no_frame { IsErrOf result Shortage.NoFrame → IsOutOfFrames space.new }
 {
     space.sound();
     let digits = count.to_le_bytes();
@@ -131,7 +135,10 @@ fn make_room<const N: usize>(
     requires undo_log { IsUndoLog N space.old undo.old }
     ensures writes { WritesSegment N segment space.old space.new undo.old undo.new }
     ensures room { OnOk result (HasRoom N width (pages_of space.old segment) (pages_of space.new segment)) }
+    ensures pages { GrowsForEntries N width (used (pages_of space.old segment))
+        (pages_of space.old segment) (pages_of space.new segment) }
     ensures no_frame { IsErrOf result Shortage.NoFrame → free_of space.new.frames ≡ 0 }
+    ensures wanted { IsErrOf result Shortage.NoFrame → IsFull N width (pages_of space.old segment) }
 {
     space.sound();
     let page = 1 + used(space, segment) / per_page::<N>(width);
@@ -161,7 +168,11 @@ pub(crate) fn add<const N: usize>(
     ensures holds { OnOk result (Holds N (length bytes.now) (pages_of space.new segment)
         (moved_up (entry_at N (length bytes.now) (pages_of space.old segment)) place bytes.now)
         (used (pages_of space.old segment) + 1)) }
+    ensures pages { GrowsForEntries N (length bytes.now) (used (pages_of space.old segment))
+        (pages_of space.old segment) (pages_of space.new segment) }
     ensures no_frame { IsErrOf result Shortage.NoFrame → free_of space.new.frames ≡ 0 }
+    ensures wanted { IsErrOf result Shortage.NoFrame
+        → HasChild space.new ⊎ IsFull N (length bytes.now) (pages_of space.old segment) }
 {
     space.sound();
     let count = used(space, segment);
@@ -191,7 +202,8 @@ fn move_up<const N: usize>(
         (pages_of space.new segment)
         (moved_up (entry_at N (length bytes.now) (pages_of space.old segment)) place bytes.now)
         place (count + 1)) }
-    ensures no_frame { IsErrOf result Shortage.NoFrame → free_of space.new.frames ≡ 0 }
+    ensures pages { length (pages_of space.new segment) ≡ length (pages_of space.old segment) }
+    ensures no_frame { IsErrOf result Shortage.NoFrame → IsOutOfFrames space.new }
 {
     space.sound();
     let per = per_page::<N>(bytes.len());
@@ -344,7 +356,8 @@ pub(crate) fn take_out<const N: usize>(
     ensures holds { OnOk result (Holds N width (pages_of space.new segment)
         (moved_down (entry_at N width (pages_of space.old segment)) place)
         (used (pages_of space.old segment) - 1)) }
-    ensures no_frame { IsErrOf result Shortage.NoFrame → free_of space.new.frames ≡ 0 }
+    ensures pages { length (pages_of space.new segment) ≡ length (pages_of space.old segment) }
+    ensures no_frame { IsErrOf result Shortage.NoFrame → IsOutOfFrames space.new }
 {
     let count = used(space, segment);
     move_down(space, undo, segment, width, place, count)?;
@@ -370,7 +383,8 @@ fn move_down<const N: usize>(
     ensures moved { OnOk result (MovesBefore N width (pages_of space.old segment)
         (pages_of space.new segment) (moved_down (entry_at N width (pages_of space.old segment)) place)
         (count - 1)) }
-    ensures no_frame { IsErrOf result Shortage.NoFrame → free_of space.new.frames ≡ 0 }
+    ensures pages { length (pages_of space.new segment) ≡ length (pages_of space.old segment) }
+    ensures no_frame { IsErrOf result Shortage.NoFrame → IsOutOfFrames space.new }
 {
     space.sound();
     let per = per_page::<N>(width);

@@ -9,7 +9,7 @@ use Rattle.hy_indexes.specs.Finds.{IsIndexOf}
 use Rattle.hy_indexes.specs.Indexes.{AreLastOrders, buyer_key_at, order_key_at}
 
 -- an order by its warehouse, district, number and customer
-abbrev order : ℕ → ℕ → ℕ → ℕ → Order
+abbrev pub order : ℕ → ℕ → ℕ → ℕ → Order
 order warehouse district number customer = record {
   id = number;
   district = district;
@@ -22,10 +22,10 @@ order warehouse district number customer = record {
 }
 
 -- the entry of an order by its number and district, and that of a customer by district and number
-abbrev of_order : ℕ → ℕ → ℕ → Entry OrderKey
+abbrev pub of_order : ℕ → ℕ → ℕ → Entry OrderKey
 of_order number district slot = record { key = record { order = number; district = district }; slot = slot }
 
-abbrev of_customer : ℕ → ℕ → ℕ → Entry CustomerKey
+abbrev pub of_customer : ℕ → ℕ → ℕ → Entry CustomerKey
 of_customer district customer slot =
     record { key = record { district = district; customer = customer }; slot = slot }
 

@@ -1,9 +1,9 @@
 -- The laws of keys that are there: a set of the keys of rows, one row more.
-use Rattle.std.proofs.Common.{◌≡◌, ◌↔◌, IsTrue, not, Bool, true, false, cond, ◌||◌, List, [], ◌∷◌, ◌++◌, refl, sym, ap, ap₂, ◌∙◌}
+use Rattle.std.proofs.Common.{◌≡◌, ◌↔◌, IsTrue, not, Bool, true, false, cond, ◌||◌, List, [], ◌∷◌, ◌++◌, refl, sym, ap, ◌∙◌}
 use Rattle.std.specs.Bool.{IsFalse}
 use Rattle.std.specs.List.{list_any}
 use Rattle.std.proofs.lemmas.List.Folds.{list_any-append}
-use Rattle.indexmap.specs.IndexSet.{IndexSet, IsEmpty, Updates, contains}
+use Rattle.indexmap.specs.IndexSet.{IndexSet, IsEmpty, Updates}
 use Rattle.hy_loads.specs.There.{HasKeys}
 
 -- no keys are those of no rows

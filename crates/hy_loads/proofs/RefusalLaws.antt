@@ -1,5 +1,5 @@
 -- Where a list has its first fault, and the lists before it are right, the lists have that fault.
-use Rattle.std.proofs.Common.{◌≡◌, ◌⊎◌, inl, inr, ℕ, List, IfErr, IsErrAnd, Result, Ok, Err, refl, sym, subst}
+use Rattle.std.proofs.Common.{◌≡◌, inl, inr, ℕ, List, IfErr, IsErrAnd, Result, Ok, Err, refl, sym, subst}
 use Rattle.hy_rows.specs.Tables.{Lists}
 use Rattle.hy_schema.specs.declared.files.FileEnd.{FileEnd}
 use Rattle.hy_schema.specs.declared.files.FileEnds.{FileEnds}

@@ -1,5 +1,5 @@
 -- Which warehouses, districts and items are there, by how many rows the right lists have.
-use Rattle.std.proofs.Common.{◌≡◌, ◌↔◌, IsTrue, ℕ, ◌+◌, ◌-◌, ◌*◌, ◌/◌, ◌%◌, ◌<◌, ◌≤◌, ◌==◌, ◌&&◌, Bool, true, List, length, slice_get, IfSome, get_or, Some, inl, inr, refl, sym, ap, ◌∙◌, subst, arith}
+use Rattle.std.proofs.Common.{◌≡◌, ◌↔◌, IsTrue, ℕ, ◌+◌, ◌-◌, ◌*◌, ◌<◌, ◌≤◌, ◌==◌, Bool, true, List, length, slice_get, IfSome, get_or, Some, inl, inr, refl, sym, ap, ◌∙◌, subst, arith}
 use Rattle.std.specs.List.{list_any}
 use Rattle.std.proofs.lemmas.Bool.{and_from, and_parts, eq-eqb, eqb-true}
 use Rattle.std.proofs.lemmas.List.Folds.{Any-from_list_any, list_any_at}
@@ -7,12 +7,11 @@ use Rattle.std.proofs.lemmas.Option.{IfSome_then, slice_get_cases, slice_get_rea
 use Rattle.hy_rows.specs.declared.warehouse.Warehouse.{Warehouse}
 use Rattle.hy_rows.specs.declared.district.District.{District}
 use Rattle.hy_rows.specs.declared.item.Item.{Item}
-use Rattle.hy_rows.specs.Finding.{is_district, is_warehouse}
+use Rattle.hy_rows.specs.Finding.{is_district}
 use Rattle.hy_rows.specs.Limits.{max_warehouses}
 use Rattle.hy_rows.specs.Ranges.{IsBetween}
 use Rattle.hy_rows.proofs.BetweenLaws.{IsBetween-bounds, bounds}
 use Rattle.hy_schema.specs.Loads.{HasAllDistricts, HasSome, IsDistrictAt, IsItemAt, IsRight, IsWarehouseAt}
-use Rattle.hy_schema.specs.Related.{is_item}
 use Rattle.hy_loads.specs.There.{HasDistricts, HasItems, HasWarehouses}
 
 -- a row that passes a test is there where it stands at a place

@@ -1,7 +1,7 @@
 -- Worked examples of the rules of rows, which the checker computes: for each rule a list whose second row breaks it, or
 -- is missing, so that the first fault of the list is row 2. A right second row is shown before the wrong ones, which
 -- differ from it in one column.
-use Rattle.std.specs.Prelude.{◌≡◌, ℕ, ◌+◌, ◌<◌, ⊤, pos, IfSome, List, [], ◌∷◌, slice_get, codes, refl}
+use Rattle.std.specs.Prelude.{ℕ, ◌+◌, ◌<◌, ⊤, pos, IfSome, List, [], ◌∷◌, slice_get, codes, refl}
 use Rattle.std.proofs.Common.{zero, suc, sym, inl, inr, arith, lit≤, lit<}
 use Rattle.std.proofs.lemmas.Bool.{false≢true}
 use Rattle.std.proofs.lemmas.Int.{ints}

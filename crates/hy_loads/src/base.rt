@@ -7,7 +7,6 @@ ghost use Rattle.hy_schema.specs.Loads.{HasAllCustomers, HasAllDistricts, HasAll
 ghost use Rattle.hy_conditions.specs.Keys.{same_customer};
 ghost use Rattle.hy_loads.specs.There.{HasKeys, is_customer_by};
 
-use crate::keys::customer_key;
 use crate::list::Rule;
 use hy_conditions::CustomerKey;
 use hy_rows::{Customer, DISTRICTS_PER_WAREHOUSE, District, Item, Stock, Warehouse};
@@ -119,7 +118,7 @@ impl Rule<Customer, IndexSet<CustomerKey>> for CustomerRule<'_> {
         if !is_customer_at(self.warehouses, self.rows, place, row) {
             return Ok(false);
         }
-        seen.insert(customer_key(row.warehouse, row.district, row.id))?;
+        seen.insert(CustomerKey::new(row.warehouse, row.district, row.id))?;
         Ok(true)
     }
 

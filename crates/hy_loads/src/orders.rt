@@ -11,7 +11,7 @@ ghost use Rattle.hy_conditions.specs.Keys.{same_customer, same_order};
 ghost use Rattle.hy_loads.specs.Keys.{same_line};
 ghost use Rattle.hy_loads.specs.There.{HasCustomers, HasKeys, HasOrders, KnowsLines, is_customer_by, is_line_with, is_new_order_with, is_order_with};
 
-use crate::keys::{LineKey, customer_key, order_key};
+use crate::keys::LineKey;
 use crate::list::Rule;
 use hy_conditions::{CustomerKey, OrderKey};
 use hy_rows::{Customer, District, History, Item, NewOrder, Order, OrderLine, Warehouse};
@@ -47,7 +47,7 @@ impl Customers<'_> {
         ensures { result ≡ list_any (is_customer warehouse district customer) self.now.rows.now }
     {
         self.keys
-            .contains(&customer_key(warehouse, district, customer))
+            .contains(&CustomerKey::new(warehouse, district, customer))
     }
 }
 
@@ -65,7 +65,8 @@ impl Orders<'_> {
         requires { HasOrders self.now }
         ensures { result ≡ list_any (is_order warehouse district order) self.now.rows.now }
     {
-        self.keys.contains(&order_key(warehouse, district, order))
+        self.keys
+            .contains(&OrderKey::new(warehouse, district, order))
     }
 }
 
@@ -101,7 +102,7 @@ impl Rule<Order, IndexSet<OrderKey>> for OrderRule<'_> {
         if !is_order_of(&self.customers, row) {
             return Ok(false);
         }
-        let is_new = seen.insert(order_key(row.warehouse, row.district, row.id))?;
+        let is_new = seen.insert(OrderKey::new(row.warehouse, row.district, row.id))?;
         Ok(is_new)
     }
 
@@ -154,7 +155,7 @@ impl Rule<NewOrder, IndexSet<OrderKey>> for NewOrderRule<'_> {
         if !is_new_order_of(&self.orders, row) {
             return Ok(false);
         }
-        let is_new = seen.insert(order_key(row.warehouse, row.district, row.order))?;
+        let is_new = seen.insert(OrderKey::new(row.warehouse, row.district, row.order))?;
         Ok(is_new)
     }
 
@@ -206,7 +207,7 @@ impl Rule<OrderLine, IndexSet<LineKey>> for OrderLineRule<'_> {
         if !self.is_line(row) {
             return Ok(false);
         }
-        let order = order_key(row.warehouse, row.district, row.order);
+        let order = OrderKey::new(row.warehouse, row.district, row.order);
         let number = row.number;
         let is_new = seen.insert(LineKey { order, number })?;
         Ok(is_new)

@@ -1,8 +1,8 @@
-//! Pages: a fixed number of bytes, read and written as little-endian fields.
+//! Pages: a fixed number of bytes, with little-endian fields among them.
 #![tactic(auto)]
 
 ghost use Rattle.std.specs.Prelude.{◌≡◌, ℕ, ◌+◌, ◌*◌, ◌^◌, ◌<◌, ◌≤◌, List, length, replicate};
-ghost use Rattle.hy_page.specs.Bytes.{number_of, bytes_of, bytes_at, overwritten, AreBytes};
+ghost use Rattle.hy_page.specs.Bytes.{number_of, bytes_at, overwritten, AreBytes};
 
 use std::marker::Model;
 
@@ -47,21 +47,6 @@ impl<const N: usize> Page<N> {
     {
         let whole = &self.bytes[..];
         number(&whole[offset..offset + width])
-    }
-
-    /// The page with `value` in the `width` bytes from `offset` on, the lowest byte first.
-    pub fn with_field(self, offset: usize, width: usize, value: u64) -> Page<N>
-        requires within { offset + width ≤ N }
-        requires width { width ≤ 8 }
-        requires fits { value < 256 ^ width }
-        ensures bytes { result ≡ overwritten self.entry offset (bytes_of width value) }
-        ensures size { length result ≡ N }
-    {
-        let mut page = self;
-        let digits = value.to_le_bytes();
-        let whole = &digits[..];
-        page.write(offset, &whole[..width]);
-        page
     }
 
     /// Writes bytes over those from `offset` on.

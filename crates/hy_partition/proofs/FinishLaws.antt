@@ -1,33 +1,44 @@
 -- Steps one after another, until nothing runs.
-use Rattle.std.proofs.Common.{◌≡◌, ℕ, ◌-◌, ◌<◌, ◌⊎◌, inl, inr, ◌++◌, Option, Some, None, Result, Ok, Err, refl, sym, ap, ◌∙◌, subst, arith}
+use Rattle.std.proofs.Common.{◌≡◌, ℕ, ◌-◌, ◌<◌, ◌≤◌, ◌⊎◌, true, false, inl, inr, ◌++◌, Option, Some, None, Result, Ok, Err, refl, sym, ap, ◌∙◌, subst, arith}
 use Rattle.std.specs.Prelude.{IsSome, MatchOption, IsOkAnd}
 use Rattle.hy_schema.specs.declared.refusal.Refusal.{Refusal}
 use Rattle.hy_schema.specs.declared.refusal.Refusal.TheVariants as refusals
 use Rattle.hy_commands.specs.declared.command.Command.{Command}
 use Rattle.hy_commands.specs.declared.reply.Reply.{Reply}
 use Rattle.hy_commands.specs.Commands.{kept_of}
-use Rattle.hy_slices.specs.Slices.{slice_count}
+use Rattle.hy_slices.specs.Slices.{has_item_at, has_items_before, slice_count}
 use Rattle.hy_space.specs.Space.{owner_bytes}
 use Rattle.hy_undo.specs.UndoLog.{undone}
+use Rattle.hy_undo.proofs.PrivatePageLaws.{SameForChildren-then}
 use Rattle.hy_tpcc.specs.Executor.{ExecutorState}
+use Rattle.hy_tpcc.specs.Shortages.{FindsNoFrame}
 use Rattle.hy_partition.specs.Jobs.{RunningJob}
 use Rattle.hy_partition.specs.Partition.{PartitionState, outcome_now, refusal_now}
-use Rattle.hy_partition.specs.Steps.{Accepts, Ends, KeepsRest, Refuses, StepsTo}
+use Rattle.hy_partition.specs.Steps.{Accepts, Ends, KeepsRest, LacksFrame, Refuses, RefusesAt, StepsTo}
 use Rattle.hy_partition.specs.declared.job.Progress.{Progress}
 use Rattle.hy_partition.specs.declared.job.Progress.TheVariants as progress
 use Rattle.hy_partition.specs.inside.Soundness.{IsSound}
 use Rattle.hy_partition.proofs.SoundLaws.{runs}
 
--- the same command runs, and nothing was kept
+-- the same command runs, no slice was taken back, and nothing was kept
 pub record IsOnItsWay (old now : PartitionState) (first job : RunningJob) : Type 0 where
   pub command : job.command ≡ first.command
+  pub slices : first.slices ≤ job.slices
   pub kept : now.kept ≡ old.kept
   pub bytes : undone (owner_bytes now.space) now.undo ≡ undone (owner_bytes old.space) old.undo
   pub rest : KeepsRest old now
 
 -- a job ended
 abbrev pub HasEnded : RunningJob → PartitionState → PartitionState → Type 0
-HasEnded first old now = Accepts first.command old now ⊎ Refuses first.command old now
+HasEnded first old now = Accepts first.command old now ⊎ Refuses first old now
+
+-- where a job was refused, nothing runs
+refused-running : (command : Command) (done : ℕ) (old new : PartitionState) → RefusesAt command done old new
+    → new.running ≡ None
+refused-running command done old new refuses = elim refuses.reason [
+  | inl item ↦ item.2.running
+  | inr other ↦ elim other [ inl frame ↦ frame.2.running | inr memory ↦ memory.1.running ]
+]
 
 -- what some steps have reached of the job that ran at first
 abbrev pub Reached : PartitionState → PartitionState → Type 0
@@ -65,6 +76,7 @@ reached-start p = at p.running refl
         subst (λ (running : Option RunningJob). MatchOption running (HasEnded first p p) (IsOnItsWay p p first)) (sym is)
         (record {
           command = refl;
+          slices = omega arith;
           kept = refl;
           bytes = refl;
           rest = record {
@@ -105,24 +117,50 @@ module _ (old now new : PartitionState) (first job : RunningJob) (way : IsOnItsW
             (subst (λ (c : Command). Ends old new (outcome_now before c).reply) command ends);
       }
 
-  refuses-then : Refuses job.command now new → Refuses first.command old new
-  refuses-then refuses = record {
-    kept = refuses.kept ∙ way.kept;
-    bytes = refuses.bytes ∙ way.bytes;
-    reason = elim refuses.reason [
-      | inl item ↦
-          let refused : refusal_now before job.command ≡ Some refusals.NoSuchItem = item.0 in
-          inl (
-            as_before old now way.rest way.kept (λ p. refusal_now p first.command ≡ Some refusals.NoSuchItem)
-                (subst (λ (c : Command). refusal_now before c ≡ Some refusals.NoSuchItem) way.command refused),
-            ends-then old now new _ way.rest item.1,
-          )
-      | inr other ↦ elim other [
-        | inl frame ↦ inr (inl (ends-then old now new _ way.rest frame))
-        | inr memory ↦ inr (inr (ends-then old now new _ way.rest memory))
-      ]
-    ];
+  -- what is the same for the command and for the partition as they were
+  items-then : (P : Command → PartitionState → Type 0) → P job.command before → P first.command old
+  items-then P holds =
+      as_before old now way.rest way.kept (λ p. P first.command p)
+      (subst (λ (c : Command). P c before) way.command holds)
+
+  lacks-then : LacksFrame job.command job.slices now new → LacksFrame first.command job.slices old new
+  lacks-then lacks = record {
+    space = lacks.space;
+    undo = lacks.undo;
+    found = subst (λ (c : Command). FindsNoFrame c job.slices lacks.space) way.command lacks.found;
+    counts = lacks.counts;
+    bytes = lacks.bytes ∙ way.bytes;
+    children = SameForChildren-then old.space now.space lacks.space way.rest.children lacks.children;
+    max_frames = lacks.max_frames ∙ way.rest.max_frames;
+    gives_up = lacks.gives_up;
   }
+
+  refuses-then : RefusesAt job.command job.slices now new → Refuses first old new
+  refuses-then refuses =
+      let there : has_item_at now.load.items job.command job.slices ≡ true
+      → has_item_at old.load.items first.command job.slices ≡ true =
+      λ there. items-then (λ c p. has_item_at p.load.items c job.slices ≡ true) there in
+      record {
+        done = job.slices;
+        reached = way.slices;
+        refused = record {
+          next = subst (λ (c : Command). job.slices < slice_count c) way.command refuses.next;
+          items = items-then (λ c p. has_items_before p.load.items c job.slices ≡ true) refuses.items;
+          kept = refuses.kept ∙ way.kept;
+          bytes = refuses.bytes ∙ way.bytes;
+          reason = elim refuses.reason [
+            | inl item ↦ inl (
+              items-then (λ c p. has_item_at p.load.items c job.slices ≡ false) item.0,
+              items-then (λ c p. refusal_now p c ≡ Some refusals.NoSuchItem) item.1,
+              ends-then old now new _ way.rest item.2,
+            )
+            | inr other ↦ elim other [
+              | inl frame ↦ inr (inl (there frame.0, lacks-then frame.1, ends-then old now new _ way.rest frame.2))
+              | inr memory ↦ inr (inr (there memory.0, ends-then old now new _ way.rest memory.1))
+            ]
+          ];
+        };
+      }
 
   -- one step more
   ended : new.running ≡ None → HasEnded first old new
@@ -131,12 +169,6 @@ module _ (old now new : PartitionState) (first job : RunningJob) (way : IsOnItsW
       subst (λ (running : Option RunningJob). MatchOption running (HasEnded first old new) (IsOnItsWay old new first))
       (sym none) how
 
-  refused_running : Refuses job.command now new → new.running ≡ None
-  refused_running refuses = elim refuses.reason [
-    | inl item ↦ item.1.running
-    | inr other ↦ elim other [ inl frame ↦ frame.running | inr memory ↦ memory.running ]
-  ]
-
   stepped : (reached : Progress) → StepsTo job now new reached
       → MatchOption new.running (HasEnded first old new) (IsOnItsWay old new first)
   stepped progress.More steps =
@@ -144,13 +176,14 @@ module _ (old now new : PartitionState) (first job : RunningJob) (way : IsOnItsW
       subst (λ (running : Option RunningJob). MatchOption running (HasEnded first old new) (IsOnItsWay old new first))
       (sym more.running) (record {
         command = way.command;
+        slices = omega (arith, way.slices);
         kept = more.kept ∙ way.kept;
         bytes = more.bytes ∙ way.bytes;
         rest = keeps_rest-then old now new way.rest more.rest;
       })
   stepped progress.Finished steps = elim steps [
     | inl last ↦ ended last.1.ends.running (inl (accepts-then last.1))
-    | inr refuses ↦ ended (refused_running refuses) (inr (refuses-then refuses))
+    | inr refuses ↦ ended (refused-running job.command job.slices now new refuses) (inr (refuses-then refuses))
   ]
 
 pub reached-step : (old now new : PartitionState) (outcome : Result Progress Refusal) → IsSome now.running
@@ -206,10 +239,7 @@ fewer_left n places executor p new outcome sound running step = at p.running ref
     fewer job is progress.Finished steps =
         let none : new.running ≡ None = elim steps [
           | inl last ↦ last.1.ends.running
-          | inr refuses ↦ elim refuses.reason [
-            | inl item ↦ item.1.running
-            | inr other ↦ elim other [ inl frame ↦ frame.running | inr memory ↦ memory.running ]
-          ]
+          | inr refuses ↦ refused-running job.command job.slices p new refuses
         ] in
         omega (arith, (runs n places executor p sound job is).slices, ap steps_left none)
 

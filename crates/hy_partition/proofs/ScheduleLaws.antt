@@ -14,7 +14,7 @@ use Rattle.hy_space.specs.Space.{child_bytes}
 use Rattle.hy_partition.specs.Jobs.{RunningJob}
 use Rattle.hy_partition.specs.Partition.{PartitionState, commits_of}
 use Rattle.hy_partition.specs.Schedules.{Does, DoesStep, Event, IsTaken, IsWorldOf, KeepsAll, Leads, Runs, Taken, World, begins, closes, forks, fresh_world, rows_of, steps, takes, with_end, with_open, with_slice, world_rows}
-use Rattle.hy_partition.specs.Steps.{KeepsRest, Refuses, StepsTo}
+use Rattle.hy_partition.specs.Steps.{KeepsRest, RefusesAt, StepsTo}
 use Rattle.hy_partition.specs.declared.job.Progress.{Progress}
 use Rattle.hy_partition.specs.declared.job.Progress.TheVariants as progress
 use Rattle.hy_partition.proofs.ReplayLaws.{sound-rows}
@@ -178,13 +178,13 @@ module _ (n : ℕ) (p q : PartitionState) (world : World) (job : RunningJob) (is
     snapshots = λ number. still_taken n p q number (world.open_at number) rest (is.snapshots number);
   }
 
-  refused_to : Refuses job.command p q → Leads n steps world q
+  refused_to : RefusesAt job.command job.slices p q → Leads n steps world q
   refused_to refuses =
       let ends : (q.running ≡ None) × IsSome q.finished × KeepsRest p q = elim refuses.reason [
-        | inl item ↦ (item.1.running, ap is_some item.1.finished, item.1.rest)
+        | inl item ↦ (item.2.running, ap is_some item.2.finished, item.2.rest)
         | inr other ↦ elim other [
-          | inl frame ↦ (frame.running, ap is_some frame.finished, frame.rest)
-          | inr memory ↦ (memory.running, ap is_some memory.finished, memory.rest)
+          | inl frame ↦ (frame.2.running, ap is_some frame.2.finished, frame.2.rest)
+          | inr memory ↦ (memory.1.running, ap is_some memory.1.finished, memory.1.rest)
         ]
       ] in
       step_to (with_end world world.kept) (inr (inr refl))

@@ -11,15 +11,16 @@ use Rattle.hy_commands.specs.declared.reply.Reply.{Reply}
 use Rattle.hy_commands.specs.declared.reply.Reply.TheVariants as replies
 use Rattle.hy_commands.specs.Commands.{kept_of}
 use Rattle.hy_commands.specs.Transactions.{Outcome, begin_refusal_of}
-use Rattle.hy_slices.specs.Slices.{has_item_at, slice_count}
+use Rattle.hy_slices.specs.Slices.{has_item_at, has_items_before, slice_count}
 use Rattle.hy_slices.proofs.SliceLaws.{slices-refused}
-use Rattle.hy_space.specs.Space.{SpaceState, owner_bytes}
+use Rattle.hy_space.specs.Space.{CountsAreExact, SpaceState, owner_bytes}
 use Rattle.hy_store.specs.Stored.{HasStore, stored}
 use Rattle.hy_store.specs.Writes.{WritesStore}
 use Rattle.hy_undo.specs.PrivatePages.{GivesUpPages}
 use Rattle.hy_undo.specs.UndoLog.{UndoLog, undone, empty_log}
 use Rattle.hy_layout.specs.Layout.{LayoutState}
 use Rattle.hy_tpcc.specs.Executor.{ExecutorState, IsUnderWay, answer_of}
+use Rattle.hy_tpcc.specs.Shortages.{FindsNoFrame}
 use Rattle.hy_partition.specs.Jobs.{DoneState, RunningJob, is_last}
 use Rattle.hy_partition.specs.Partition.{PartitionState, outcome_now, refusal_now, rows_now}
 use Rattle.hy_partition.specs.Steps.{Ends, StepsTo}
@@ -55,6 +56,11 @@ answered-last true given reply is = (refl, cc)
 pub not_last : (job : RunningJob) → job.slices < slice_count job.command → is_last job ≡ false
     → job.slices + 1 < slice_count job.command
 not_last job few more = grind (arith, nat_tests, few, more)
+
+-- an item is there or it isn't
+there-or : (there : Bool) → (there ≡ false → ⊥) → there ≡ true
+there-or true gone = refl
+there-or false gone = absurd (gone refl)
 
 -- the reply to a refusal
 ends-refused : (old new : PartitionState) (refusal other : Refusal) → refusal ≡ other
@@ -96,10 +102,14 @@ module _ (n places : ℕ) (executor : ExecutorState) (p : PartitionState) (sound
       (writes : WritesStore n p.space mid p.undo log) where
     pub steps-more : (next : RunningJob) → next ≡ record job { slices = job.slices + 1 }
         → is_last job ≡ false
+        → ((before : Tables) → IsUnderWay executor job.command job.slices before (stored n (owner_bytes p.space))
+        → IsUnderWay executor' job.command (job.slices + 1) before (stored n (owner_bytes mid)))
         → StepsTo job p (record p { running = Some next; undo = log; space = mid }) progress.More
-    steps-more next next_is more = (
+    steps-more next next_is more under_way = (
       more,
       record {
+        items = subst (λ (layout : LayoutState). has_items_before layout.load.items job.command (job.slices + 1) ≡ true)
+            (layout ∙ sound.layout) (under_way (rows_now p) way).slices.known;
         running = ap Some next_is;
         finished = refl;
         kept = refl;
@@ -164,6 +174,8 @@ module _ (n places : ℕ) (executor : ExecutorState) (p : PartitionState) (sound
     -- a slice that is refused ends the job, and the pages are put back
     pub steps-refused : (space : SpaceState) (undo : UndoLog) (refusal : Refusal) (finished : DoneState)
         → (refusal ≡ refusals.NoSuchItem → has_item_at executor.layout.load.items job.command job.slices ≡ false)
+        → (has_item_at executor.layout.load.items job.command job.slices ≡ false → refusal ≡ refusals.NoSuchItem)
+        → (refusal ≡ refusals.NoFrame → FindsNoFrame job.command job.slices mid) → CountsAreExact mid
         → (refusal ≡ refusals.NoSuchItem) ⊎ (refusal ≡ refusals.NoFrame) ⊎ (refusal ≡ refusals.NoMemory)
         → undo ≡ empty_log space → owner_bytes space ≡ undone (owner_bytes mid) log → GivesUpPages mid space
         → finished ≡ record { reply = replies.Refused refusal }
@@ -173,7 +185,7 @@ module _ (n places : ℕ) (executor : ExecutorState) (p : PartitionState) (sound
           finished = Some finished;
           space = space;
         }) progress.Finished
-    steps-refused space undo refusal finished missing why none bytes gives_up is =
+    steps-refused space undo refusal finished missing only lacks counts why none bytes gives_up is =
         let after : PartitionState = record p {
           running = None;
           undo = undo;
@@ -196,7 +208,14 @@ module _ (n places : ℕ) (executor : ExecutorState) (p : PartitionState) (sound
             };
           };
         } in
+        let there : (refusal ≡ refusals.NoSuchItem → ⊥) → has_item_at p.load.items job.command job.slices ≡ true =
+        λ other. subst (λ (layout : LayoutState). has_item_at layout.load.items job.command job.slices ≡ true)
+        sound.layout
+        (there-or (has_item_at executor.layout.load.items job.command job.slices) (λ gone. other (only gone))) in
         inr (record {
+          next = slices-running;
+          items = subst (λ (layout : LayoutState). has_items_before layout.load.items job.command job.slices ≡ true)
+              sound.layout way.slices.known;
           kept = refl;
           bytes = bytes ∙ writes.undoes.undone;
           reason = elim why [
@@ -207,10 +226,26 @@ module _ (n places : ℕ) (executor : ExecutorState) (p : PartitionState) (sound
                 sound.layout way.slices.begun.begun in
                 let refused = slices-refused p.load.items p.warehouse job.command (rows_now p) job.slices begins
                 (λ there. differ there gone) in
-                inl (refused, ends-refused p after refusal _ item ends)
+                inl (gone, refused, ends-refused p after refusal _ item ends)
             | inr other ↦ elim other [
-              | inl frame ↦ inr (inl (ends-refused p after refusal _ frame ends))
-              | inr memory ↦ inr (inr (ends-refused p after refusal _ memory ends))
+              | inl frame ↦ inr (inl (
+                there (λ item. let same : refusals.NoSuchItem ≡ refusals.NoFrame = sym item ∙ frame in absurd (cc)),
+                record {
+                  space = mid;
+                  undo = log;
+                  found = lacks frame;
+                  counts = counts;
+                  bytes = writes.undoes.undone;
+                  children = writes.children;
+                  max_frames = writes.limit;
+                  gives_up = gives_up;
+                },
+                ends-refused p after refusal _ frame ends,
+              ))
+              | inr memory ↦ inr (inr (
+                there (λ item. let same : refusals.NoSuchItem ≡ refusals.NoMemory = sym item ∙ memory in absurd (cc)),
+                ends-refused p after refusal _ memory ends,
+              ))
             ]
           ];
         })

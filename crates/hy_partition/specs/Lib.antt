@@ -6,5 +6,6 @@ pub mod Headline
 pub mod Steps
 pub mod Schedules
 pub mod WorkedRows
+pub mod WorkedRefusals
 pub mod WorkedSchedules
 pub mod inside

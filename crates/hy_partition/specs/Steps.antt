@@ -1,5 +1,5 @@
 -- What the calls on a partition do to it.
-use Rattle.std.specs.Prelude.{◌≡◌, ◌≢◌, ℕ, ◌+◌, ◌&&◌, ◌||◌, ◌==◌, ◌⊎◌, not, if◌then◌else◌, Bool, true, false, is_some, [], ◌++◌, length, Option, None, Some}
+use Rattle.std.specs.Prelude.{◌≡◌, ◌≢◌, ℕ, ◌+◌, ◌<◌, ◌≤◌, ◌&&◌, ◌||◌, ◌==◌, ◌⊎◌, not, if◌then◌else◌, Bool, true, false, is_some, [], ◌++◌, length, Option, None, Some}
 use Rattle.std.specs.Option.{option_or}
 use Rattle.hy_rows.specs.Spelling.{Spells}
 use Rattle.hy_rows.specs.Tables.{Lists}
@@ -11,9 +11,12 @@ use Rattle.hy_commands.specs.declared.reply.Reply.TheVariants as replies
 use Rattle.hy_commands.specs.Commands.{is_reader, kept_of}
 use Rattle.hy_commands.specs.Transactions.{begin_refusal_of}
 use Rattle.hy_frames.specs.FrameTable.{count_of, free_of}
-use Rattle.hy_space.specs.Space.{SameForChildren, SameForOwner, SameForOthers, IsLeastFree, DropsUsers, owner_bytes, child_bytes, child_table, child_times}
-use Rattle.hy_undo.specs.UndoLog.{undone, empty_log}
+use Rattle.hy_slices.specs.Slices.{has_item_at, has_items_before, slice_count}
+use Rattle.hy_space.specs.Space.{CountsAreExact, SameForChildren, SameForOwner, SameForOthers, IsLeastFree, DropsUsers, SpaceState, owner_bytes, child_bytes, child_table, child_times}
+use Rattle.hy_undo.specs.UndoLog.{UndoLog, undone, empty_log}
+use Rattle.hy_undo.specs.PrivatePages.{GivesUpPages}
 use Rattle.hy_undo.specs.Touched.{touched}
+use Rattle.hy_tpcc.specs.Shortages.{FindsNoFrame}
 use Rattle.hy_partition.specs.declared.job.Progress.{Progress}
 use Rattle.hy_partition.specs.declared.job.Progress.TheVariants as progress
 use Rattle.hy_partition.specs.Partition.{PartitionState, commits_of, outcome_now, refusal_now, rows_now}
@@ -45,8 +48,10 @@ pub record KeepsRest (old new : PartitionState) : Type 0 where
   pub children : SameForChildren old.space new.space
   pub max_frames : new.space.frames.max ≡ old.space.frames.max
 
--- a slice was done, and more are to come: what is kept and what undoing gives stay
+-- a slice was done, and more are to come: what is kept and what undoing gives stay. No slice so far asked for an item
+-- that isn't there
 pub record Continues (job : RunningJob) (old new : PartitionState) : Type 0 where
+  pub items : has_items_before old.load.items job.command (job.slices + 1) ≡ true
   pub running : new.running ≡ Some (record job { slices = job.slices + 1 })
   pub finished : new.finished ≡ old.finished
   pub kept : new.kept ≡ old.kept
@@ -67,19 +72,44 @@ pub record Accepts (command : Command) (old new : PartitionState) : Type 0 where
   pub kept : new.kept ≡ old.kept ++ kept_of command
   pub ends : Ends old new (outcome_now old command).reply
 
--- the command was refused: what is kept stays, and the pages are as they were when the job began. The reply is that an
--- item isn't there, where the warehouse refuses the command for it, or that memory or a frame lacked
-pub record Refuses (command : Command) (old new : PartitionState) : Type 0 where
+-- the slice behind so many of a command lacked a frame: its writes led to pages on which none was free, and from which
+-- undoing gives what it gave; they were given up for those that are there now
+pub record LacksFrame (command : Command) (done : ℕ) (old new : PartitionState) : Type 0 where
+  pub space : SpaceState
+  pub undo : UndoLog
+  pub found : FindsNoFrame command done space
+  pub counts : CountsAreExact space
+  pub bytes : undone (owner_bytes space) undo ≡ undone (owner_bytes old.space) old.undo
+  pub children : SameForChildren old.space space
+  pub max_frames : space.frames.max ≡ old.space.frames.max
+  pub gives_up : GivesUpPages space new.space
+
+-- the command was refused at the slice behind so many: what is kept stays, and the pages are as they were when the job
+-- began. The items of all slices before are there. The reply is that the item of this slice isn't there, as the
+-- warehouse refuses the command too; where it is there, that a frame lacked, or memory
+pub record RefusesAt (command : Command) (done : ℕ) (old new : PartitionState) : Type 0 where
+  pub next : done < slice_count command
+  pub items : has_items_before old.load.items command done ≡ true
   pub kept : new.kept ≡ old.kept
   pub bytes : owner_bytes new.space ≡ undone (owner_bytes old.space) old.undo
-  pub reason : ((refusal_now old command ≡ Some refusals.NoSuchItem) × Ends old new (replies.Refused refusals.NoSuchItem))
-      ⊎ Ends old new (replies.Refused refusals.NoFrame) ⊎ Ends old new (replies.Refused refusals.NoMemory)
+  pub reason :
+      ((has_item_at old.load.items command done ≡ false) × (refusal_now old command ≡ Some refusals.NoSuchItem)
+      × Ends old new (replies.Refused refusals.NoSuchItem))
+      ⊎ ((has_item_at old.load.items command done ≡ true) × LacksFrame command done old new
+      × Ends old new (replies.Refused refusals.NoFrame))
+      ⊎ ((has_item_at old.load.items command done ≡ true) × Ends old new (replies.Refused refusals.NoMemory))
+
+-- the job was refused at its next slice or at a later one
+pub record Refuses (job : RunningJob) (old new : PartitionState) : Type 0 where
+  pub done : ℕ
+  pub reached : job.slices ≤ done
+  pub refused : RefusesAt job.command done old new
 
 -- what one step of a job does: the last slice finishes it, and so does a refusal
 abbrev pub StepsTo : RunningJob → PartitionState → PartitionState → Progress → Type 0
 StepsTo job old new progress.More = (is_last job ≡ false) × Continues job old new
 StepsTo job old new progress.Finished =
-    ((is_last job ≡ true) × Accepts job.command old new) ⊎ Refuses job.command old new
+    ((is_last job ≡ true) × Accepts job.command old new) ⊎ RefusesAt job.command job.slices old new
 
 -- what no snapshot changes: the warehouse with its job
 pub record KeepsJob (old new : PartitionState) : Type 0 where

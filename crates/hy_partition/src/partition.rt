@@ -131,9 +131,9 @@ impl<const N: usize> Partition<N> {
         Ok(())
     }
 
-    /// Does one slice of the job that runs. The last one accepts the command; a slice that is refused, since an item
-    /// isn't there or for want of memory or of a frame, undoes what was done. In both cases the reply waits to be taken.
-    /// E10 where nothing runs.
+    /// Does one slice of the job that runs. The last one accepts the command; a slice that is refused undoes what was
+    /// done: E7 exactly where its item isn't there, else E2 where it writes and no frame is free, or E1. In both cases the
+    /// reply waits to be taken. E10 where nothing runs.
     pub fn step(&mut self) -> Result<Progress, Refusal>
         ensures { MatchOption self.old.running ((result ≡ Err Refusal.NotRunning) × (self.new ≡ self.old))
             (λ job. IsOkAnd result (StepsTo job self.old self.new)) }
@@ -157,6 +157,7 @@ impl<const N: usize> Partition<N> {
                 Ok(Progress::Finished)
             }
             Err(refusal) => {
+                self.space.sound();
                 self.undo.roll_back(&mut self.space);
                 put(&mut self.finished, running.refuse(refusal));
                 Ok(Progress::Finished)
@@ -167,7 +168,7 @@ impl<const N: usize> Partition<N> {
     /// Steps until nothing runs.
     pub fn finish_running(&mut self)
         ensures { MatchOption self.old.running (self.new ≡ self.old)
-            (λ job. Accepts job.command self.old self.new ⊎ Refuses job.command self.old self.new) }
+            (λ job. Accepts job.command self.old self.new ⊎ Refuses job self.old self.new) }
     {
         while self.running.is_some() {
             let _progress = self.step();

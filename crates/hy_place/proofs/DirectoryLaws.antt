@@ -53,7 +53,8 @@ pub IsUnwritten-at : (old new : Option FilesByPath) (directory : List ℕ) (text
     → (why ≡ fault.Refused refusals.NoMemory) ⊎ (why ≡ fault.CannotWrite (get_or tables number table.Warehouse))
     → IsUnwritten old new directory texts why
 IsUnwritten-at old new directory texts number why within files others (inl memory) =
-    subst (IsUnwritten old new directory texts) (sym memory) refl
+    subst (IsUnwritten old new directory texts) (sym memory)
+    (refl, inr (get_or tables number table.Warehouse, (number, slice_get-get_or tables number table.Warehouse within, files, others)))
 IsUnwritten-at old new directory texts number why within files others (inr unwritten) =
     subst (IsUnwritten old new directory texts) (sym unwritten)
     (number, slice_get-get_or tables number table.Warehouse within, files, others)

@@ -1,5 +1,5 @@
 -- Files by their paths, as far as they are known.
-use Rattle.std.specs.Prelude.{◌≡◌, ◌≢◌, ⊤, ℕ, List, Option, None, Some}
+use Rattle.std.specs.Prelude.{◌≡◌, ◌≢◌, ⊤, ℕ, List, [], ◌∷◌, ◌++◌, Option, None, Some}
 use Rattle.std.specs.IoError.{error_kind}
 use Rattle.std.specs.declared.io.Error.{Error}
 use Rattle.std.specs.declared.io.ErrorKind.TheVariants.{OutOfMemory}
@@ -28,6 +28,17 @@ KeepsOthers None None path = ⊤
 KeepsOthers None (Some new) path = ⊥
 KeepsOthers (Some old) None path = ⊥
 KeepsOthers (Some old) (Some new) path = (other : List ℕ) → other ≢ path → new other ≡ old other
+
+-- paths at which something was done, in order, as far as they are known
+abbrev pub KnownPaths : Type 0
+KnownPaths = Option (List (List ℕ))
+
+-- known paths have one more behind them; others stay unknown
+abbrev pub AddsPath : KnownPaths → KnownPaths → List ℕ → Type 0
+AddsPath None None path = ⊤
+AddsPath None (Some new) path = ⊥
+AddsPath (Some old) None path = ⊥
+AddsPath (Some old) (Some new) path = new ≡ old ++ path ∷ []
 
 -- an error for want of memory
 abbrev pub IsOutOfMemory : Error → Type 0

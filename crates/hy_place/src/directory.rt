@@ -4,7 +4,7 @@ ghost use Rattle.std.specs.Prelude.{◌≡◌, ◌≢◌, ◌⊎◌, ℕ, List, 
 ghost use Rattle.hy_schema.specs.declared.refusal.Refusal.TheVariants as refusals;
 ghost use Rattle.hy_place.specs.declared.directory.FileFault.TheVariants as fault;
 ghost use Rattle.hy_place.specs.Directory.{AreFiles, KeepsOtherFiles, file_name, path_of, tables};
-ghost use Rattle.hy_place.specs.Faults.{IsUnread, IsUnwritten};
+ghost use Rattle.hy_place.specs.Faults.{IsOfPlace, IsUnread, IsUnwritten};
 ghost use Rattle.hy_place.specs.Files.{HasFile, IsMissing, IsOutOfMemory, KeepsOthers};
 
 use crate::place::Place;
@@ -98,6 +98,7 @@ fn read_file<F: Place>(
     table: Table,
 ) -> Result<Vec<u8>, FileFault>
     ensures files { F.files place.new ≡ F.files place.old }
+    ensures folders { F.folders place.new ≡ F.folders place.old }
     ensures bytes { IfOk result
         (λ bytes. HasFile (F.files place.old) (path_of directory.now table) bytes.items) }
     ensures fault { IfErr result
@@ -123,6 +124,9 @@ fn write_file<F: Place>(
     ensures others { KeepsOthers (F.files place.old) (F.files place.new) (path_of directory.now table) }
     ensures fault { IfErr result
         (λ why. (why ≡ fault.Refused refusals.NoMemory) ⊎ (why ≡ fault.CannotWrite table)) }
+    ensures folders { F.folders place.new ≡ F.folders place.old }
+    ensures written { OnOk result (F.unwritten place.new ≡ F.unwritten place.old) }
+    ensures unwritten { IfErr result (IsOfPlace (F.unwritten place.old) (F.unwritten place.new) directory.now) }
 {
     let path = path_of(alloc, directory, table)?;
     match place.write(path.as_str(), bytes) {
@@ -138,6 +142,7 @@ pub fn read_files<F: Place>(
     directory: &str,
 ) -> Result<Vec<Vec<u8>>, FileFault>
     ensures files { F.files place.new ≡ F.files place.old }
+    ensures folders { F.folders place.new ≡ F.folders place.old }
     ensures texts { IfOk result
         (λ texts. AreFiles (F.files place.old) directory.now tables (map (λ text. text.items) texts.items)) }
     ensures fault { IfErr result (IsUnread (F.files place.old) directory.now) }
@@ -162,6 +167,8 @@ pub fn write_files<F: Place>(
     ensures others { KeepsOtherFiles (F.files place.old) (F.files place.new) directory.now tables }
     ensures fault { IfErr result
         (IsUnwritten (F.files place.old) (F.files place.new) directory.now (map (λ text. text.items) texts.now)) }
+    ensures folders { F.folders place.new ≡ F.folders place.old }
+    ensures unwritten { IfErr result (IsOfPlace (F.unwritten place.old) (F.unwritten place.new) directory.now) }
 {
     for (number, table) in TABLES.iter().enumerate() {
         write_file(alloc, place, directory, *table, &texts[number])?;

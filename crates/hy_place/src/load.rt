@@ -1,9 +1,10 @@
 //! A load in the nine files of a directory.
 
-ghost use Rattle.std.specs.Prelude.{◌≡◌, IfErr, MatchResult, OnOk, length, map};
+ghost use Rattle.std.specs.Prelude.{◌≡◌, ◌⊎◌, IfErr, MatchResult, OnOk, length, map};
 ghost use Rattle.hy_tables.specs.Files.{texts_of};
 ghost use Rattle.hy_place.specs.Directory.{AreFiles, KeepsOtherFiles, tables};
-ghost use Rattle.hy_place.specs.Faults.{IsUnwritten};
+ghost use Rattle.hy_place.specs.Faults.{IsOfPlace, IsUnwritten};
+ghost use Rattle.hy_place.specs.Files.{AddsPath};
 ghost use Rattle.hy_place.specs.Loads.{AreRefused, HaveTexts, IsReadFault, SayLoad};
 
 use crate::directory::{FileFault, read_files, write_files};
@@ -18,6 +19,7 @@ use std::alloc::Global;
 /// read; E12 names what is wrong with their texts, and E1 comes where memory is refused.
 pub fn read_load<F: Place>(alloc: Global, place: &mut F, directory: &str) -> Result<Load, FileFault>
     ensures files { F.files place.new ≡ F.files place.old }
+    ensures folders { F.folders place.new ≡ F.folders place.old }
     ensures load { MatchResult result (λ load. HaveTexts (F.files place.old) directory.now (SayLoad load))
         (IsReadFault (F.files place.old) directory.now) }
 {
@@ -54,6 +56,10 @@ pub fn write_load<F: Place>(
     ensures others { KeepsOtherFiles (F.files place.old) (F.files place.new) directory.now tables }
     ensures fault { IfErr result
         (IsUnwritten (F.files place.old) (F.files place.new) directory.now (texts_of load.now)) }
+    ensures folder { OnOk result (AddsPath (F.folders place.old) (F.folders place.new) directory.now) }
+    ensures folders { (F.folders place.new ≡ F.folders place.old)
+        ⊎ AddsPath (F.folders place.old) (F.folders place.new) directory.now }
+    ensures unwritten { IfErr result (IsOfPlace (F.unwritten place.old) (F.unwritten place.new) directory.now) }
 {
     let texts = save(alloc, load)?;
     let _made = place.make_folder(directory);

@@ -1,10 +1,9 @@
 -- What a run of the program leaves, by the way in which it ended. Of files and of bytes that were written, a pair has
 -- what was there before, and what is there after it, as far as they are known.
-use Rattle.std.specs.Prelude.{◌≡◌, ◌⊎◌, ⊤, ℕ, List, Option}
-use Rattle.std.specs.declared.io.Error.{Error}
+use Rattle.std.specs.Prelude.{◌≡◌, ◌⊎◌, ℕ, List, Option}
 use Rattle.hy_schema.specs.declared.refusal.Refusal.TheVariants as refusals
 use Rattle.hy_place.specs.Directory.{KeepsOtherFiles, tables}
-use Rattle.hy_place.specs.Files.{FilesByPath}
+use Rattle.hy_place.specs.Files.{AddsPath, FilesByPath, KnownPaths}
 use Rattle.hy_words.specs.CommandLine.{Says}
 use Rattle.hy_words.specs.declared.words.Line.{Line}
 use Rattle.hy_words.specs.declared.words.Line.TheVariants as line
@@ -22,6 +21,9 @@ use Rattle.hy_program.specs.Generate.{IsGenerateFault, IsGenerated, IsSize}
 
 abbrev pub KnownFiles : Type 0
 KnownFiles = Option FilesByPath × Option FilesByPath
+
+abbrev pub BothPaths : Type 0
+BothPaths = KnownPaths × KnownPaths
 
 abbrev pub KnownBytes : Type 0
 KnownBytes = Option (List ℕ) × Option (List ℕ)
@@ -49,12 +51,12 @@ IsDone (line.Script directory file frames kept) files bytes =
 
 -- why a command line isn't done; where it is refused, nothing is printed, but for a script's answers to the events
 -- before a bad one
-abbrev pub IsFaultOf : Line → KnownFiles → KnownBytes → Type 0 → RunFault → Type 0
-IsFaultOf (line.First amount) files bytes unprinted why = IsFirstFault amount unprinted why
-IsFaultOf (line.Generate directory warehouses customers items) files bytes unprinted why =
-    IsGenerateFault directory.now (size_of warehouses customers items) files unprinted why
-IsFaultOf (line.Check directory) files bytes unprinted why = IsCheckFault directory.now files.0 unprinted why
-IsFaultOf (line.Script directory file frames kept) files bytes unprinted why =
+abbrev pub IsFaultOf : Line → KnownFiles → BothPaths → KnownBytes → Type 0 → RunFault → Type 0
+IsFaultOf (line.First amount) files unwritten bytes unprinted why = IsFirstFault amount unprinted why
+IsFaultOf (line.Generate directory warehouses customers items) files unwritten bytes unprinted why =
+    IsGenerateFault directory.now (size_of warehouses customers items) files unwritten unprinted why
+IsFaultOf (line.Check directory) files unwritten bytes unprinted why = IsCheckFault directory.now files.0 unprinted why
+IsFaultOf (line.Script directory file frames kept) files unwritten bytes unprinted why =
     IsScriptFaultOf directory.now file.now (limits_of frames kept) files.0 bytes.0 bytes.1 unprinted why
 
 -- `gen` alone writes files, those of its folder, where there is a database of its size
@@ -63,31 +65,51 @@ MayWrite (line.Generate directory warehouses customers items) files =
     IsSize (size_of warehouses customers items) × KeepsOtherFiles files.0 files.1 directory.now tables
 MayWrite other files = ⊥
 
+-- and it alone makes a folder, its own, where there is a database of its size
+abbrev pub MayMake : Line → BothPaths → Type 0
+MayMake (line.Generate directory warehouses customers items) folders =
+    IsSize (size_of warehouses customers items) × AddsPath folders.0 folders.1 directory.now
+MayMake other folders = ⊥
+
+-- a command line that was done has made no folder, but for `gen`, which was to make its own
+abbrev pub HasMade : Line → BothPaths → Type 0
+HasMade (line.Generate directory warehouses customers items) folders = AddsPath folders.0 folders.1 directory.now
+HasMade other folders = folders.1 ≡ folders.0
+
 -- the files stay as they were, but where the words say a command line that writes some
 abbrev pub KeepsFiles : List (List ℕ) → KnownFiles → Type 0
 KeepsFiles words files = (files.1 ≡ files.0) ⊎ ((line : Line) × Says words line × MayWrite line files)
+
+-- no folder is made, but where the words say a command line that makes one
+abbrev pub KeepsFolders : List (List ℕ) → BothPaths → Type 0
+KeepsFolders words folders = (folders.1 ≡ folders.0) ⊎ ((line : Line) × Says words line × MayMake line folders)
+
+-- the words say a command line that made the folders which it makes
+abbrev pub HaveMade : List (List ℕ) → BothPaths → Type 0
+HaveMade words folders = (line : Line) × Says words line × HasMade line folders
 
 -- the words say a command line that was done
 abbrev pub Completes : List (List ℕ) → KnownFiles → KnownBytes → Type 0
 Completes words files bytes = (line : Line) × Says words line × IsDone line files bytes
 
--- this is why the words aren't done: their command line isn't, or memory is refused
-abbrev pub IsWhyUndone : List (List ℕ) → KnownFiles → RunFault → Type 0
-IsWhyUndone words files why =
-    (why ≡ fault.Refused refusals.NoMemory) ⊎ ((line : Line) × (bytes : KnownBytes) × Says words line × IsFaultOf line files bytes ⊤ why)
+-- this is why the words aren't done, and this is what there is then: memory was refused while they were read, and nothing
+-- was done or printed; or their command line isn't done, and the files and the first writer have what it leaves for that
+-- reason
+abbrev pub AreUndone : List (List ℕ) → KnownFiles → BothPaths → KnownBytes → Type 0 → RunFault → Type 0
+AreUndone words files unwritten bytes unprinted why =
+    ((why ≡ fault.Refused refusals.NoMemory) × (files.1 ≡ files.0) × unprinted)
+    ⊎ ((line : Line) × Says words line × ((files.1 ≡ files.0) ⊎ MayWrite line files)
+    × IsFaultOf line files unwritten bytes unprinted why)
 
--- the words aren't done, and the line that says why stands behind the bytes that were there
-abbrev pub ExplainsRefusal : List (List ℕ) → KnownFiles → KnownBytes → Type 0
-ExplainsRefusal words files bytes = (why : RunFault) × IsWhyUndone words files why × Explains why bytes.0 bytes.1
+-- the words aren't done for one reason, and the line that says it stands behind the bytes of the second writer
+abbrev pub AreRefused : List (List ℕ) → KnownFiles → BothPaths → KnownBytes → Type 0 → KnownBytes → Type 0
+AreRefused words files unwritten bytes unprinted second =
+    (why : RunFault) × AreUndone words files unwritten bytes unprinted why × Explains why second.0 second.1
 
--- the words say a command line that is done as far as its print
-abbrev pub AreDoneUnprinted : List (List ℕ) → KnownFiles → Type 0
-AreDoneUnprinted words files = (error : Error) × IsWhyUndone words files (fault.Writer error)
-
--- a script whose answers, up to a bad event, stand behind the bytes that were there
-abbrev pub EndsAtBadEvent : List (List ℕ) → KnownFiles → KnownBytes → Type 0
-EndsAtBadEvent words files bytes =
-    (line : Line) × (number : ℕ) × Says words line × IsFaultOf line files bytes ⊥ (fault.BadEvent number)
+-- the same, and what the second writer has isn't known
+abbrev pub AreUndoneSilently : List (List ℕ) → KnownFiles → BothPaths → KnownBytes → Type 0 → Type 0
+AreUndoneSilently words files unwritten bytes unprinted =
+    (why : RunFault) × AreUndone words files unwritten bytes unprinted why
 
 -- the exit status of a run that ended so
 abbrev pub status_of : Ending → ℕ

@@ -19,6 +19,7 @@ pub fn run_check<'a, F: Place, O: io::Write>(
     out: &mut O,
 ) -> Result<(), RunFault<'a>>
     ensures files { F.files place.new ≡ F.files place.old }
+    ensures folders { F.folders place.new ≡ F.folders place.old }
     ensures done { OnOk result
         (IsChecked directory.entry.now (F.files place.old) (O.contents out.old) (O.contents out.new)) }
     ensures fault { IfErr result (IsCheckFault directory.entry.now (F.files place.old) (out.new ≡ out.old)) }

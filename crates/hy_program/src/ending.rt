@@ -1,7 +1,10 @@
 //! How a run of the program ends.
 
 ghost use Rattle.std.specs.Prelude.{◌≡◌};
+ghost use Rattle.std.specs.Process.{exit_status};
 ghost use Rattle.hy_program.specs.Runs.{status_of};
+
+use std::process::ExitCode;
 
 /// How a run of the program ended.
 #[derive(Clone, Copy, Debug, PartialEq, Eq)]
@@ -26,5 +29,12 @@ impl Ending {
             Ending::Refused | Ending::WriterFailed => 1,
             Ending::NoLine => 2,
         }
+    }
+
+    /// The exit status, as a program's `main` returns it.
+    pub fn exit_code(self) -> ExitCode
+        ensures { exit_status result ≡ status_of self }
+    {
+        ExitCode::from(self.status())
     }
 }

@@ -82,7 +82,7 @@ fn run_slices(partition: &mut Partition<PAGE_BYTES>)
     requires { IsSomeAnd partition.old.running HasTwoSlices }
     ensures { IsSomeAnd partition.old.running
         (λ job. Accepts job.command partition.old partition.new
-        ⊎ Refuses job.command partition.old partition.new) }
+        ⊎ Refuses job partition.old partition.new) }
 {
     match partition.step() {
         Ok(Progress::More) => {

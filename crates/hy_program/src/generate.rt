@@ -1,8 +1,9 @@
 //! The command `gen`: a generated database as files.
 
-ghost use Rattle.std.specs.Prelude.{◌≡◌, IfErr, IsFalse, OnOk};
+ghost use Rattle.std.specs.Prelude.{◌≡◌, ◌⊎◌, IfErr, IsFalse, OnOk};
 ghost use Rattle.hy_tables.specs.Generated.{is_size};
 ghost use Rattle.hy_place.specs.Directory.{KeepsOtherFiles, tables};
+ghost use Rattle.hy_place.specs.Files.{AddsPath};
 ghost use Rattle.hy_program.specs.Generate.{IsGenerateFault, IsGenerated};
 
 use crate::fault::RunFault;
@@ -33,10 +34,16 @@ pub fn run_generate<'a, F: Place, O: io::Write>(
     ensures others { KeepsOtherFiles (F.files place.old) (F.files place.new) directory.entry.now tables }
     ensures unwritten { IsFalse (is_size size.warehouses size.customers size.items) →
         F.files place.new ≡ F.files place.old }
+    ensures folder { OnOk result (AddsPath (F.folders place.old) (F.folders place.new) directory.entry.now) }
+    ensures folders { (F.folders place.new ≡ F.folders place.old)
+        ⊎ AddsPath (F.folders place.old) (F.folders place.new) directory.entry.now }
+    ensures unmade { IsFalse (is_size size.warehouses size.customers size.items) →
+        F.folders place.new ≡ F.folders place.old }
     ensures done { OnOk result
         (IsGenerated directory.entry.now size (F.files place.new) (O.contents out.old) (O.contents out.new)) }
     ensures fault { IfErr result
-        (IsGenerateFault directory.entry.now size (F.files place.old, F.files place.new) (out.new ≡ out.old)) }
+        (IsGenerateFault directory.entry.now size (F.files place.old, F.files place.new)
+        (F.unwritten place.old, F.unwritten place.new) (out.new ≡ out.old)) }
 {
     let Size {
         warehouses,

@@ -5,7 +5,7 @@ ghost use Rattle.hy_words.specs.CommandLine.{AreTaken, HasLimits, texts_of};
 ghost use Rattle.hy_words.specs.declared.words.Line.TheVariants as line;
 ghost use Rattle.hy_program.specs.declared.ending.Ending.{Ending};
 ghost use Rattle.hy_program.specs.Faults.{Explains};
-ghost use Rattle.hy_program.specs.Runs.{AreDoneUnprinted, Completes, EndsAtBadEvent, ExplainsRefusal, IsDone, IsFaultOf, KeepsFiles, MayWrite};
+ghost use Rattle.hy_program.specs.Runs.{AreRefused, AreUndoneSilently, Completes, HasMade, HaveMade, IsDone, IsFaultOf, KeepsFiles, KeepsFolders, MayMake, MayWrite};
 
 use crate::check::run_check;
 use crate::ending::Ending;
@@ -30,24 +30,26 @@ pub fn run_words<F: Place, O: io::Write, X: io::Write>(
 ) -> Ending
     ensures files { KeepsFiles (texts_of words.entry.now) (F.files place.old, F.files place.new) }
 
+    ensures folders { KeepsFolders (texts_of words.entry.now) (F.folders place.old, F.folders place.new) }
+
     ensures done { result ≡ Ending.Done →
         Completes (texts_of words.entry.now) (F.files place.old, F.files place.new)
         (O.contents out.old, O.contents out.new) }
+    ensures made { result ≡ Ending.Done →
+        HaveMade (texts_of words.entry.now) (F.folders place.old, F.folders place.new) }
     ensures done_without_words { result ≡ Ending.Done → err.new ≡ err.old }
 
+    // One reason says what stands on both writers, and what the files are.
     ensures refused { result ≡ Ending.Refused →
-        ExplainsRefusal (texts_of words.entry.now) (F.files place.old, F.files place.new)
+        AreRefused (texts_of words.entry.now) (F.files place.old, F.files place.new)
+        (F.unwritten place.old, F.unwritten place.new) (O.contents out.old, O.contents out.new) (out.new ≡ out.old)
         (X.contents err.old, X.contents err.new) }
-    ensures refused_unprinted { result ≡ Ending.Refused → (out.new ≡ out.old)
-        ⊎ EndsAtBadEvent (texts_of words.entry.now) (F.files place.old, F.files place.new)
-        (O.contents out.old, O.contents out.new) }
 
-    // What was refused printed nothing, even where that couldn't be explained.
+    // The parser's text couldn't be written, or there is such a reason: a writer's failure, or one that couldn't be explained.
     ensures writer_failed { result ≡ Ending.WriterFailed →
-        (out.new ≡ out.old)
-        ⊎ AreDoneUnprinted (texts_of words.entry.now) (F.files place.old, F.files place.new)
-        ⊎ EndsAtBadEvent (texts_of words.entry.now) (F.files place.old, F.files place.new)
-        (O.contents out.old, O.contents out.new) }
+        ((¬ (AreTaken (texts_of words.entry.now))) × (place.new ≡ place.old) × (out.new ≡ out.old))
+        ⊎ AreUndoneSilently (texts_of words.entry.now) (F.files place.old, F.files place.new)
+        (F.unwritten place.old, F.unwritten place.new) (O.contents out.old, O.contents out.new) (out.new ≡ out.old) }
 
     ensures at_fault { result ≡ Ending.NoLine → ¬ (AreTaken (texts_of words.entry.now)) }
     ensures no_line { result ≡ Ending.NoLine → (place.new ≡ place.old) × (out.new ≡ out.old) }
@@ -93,11 +95,14 @@ fn run_line<'a, F: Place, O: io::Write>(
     requires { HasLimits line }
     ensures files { (F.files place.new ≡ F.files place.old)
         ⊎ MayWrite line.entry (F.files place.old, F.files place.new) }
+    ensures folders { (F.folders place.new ≡ F.folders place.old)
+        ⊎ MayMake line.entry (F.folders place.old, F.folders place.new) }
+    ensures made { OnOk result (HasMade line.entry (F.folders place.old, F.folders place.new)) }
     ensures done { OnOk result
         (IsDone line.entry (F.files place.old, F.files place.new) (O.contents out.old, O.contents out.new)) }
     ensures fault { IfErr result
-        (IsFaultOf line.entry (F.files place.old, F.files place.new) (O.contents out.old, O.contents out.new)
-        (out.new ≡ out.old)) }
+        (IsFaultOf line.entry (F.files place.old, F.files place.new) (F.unwritten place.old, F.unwritten place.new)
+        (O.contents out.old, O.contents out.new) (out.new ≡ out.old)) }
 {
     match line {
         Line::First { amount } => run_first(alloc, amount, out),

@@ -3,7 +3,8 @@
 ghost use Rattle.std.specs.Prelude.{◌≡◌, ◌≤◌, IfErr, IfOk, OnOk};
 ghost use Rattle.hy_partition.specs.Limits.{most_kept};
 ghost use Rattle.hy_frames.specs.FrameTable.{max_frames as most_frames};
-ghost use Rattle.hy_program.specs.Script.{HasScript, IsReadAllFault, IsScriptDone, IsScriptFaultOf, IsWhyUnread};
+ghost use Rattle.hy_place.specs.Files.{HasFile};
+ghost use Rattle.hy_program.specs.Script.{HasScript, IsFileFault, IsReadAllFault, IsScriptDone, IsScriptFaultOf, IsWhyUnread};
 
 use crate::PAGE_BYTES;
 use crate::fault::RunFault;
@@ -29,6 +30,7 @@ pub fn run_script_file<'a, F: Place, O: io::Write>(
     requires some_kept { 1 ≤ limits.kept }
     requires kept { limits.kept ≤ most_kept }
     ensures files { F.files place.new ≡ F.files place.old }
+    ensures folders { F.folders place.new ≡ F.folders place.old }
     ensures done { OnOk result (IsScriptDone directory.entry.now file.entry.now limits (F.files place.old)
         (O.contents out.old) (O.contents out.new)) }
     ensures fault { IfErr result (IsScriptFaultOf directory.entry.now file.entry.now limits (F.files place.old)
@@ -56,7 +58,7 @@ pub struct Limits {
 }
 
 /// The load in the files of a folder, and the bytes of a file behind them. What can't be read is named before what is
-/// wrong with the load.
+/// wrong with the load. Where memory is refused for the load, the file isn't read.
 fn read_all<'a, F: Place>(
     alloc: Global,
     directory: &'a str,
@@ -64,21 +66,38 @@ fn read_all<'a, F: Place>(
     place: &mut F,
 ) -> Result<(Load, Vec<u8>), RunFault<'a>>
     ensures files { F.files place.new ≡ F.files place.old }
+    ensures folders { F.folders place.new ≡ F.folders place.old }
     ensures read { IfOk result
         (λ read. HasScript directory.entry.now file.entry.now (F.files place.old) read.0 read.1.items) }
     ensures fault { IfErr result (IsReadAllFault directory.entry.now file.entry.now (F.files place.old)) }
 {
-    let loaded = read_load(alloc, place, directory);
-    if let Err(FileFault::CannotRead(table)) = loaded {
-        return Err(RunFault::of_files(directory, FileFault::CannotRead(table)));
-    }
-    let script = match place.read(alloc, file) {
-        Ok(script) => script,
-        Err(error) => return Err(why_unread(file, error)),
-    };
-    match loaded {
-        Ok(load) => Ok((load, script)),
+    match read_load(alloc, place, directory) {
+        Ok(load) => {
+            let script = read_script(alloc, file, place)?;
+            Ok((load, script))
+        }
+        Err(FileFault::Refused(Refusal::BadLoad(fault))) => {
+            let _script = read_script(alloc, file, place)?;
+            Err(RunFault::Refused(Refusal::BadLoad(fault)))
+        }
         Err(found) => Err(RunFault::of_files(directory, found)),
+    }
+}
+
+/// The bytes of the file of a script.
+fn read_script<'a, F: Place>(
+    alloc: Global,
+    file: &'a str,
+    place: &mut F,
+) -> Result<Vec<u8>, RunFault<'a>>
+    ensures files { F.files place.new ≡ F.files place.old }
+    ensures folders { F.folders place.new ≡ F.folders place.old }
+    ensures read { IfOk result (λ script. HasFile (F.files place.old) file.entry.now script.items) }
+    ensures fault { IfErr result (IsFileFault file.entry.now (F.files place.old)) }
+{
+    match place.read(alloc, file) {
+        Ok(script) => Ok(script),
+        Err(error) => Err(why_unread(file, error)),
     }
 }
 

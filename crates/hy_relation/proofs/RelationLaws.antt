@@ -10,7 +10,7 @@ use Rattle.std.specs.Option.{option_to_list}
 use Rattle.hy_page.proofs.ByteLaws.{field_of_zeros}
 use Rattle.hy_rows.proofs.FirstItems.{get_or-first_items, length-first_items}
 use Rattle.hy_rows.specs.Spelling.{HasSlots, live_rows, row_of_slot, slot_at, slot_bytes, slot_start, slot_width, slots_of, slots_per_page, used_slots}
-use Rattle.hy_relation.specs.Relation.{IsLive, pages_after_push}
+use Rattle.hy_relation.specs.Relation.{HasAllSlotsUsed, IsLive, pages_after_push}
 use Rattle.hy_relation.specs.inside.Places.{CountsSlots, GrowsSlots, WritesSlot, slot_page}
 use Rattle.hy_relation.proofs.SlotLaws.{slots_in, slots_in-behind, slots_in-erased, slots_in-filled, slots_in-grown, slots_in-pushed, some_slots, start-within}
 use Rattle.hy_relation.proofs.PageLaws.{Sized, length-slot_bytes}
@@ -26,14 +26,20 @@ slot_within n width k pages room there =
 
 -- how many pages there are after one slot more
 module _ (n width : ℕ) (pages : List (List ℕ)) (room : slot_width width ≤ n) where
-  pub pages-full : HasSlots n width pages → slot_page n width (used_slots pages) ≡ length pages → pages_after_push n width pages ≡ length pages + 1
-  pages-full slots last =
+  pub slots-used : HasSlots n width pages → slot_page n width (used_slots pages) ≡ length pages → HasAllSlotsUsed n width pages
+  slots-used slots last =
       let per = slots_per_page n width in
       let count = length pages - 1 in
       let place : used_slots pages / per ≡ count = omega (arith, last) in
       let enough : used_slots pages / per * per ≤ used_slots pages = div-mul-le_self (used_slots pages) per in
       let product : used_slots pages / per * per ≡ count * per = ap (λ q. q * per) place in
-      let full : used_slots pages ≡ per * count = omega (arith, slots.slots, enough, product) in
+      omega (arith, slots.slots, enough, product)
+
+  pub pages-full : HasSlots n width pages → slot_page n width (used_slots pages) ≡ length pages → pages_after_push n width pages ≡ length pages + 1
+  pages-full slots last =
+      let per = slots_per_page n width in
+      let count = length pages - 1 in
+      let full : used_slots pages ≡ per * count = slots-used slots last in
       let is_full : (used_slots pages == per * count) ≡ true = grind (arith, nat_tests, full) in
       rw is_full refl
 

@@ -1,6 +1,6 @@
 -- A relation: the rows of one table, in the slots of its segment, on the owner's pages of a space. Its value is the
 -- list of its used slots (`hy_rows`, `slots_of`): the row of each, or none where it was erased.
-use Rattle.std.specs.Prelude.{◌≡◌, ◌≢◌, ℕ, ◌+◌, ◌-◌, ◌*◌, ◌==◌, if◌then◌else◌, Bool, true, List, length, take, find, slice_index_or, Option, None, Some, IsSome}
+use Rattle.std.specs.Prelude.{◌≡◌, ◌≢◌, ℕ, ◌+◌, ◌-◌, ◌*◌, ◌/◌, ◌≤◌, ◌==◌, if◌then◌else◌, Bool, true, List, length, take, find, slice_index_or, Option, None, Some, IsSome}
 use Rattle.hy_rows.specs.Spelling.{HasSlots, list_at, live_rows, slots_of, slots_per_page, used_slots}
 use Rattle.hy_space.specs.Space.{SpaceState, owner_bytes}
 
@@ -21,10 +21,19 @@ pub record ChangesSegment (old new : List (List (List ℕ))) (segment : ℕ) : T
   pub segments : length new ≡ length old
   pub others : (other : ℕ) → other ≢ segment → list_at new other ≡ list_at old other
 
+-- each slot of the pages is used
+abbrev pub HasAllSlotsUsed : ℕ → ℕ → List (List ℕ) → Type 0
+HasAllSlotsUsed n row_bytes pages = used_slots pages ≡ slots_per_page n row_bytes * (length pages - 1)
+
 -- how many pages the segment has after one push more: another one only where each slot of its pages is used
 abbrev pub pages_after_push : ℕ → ℕ → List (List ℕ) → ℕ
 pages_after_push n row_bytes pages =
     if used_slots pages == slots_per_page n row_bytes * (length pages - 1) then length pages + 1 else length pages
+
+-- the segment has no more pages than its used slots and one more need: the first page, those whose slots are all used,
+-- and one behind them, which a refused push can leave without a used slot
+abbrev pub HasFewPages : ℕ → ℕ → List (List ℕ) → Type 0
+HasFewPages n row_bytes pages = length pages ≤ used_slots pages / slots_per_page n row_bytes + 2
 
 -- what a slot has: a row, or none where it was erased or was never used
 abbrev pub row_in : {Row : Type 0} → List (Option Row) → ℕ → Option Row

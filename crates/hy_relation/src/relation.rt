@@ -1,12 +1,12 @@
 //! Relations.
 
-ghost use Rattle.std.specs.Prelude.{◌≡◌, ℕ, ◌+◌, ◌^◌, ◌<◌, ◌≤◌, ◌++◌, ◌∷◌, [], ◌↔◌, length, slice_set, Some, None, Err, IfOk, OnOk, OnErr, IsErrOf};
+ghost use Rattle.std.specs.Prelude.{◌≡◌, ℕ, ◌+◌, ◌^◌, ◌<◌, ◌≤◌, ◌++◌, ◌∷◌, [], ◌↔◌, ◌⊎◌, length, slice_set, Some, None, Err, IfOk, OnOk, OnErr, IsErrOf};
 ghost use Rattle.hy_frames.specs.FrameTable.{free_of};
 ghost use Rattle.hy_rows.specs.Spelling.{HasSlots, live_rows, rows_of};
 ghost use Rattle.hy_space.specs.Space.{owner_bytes, page_count};
 ghost use Rattle.hy_undo.specs.PrivatePages.{IsUndoLog};
-ghost use Rattle.hy_undo.specs.Writes.{CanUndo, CanUndoGrowth, IsOutOfFrames};
-ghost use Rattle.hy_relation.specs.Relation.{ChangesSegment, HasRelation, IsLive, owner_pages, pages_after_push, relation_slots, row_in as row_in_slots};
+ghost use Rattle.hy_undo.specs.Writes.{CanUndo, CanUndoGrowth, HasChild, IsOutOfFrames};
+ghost use Rattle.hy_relation.specs.Relation.{ChangesSegment, HasAllSlotsUsed, HasFewPages, HasRelation, IsLive, owner_pages, pages_after_push, relation_slots, row_in as row_in_slots};
 
 use crate::lent::{know_sizes, row_on, used_on};
 use crate::slots::{know_few, live_slot, make_room, row_in, used_of, write_count, write_slot};
@@ -66,6 +66,8 @@ impl<R: Row> Relation<R> {
             ≡ slice_set (relation_slots N R.SEGMENT R.BYTES R.row_of_bytes space.old) slot (Some row.now)) }
         ensures only { OnOk result (ChangesSegment (owner_bytes space.old) (owner_bytes space.new) R.SEGMENT) }
         ensures can_undo { CanUndo N 1 space.old space.new undo.old undo.new }
+        ensures few { HasFewPages N R.BYTES (owner_pages space.old R.SEGMENT)
+            → HasFewPages N R.BYTES (owner_pages space.new R.SEGMENT) }
         ensures no_frame { result ≡ Err Shortage.NoFrame → IsOutOfFrames space.old }
         ensures err { OnErr result ((undo.new ≡ undo.old) × (space.new ≡ space.old)) }
     {
@@ -90,6 +92,8 @@ impl<R: Row> Relation<R> {
             ≡ slice_set (relation_slots N R.SEGMENT R.BYTES R.row_of_bytes space.old) slot None) }
         ensures only { OnOk result (ChangesSegment (owner_bytes space.old) (owner_bytes space.new) R.SEGMENT) }
         ensures can_undo { CanUndo N 1 space.old space.new undo.old undo.new }
+        ensures few { HasFewPages N R.BYTES (owner_pages space.old R.SEGMENT)
+            → HasFewPages N R.BYTES (owner_pages space.new R.SEGMENT) }
         ensures no_frame { result ≡ Err Shortage.NoFrame → IsOutOfFrames space.old }
         ensures err { OnErr result ((undo.new ≡ undo.old) × (space.new ≡ space.old)) }
     {
@@ -110,6 +114,8 @@ impl<R: Row> Relation<R> {
         ensures slots { OnOk result (HasRelation N R.SEGMENT R.BYTES space.new) }
         ensures empty { OnOk result (relation_slots N R.SEGMENT R.BYTES R.row_of_bytes space.new ≡ []) }
         ensures only { OnOk result (ChangesSegment (owner_bytes space.old) (owner_bytes space.new) R.SEGMENT) }
+        ensures pages { OnOk result (length (owner_pages space.new R.SEGMENT) ≡ 1) }
+        ensures few { OnOk result (HasFewPages N R.BYTES (owner_pages space.new R.SEGMENT)) }
         ensures can_undo { CanUndoGrowth N 0 1 space.old space.new undo.now undo.now }
         ensures full { IsErrOf result Shortage.NoFrame ↔ (free_of space.old.frames ≡ 0) }
         ensures err { OnErr result (space.new ≡ space.old) }
@@ -133,11 +139,15 @@ impl<R: Row> Relation<R> {
             ≡ relation_slots N R.SEGMENT R.BYTES R.row_of_bytes space.old ++ Some row.now ∷ []) }
         ensures number { IfOk result (λ slot. slot
             ≡ length (relation_slots N R.SEGMENT R.BYTES R.row_of_bytes space.old)) }
-        ensures only { OnOk result (ChangesSegment (owner_bytes space.old) (owner_bytes space.new) R.SEGMENT) }
+        ensures only { ChangesSegment (owner_bytes space.old) (owner_bytes space.new) R.SEGMENT }
         ensures pages { OnOk result (length (owner_pages space.new R.SEGMENT)
             ≡ pages_after_push N R.BYTES (owner_pages space.old R.SEGMENT)) }
+        ensures few { HasFewPages N R.BYTES (owner_pages space.old R.SEGMENT)
+            → HasFewPages N R.BYTES (owner_pages space.new R.SEGMENT) }
         ensures can_undo { CanUndoGrowth N 2 2 space.old space.new undo.old undo.new }
         ensures no_frame { result ≡ Err Shortage.NoFrame → free_of space.new.frames ≡ 0 }
+        ensures wanted { result ≡ Err Shortage.NoFrame → HasChild space.new
+            ⊎ HasAllSlotsUsed N R.BYTES (owner_pages space.old R.SEGMENT) }
         ensures kept { OnErr result (relation_slots N R.SEGMENT R.BYTES R.row_of_bytes space.new
             ≡ relation_slots N R.SEGMENT R.BYTES R.row_of_bytes space.old) }
     {

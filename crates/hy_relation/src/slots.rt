@@ -7,7 +7,7 @@ ghost use Rattle.hy_rows.specs.Spelling.{row_of_slot, slot_at, slot_width, used_
 ghost use Rattle.hy_space.specs.Space.{HasPage, IsOwn, owner_bytes};
 ghost use Rattle.hy_undo.specs.PrivatePages.{IsUndoLog};
 ghost use Rattle.hy_undo.specs.Writes.{CanUndo, CanUndoGrowth, IsOutOfFrames};
-ghost use Rattle.hy_relation.specs.Relation.{ChangesSegment, HasRelation, owner_pages, pages_after_push};
+ghost use Rattle.hy_relation.specs.Relation.{ChangesSegment, HasAllSlotsUsed, HasFewPages, HasRelation, owner_pages, pages_after_push};
 ghost use Rattle.hy_relation.specs.inside.Places.{CountsSlots, GrowsSlots, WritesSlot, slot_offset, slot_page};
 
 use crate::place::{Place, place_of};
@@ -99,6 +99,8 @@ pub(crate) fn write_slot<R: Row, const N: usize>(
     ensures slot { OnOk result (WritesSlot N R.BYTES (owner_pages space.old R.SEGMENT)
         (owner_pages space.new R.SEGMENT) slot bytes.now) }
     ensures only { OnOk result (ChangesSegment (owner_bytes space.old) (owner_bytes space.new) R.SEGMENT) }
+    ensures few { HasFewPages N R.BYTES (owner_pages space.old R.SEGMENT)
+        → HasFewPages N R.BYTES (owner_pages space.new R.SEGMENT) }
     ensures can_undo { CanUndo N 1 space.old space.new undo.old undo.new }
     ensures no_frame { result ≡ Err Shortage.NoFrame → IsOutOfFrames space.old }
     ensures free { IsOwn space.old R.SEGMENT (slot_page N R.BYTES slot)
@@ -143,11 +145,15 @@ pub(crate) fn make_room<R: Row, const N: usize>(
         (owner_pages space.new R.SEGMENT)) }
     ensures pages { OnOk result (length (owner_pages space.new R.SEGMENT)
         ≡ pages_after_push N R.BYTES (owner_pages space.old R.SEGMENT)) }
+    ensures few { HasFewPages N R.BYTES (owner_pages space.old R.SEGMENT)
+        → HasFewPages N R.BYTES (owner_pages space.new R.SEGMENT) }
     ensures own { OnOk result ((free_of space.new.frames ≡ free_of space.old.frames)
         ⊎ IsOwn space.new R.SEGMENT (slot_page N R.BYTES (used_slots (owner_pages space.old R.SEGMENT)))) }
     ensures only { OnOk result (ChangesSegment (owner_bytes space.old) (owner_bytes space.new) R.SEGMENT) }
     ensures can_undo { CanUndoGrowth N 0 1 space.old space.new undo.now undo.now }
     ensures no_frame { result ≡ Err Shortage.NoFrame → free_of space.old.frames ≡ 0 }
+    ensures wanted { result ≡ Err Shortage.NoFrame
+        → HasAllSlotsUsed N R.BYTES (owner_pages space.old R.SEGMENT) }
     ensures err { OnErr result (space.new ≡ space.old) }
 {
     space.sound();

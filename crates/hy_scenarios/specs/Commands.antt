@@ -1,13 +1,13 @@
 -- The commands of a scenario: their words, and what they print.
-use Rattle.std.specs.Prelude.{◌≡◌, ◌≢◌, ◌⊎◌, ℕ, not, ◌==◌, List, [], ◌∷◌, ◌++◌, Option, None, Some, if◌then◌else◌, bytes_eq, codes, filter, length}
+use Rattle.std.specs.Prelude.{◌≡◌, ◌≢◌, ℕ, not, ◌==◌, List, [], ◌∷◌, ◌++◌, Option, None, Some, if◌then◌else◌, bytes_eq, codes, filter, length}
 use Rattle.hy_events.specs.Words.{parts}
 use Rattle.hy_place.specs.Files.{FilesByPath}
 use Rattle.hy_words.specs.CommandLine.{AreTaken}
 use Rattle.hy_program.specs.declared.ending.Ending.{Ending}
 use Rattle.hy_program.specs.declared.ending.Ending.TheVariants as ending
-use Rattle.hy_program.specs.Runs.{Completes, EndsAtBadEvent, ExplainsRefusal, KeepsFiles, status_of}
+use Rattle.hy_program.specs.Runs.{AreRefused, Completes, KeepsFiles, status_of}
 use Rattle.hy_scenarios.specs.declared.commands.Output.{Output}
-use Rattle.hy_scenarios.specs.Marks.{behind, output_of, status_in, text_behind}
+use Rattle.hy_scenarios.specs.Marks.{output_of, status_in, text_behind}
 
 -- words have spaces between them; what stands in double quotes is one word
 abbrev pub unquoted_words : List ℕ → List (List ℕ)
@@ -52,6 +52,6 @@ pub record Prints (words : List (List ℕ)) (old new : FilesByPath) (printed : P
   pub done : end ≡ ending.Done
       → Completes words (Some old, Some new) (Some [], Some printed.out) × (printed.err ≡ [])
   pub refused : end ≡ ending.Refused
-      → ExplainsRefusal words (Some old, Some new) (Some [], Some printed.err)
-      × ((printed.out ≡ []) ⊎ EndsAtBadEvent words (Some old, Some new) (Some [], Some printed.out))
+      → AreRefused words (Some old, Some new) (None, None) (Some [], Some printed.out) (printed.out ≡ [])
+      (Some [], Some printed.err)
   pub no_line : end ≡ ending.NoLine → (¬ (AreTaken words)) × (printed.out ≡ []) × (new ≡ old)

@@ -83,7 +83,7 @@ pub enum Refusal {
     NoSuchWarehouse,
     /// A district isn't 1 to 10.
     NoSuchDistrict,
-    /// No customer of the district has the number.
+    /// No customer of the district has the number or the last name.
     NoSuchCustomer,
     /// An item number isn't in ITEM.
     NoSuchItem,
@@ -97,15 +97,15 @@ pub enum Refusal {
     NotMine,
     /// Lists of rows are no load.
     BadLoad(LoadFault),
-    /// A text is no query. The number is the place of the byte at which it fails.
+    /// A text is no query. The number is the place of the byte at which it fails. For queries, which aren't there yet.
     BadQuery(u64),
-    /// The log's writer failed in this call or in an earlier one.
+    /// The log's writer failed in this call or in an earlier one. For the redo log, which isn't there yet.
     LogFailed,
-    /// Bytes are no log. The number is the place of the first byte of the batch at fault.
+    /// Bytes are no log. The number is the place of the first byte of the batch at fault. For recovery from the redo log.
     LogMalformed(u64),
-    /// The engine takes no more jobs.
+    /// The engine takes no more jobs. For the engine of worker threads, which isn't there yet.
     Closed,
-    /// The warehouse's queue is full.
+    /// The warehouse's queue is full. For the engine, too.
     QueueFull,
 }
 

@@ -1,10 +1,10 @@
 -- What a script prints, line by line, and the databases that it goes through.
-use Rattle.std.specs.Prelude.{◌≡◌, ◌≢◌, ◌⊎◌, ◌+◌, ℕ, List, [], ◌∷◌, ◌++◌, Option, None, Some, MatchOption, ⊤, IfSome, length, slice_get}
+use Rattle.std.specs.Prelude.{◌≡◌, ◌≢◌, ◌⊎◌, ◌+◌, ℕ, List, [], ◌∷◌, ◌++◌, Option, None, Some, IsSomeAnd, MatchOption, ⊤, IfSome, length, slice_get}
 use Rattle.std.specs.Io.KnownBytes.{Appends}
 use Rattle.hy_schema.specs.declared.refusal.Refusal.TheVariants as refusals
 use Rattle.hy_rows.specs.Tables.{Lists}
 use Rattle.hy_events.specs.declared.event.Event.{Event}
-use Rattle.hy_events.specs.Events.{event_of}
+use Rattle.hy_events.specs.Events.{TakesMemory, event_of}
 use Rattle.hy_events.specs.Lines.{lines, numbered}
 use Rattle.hy_script.specs.Answers.{Answers, IsMisnamed, refused_text}
 use Rattle.hy_script.specs.Databases.{DatabaseState}
@@ -14,13 +14,13 @@ use Rattle.hy_script.specs.Steps.{Starts}
 abbrev pub IsBad : DatabaseState → List ℕ → Type 0
 IsBad database line = (line ≢ []) × MatchOption (event_of line) ⊤ (IsMisnamed database)
 
--- an answer to a line: an empty one has none, and each other one says an event and is answered, or memory was refused
--- before its event was known
+-- an answer to a line: an empty one has none, and each other one says an event, which is answered; or it says one that
+-- takes memory to be read, which was refused before anything was done
 abbrev pub AnswersLine : ℕ → List ℕ → DatabaseState → DatabaseState → List ℕ → Type 0
 AnswersLine page_size line old new text =
     ((line ≡ []) × (new ≡ old) × (text ≡ []))
     ⊎ ((event : Event) × (event_of line ≡ Some event) × Answers page_size event old new text)
-    ⊎ ((new ≡ old) × (text ≡ refused_text refusals.NoMemory))
+    ⊎ (IsSomeAnd (event_of line) TakesMemory × (new ≡ old) × (text ≡ refused_text refusals.NoMemory))
 
 -- from this database the lines print this text: the answers to all of them in order, or to those before a bad event,
 -- with the number of its line

@@ -6,9 +6,9 @@ use Rattle.hy_commands.specs.Commands.{is_reader}
 use Rattle.hy_commands.specs.declared.command.Command.{Command}
 use Rattle.hy_commands.specs.declared.reply.Reply.{Reply}
 use Rattle.hy_commands.specs.declared.reply.Reply.TheVariants as replies
-use Rattle.hy_frames.specs.FrameTable.{FrameTable, IsLimitFor, free_of}
+use Rattle.hy_frames.specs.FrameTable.{FrameTable, IsLimitFor, count_of, free_of}
 use Rattle.hy_rows.specs.Tables.{Lists}
-use Rattle.hy_space.specs.Space.{SameForOwner}
+use Rattle.hy_space.specs.Space.{SameForChildren, SameForOwner, child_bytes, child_table}
 use Rattle.hy_undo.specs.Touched.{touched}
 use Rattle.hy_partition.specs.declared.job.Progress.{Progress}
 use Rattle.hy_partition.specs.Jobs.{RunningJob}
@@ -41,7 +41,7 @@ IsUnbegun command old why =
 
 -- the job that runs comes to its end
 abbrev pub Ends : Command → PartitionState → PartitionState → Type 0
-Ends command old ended = Accepts command old ended ⊎ Refuses command old ended
+Ends command old ended = Accepts command old ended ⊎ Refuses (record { command = command; slices = 0 }) old ended
 
 -- a whole command was begun, came to its end, and its reply was taken
 pub record IsDone (command : Command) (old new : WarehouseState) (reply : Reply) : Type 0 where
@@ -91,7 +91,8 @@ abbrev pub IsWhyUnforked : List WarehouseState → Refusal → Type 0
 IsWhyUnforked warehouses why =
     ((why ≡ refusals.NoFrame) × SomeLacks warehouses) ⊎ (why ≡ refusals.NoMemory)
 
--- nothing was forked in the end: the job and what is kept stay, and the open snapshots are those from before
+-- nothing was forked in the end: the job and what is kept stay, the open snapshots are those from before, with their
+-- tables and bytes, and each frame has as many users as before
 pub record StaysAsItWas (old new : WarehouseState) : Type 0 where
   pub load : new.partition.load ≡ old.partition.load
   pub warehouse : new.partition.warehouse ≡ old.partition.warehouse
@@ -103,6 +104,9 @@ pub record StaysAsItWas (old new : WarehouseState) : Type 0 where
   pub owner : SameForOwner old.partition.space new.partition.space
   pub max_frames : new.partition.space.frames.max ≡ old.partition.space.frames.max
   pub open_snapshots : (child : ℕ) → commits_of new.partition child ≡ commits_of old.partition child
+  pub tables : (child : ℕ) → child_table new.partition.space child ≡ child_table old.partition.space child
+  pub bytes : (child : ℕ) → child_bytes new.partition.space child ≡ child_bytes old.partition.space child
+  pub counts : (f : ℕ) → count_of new.partition.space.frames f ≡ count_of old.partition.space.frames f
   pub snapshots : new.snapshots ≡ old.snapshots
 
 -- ---- limits
@@ -117,4 +121,5 @@ pub record IsLimited (more : ℕ) (old new : WarehouseState) : Type 0 where
   pub max : new.partition.space.frames.max ≡ limit_for old.partition.space.frames more
   pub job : KeepsJob old.partition new.partition
   pub open_snapshots : new.partition.snapshots ≡ old.partition.snapshots
+  pub children : SameForChildren old.partition.space new.partition.space
   pub snapshots : new.snapshots ≡ old.snapshots

@@ -217,11 +217,13 @@ fn fork_each<const N: usize>(warehouses: &mut [Warehouse<N>]) -> Result<(), Refu
     let Some((first, later)) = warehouses.split_first_mut() else {
         return Ok(());
     };
+    first.counts();
     first.fork()?;
     match fork_each(later) {
         Ok(()) => Ok(()),
         Err(refusal) => {
             first.close_last();
+            first.counts();
             Err(refusal)
         }
     }

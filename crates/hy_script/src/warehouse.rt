@@ -4,6 +4,7 @@ ghost use Rattle.std.specs.Prelude.{◌≡◌, ℕ, ◌+◌, ◌-◌, ◌<◌, �
 ghost use Rattle.std.specs.Option.{option_map};
 ghost use Rattle.hy_schema.specs.declared.refusal.Refusal.{Refusal};
 ghost use Rattle.hy_frames.specs.FrameTable.{IsLimitFor, IsPageSize, free_of, max_frames as most_frames, shared_of};
+ghost use Rattle.hy_space.specs.Space.{CountsAreExact};
 ghost use Rattle.hy_undo.specs.Touched.{touched};
 ghost use Rattle.hy_partition.specs.Limits.{most_kept};
 ghost use Rattle.hy_script.specs.Steps.{Advances, Gains, IsBegun, IsLimited, IsUnbegun, LacksFrames, Loses, Runs, Starts, StaysAsItWas, limit_for};
@@ -155,6 +156,13 @@ impl<const N: usize> Warehouse<N> {
         self.partition.set_max(max)?;
         self.max_frames = max;
         Ok(())
+    }
+
+    /// Each frame of the warehouse has as many users as there are page tables that map it.
+    pub fn counts(&self)
+        ensures { CountsAreExact self.now.partition.space }
+    {
+        self.partition.headline();
     }
 
     /// Opens a snapshot, behind those that are open. E2 where fewer frames are free than that takes; E1.

@@ -25,7 +25,7 @@ use Rattle.hy_commands.specs.Deliveries.{carried, customer_delivered, delivered_
 use Rattle.hy_commands.specs.Growth.{HasGrownBy, IsCustomerUpTo, IsDistrictUpTo, IsLineUpTo, IsMoneyUpTo, IsNewOrderUpTo, IsOrderUpTo, IsPaymentUpTo, IsStockUpTo, IsWarehouseUpTo}
 use Rattle.hy_commands.specs.Invariant.{IsSoundWarehouse}
 use Rattle.hy_commands.specs.NewOrders.{has_item, is_stock, line_row, new_order_row, no_item, order_number, order_row, quantity_left, sold, sold_line, with_next_order}
-use Rattle.hy_commands.proofs.GrowthLaws.{ItemsFit, grown-later}
+use Rattle.hy_commands.proofs.GrowthLaws.{All-with_changed_to, ItemsFit, grown-later, left-small, line-sold, money-later, stock-later, sum-between}
 use Rattle.hy_commands.proofs.KeptByDelivery.{oldest-there}
 use Rattle.hy_commands.proofs.ListLaws.{All-find, All-of_both, column_sum-cons, find-any, find-passes}
 use Rattle.hy_commands.proofs.MeetsLaws.{CountsLines, meets-facts}
@@ -33,33 +33,6 @@ use Rattle.hy_commands.proofs.OnceLaws.{tells-three}
 use Rattle.hy_slices.specs.Slices.{headed, lined}
 
 -- ---- lists
-
--- what holds of the rows once the first that passes was changed
-All-with_changed_to : {Row : Type 0} (P Q : Row → Type 0) (test : Row → Bool) (change : Row → Row)
-    → ((row : Row) → P row → Q (change row)) → ((row : Row) → P row → Q row) → (rows : List Row)
-    → All P rows → All Q (with_changed test change rows)
-All-with_changed_to P Q test change changed same [] all = All-nil Q
-All-with_changed_to P Q test change changed same (row ∷ rows) all =
-    elim (test row) as (λ b. All Q (cond b (change row ∷ rows) (row ∷ with_changed test change rows))) [
-      | true ↦ All-cons Q (change row) rows (changed row (All-head P row rows all)) (All-weaker P Q same rows
-          (All-tail P row rows all))
-      | false ↦ All-cons Q row (with_changed test change rows) (same row (All-head P row rows all))
-          (All-with_changed_to P Q test change changed same rows (All-tail P row rows all))
-    ]
-
--- a sum of amounts from 0 to a bound
-sum-between : {Row : Type 0} (column : Row → ℤ) (rows : List Row)
-    → All (λ row. (pos 0 ≤ℤ column row) × (column row ≤ℤ pos 10_000_000)) rows
-    → (pos 0 ≤ℤ column_sum column rows) × (column_sum column rows ≤ℤ pos (10_000_000 * length rows))
-sum-between column [] all = (omega (arith, ints), omega (arith, ints))
-sum-between column (row ∷ rows) all =
-    let here = All-head (λ row. (pos 0 ≤ℤ column row) × (column row ≤ℤ pos 10_000_000)) row rows all in
-    let later = sum-between column rows (All-tail (λ row. (pos 0 ≤ℤ column row) × (column row ≤ℤ pos 10_000_000)) row
-    rows all) in
-    let split = column_sum-cons column row rows in (
-      omega (arith, ints, here.0, here.1, later.0, later.1, split),
-      omega (arith, ints, here.0, here.1, later.0, later.1, split),
-    )
 
 -- ---- the rows between two slices
 
@@ -74,9 +47,6 @@ pub record IsGrowing (commits deliveries sales : ℕ) (tables : Tables) : Type 0
   pub order_lines : All (IsLineUpTo commits) tables.order_lines
   pub stock : All (IsStockUpTo sales) tables.stock
 
-money-later : (growth target : ℕ) (cents : ℤ) → growth ≤ target → IsMoneyUpTo growth cents → IsMoneyUpTo target cents
-money-later growth target cents more up = (omega (arith, ints, up.0, more), omega (arith, ints, up.1, more))
-
 customer-later : (n m k j : ℕ) → n ≤ m → k ≤ j → (row : Customer) → IsCustomerUpTo n k row → IsCustomerUpTo m j row
 customer-later n m k j more below row up = record {
   id = up.id;
@@ -85,14 +55,6 @@ customer-later n m k j more below row up = record {
   ytd_payment = money-later (500_000 * n) (500_000 * m) row.ytd_payment (omega (arith, more)) up.ytd_payment;
   payment_count = omega (arith, up.payment_count, more);
   delivery_count = omega (arith, up.delivery_count, below);
-}
-
-stock-later : (k j : ℕ) → k ≤ j → (row : Stock) → IsStockUpTo k row → IsStockUpTo j row
-stock-later k j below row up = record {
-  quantity = up.quantity;
-  ytd = omega (arith, up.ytd, below);
-  order_count = omega (arith, up.order_count, below);
-  remote_count = omega (arith, up.remote_count, below);
 }
 
 pub growing-later : (n k m i j : ℕ) (tables : Tables) → k ≤ m → i ≤ j → IsGrowing n k i tables → IsGrowing n m j tables
@@ -199,33 +161,6 @@ module _ (number : ℕ) (order : Purchase) (tables : Tables) (n : ℕ) (small : 
 
 -- ---- a line of it
 
--- what is left of a stock
-left-small : (stock quantity : ℕ) → stock ≤ 9_999 → quantity_left stock quantity ≤ 9_999
-left-small stock quantity small =
-    elim (nat_le (quantity + 10) stock) as (λ b. nat_le (quantity + 10) stock ≡ b
-    → cond b (stock - quantity) (stock + 91 - quantity) ≤ 9_999) [
-      | true ↦ λ enough. omega (arith, small)
-      | false ↦ λ scarce. omega (arith, leb-false (quantity + 10) stock scarce)
-    ] refl
-
--- the stock after a line
-stock-sold : (supplier : ℕ) (order : Purchase) (line : PurchaseLine) (k : ℕ) (rows : List Stock) → line.quantity ≤ 10
-    → All (IsStockUpTo k) rows → All (IsStockUpTo (k + 1)) (sold_line supplier order rows line)
-stock-sold supplier order line k rows few all =
-    let remote : Bool = not (order.warehouse == supplier) in
-    All-with_changed_to (IsStockUpTo k) (IsStockUpTo (k + 1)) (is_stock supplier line.item) (sold remote line.quantity)
-    (λ row up. record {
-      quantity = left-small row.quantity line.quantity up.quantity;
-      ytd = omega (arith, up.ytd, few);
-      order_count = omega (arith, up.order_count);
-      remote_count = remote-more remote row.remote_count k up.remote_count;
-    }) (stock-later k (k + 1) (omega arith)) rows all
-  where
-    remote-more : (remote : Bool) (count k : ℕ) → count ≤ 1_000_000_000_000_000 + k
-        → count + cond remote 1 0 ≤ 1_000_000_000_000_000 + (k + 1)
-    remote-more true count k below = omega (arith, below)
-    remote-more false count k below = omega (arith, below)
-
 module _ (items : List Item) (fits : ItemsFit items) (number : ℕ) (order : Purchase) (taken place : ℕ) (line : PurchaseLine) (n : ℕ) (small : taken ≤ 1_000_000_000 + n) (within : place ≤ 15) (few : line.quantity ≤ 10) (near : line.supply_warehouse ≤ 16) (known : has_item items line ≡ true) where
   added-small : IsLineUpTo n (line_row items order taken place line)
   added-small =
@@ -263,7 +198,7 @@ module _ (items : List Item) (fits : ItemsFit items) (number : ℕ) (order : Pur
             added-small;
         stock = elim own as (λ b. All (IsStockUpTo (i + 1)) (cond b (sold_line number order tables.stock line)
             tables.stock)) [
-              | true ↦ stock-sold number order line i tables.stock few growing.stock
+              | true ↦ line-sold number order line i tables.stock few growing.stock
               | false ↦ All-weaker (IsStockUpTo i) (IsStockUpTo (i + 1)) (stock-later i (i + 1) (omega arith))
                   tables.stock growing.stock
             ];

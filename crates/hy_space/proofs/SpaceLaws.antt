@@ -1,12 +1,12 @@
 -- What each change of frames and tables does to the counts, and to what the owner and the children see.
-use Rattle.std.proofs.Common.{◌≡◌, ◌≢◌, ℕ, Bool, false, ◌+◌, ◌-◌, ◌<◌, ◌≤◌, inl, inr, List, [], ◌∷◌, ◌++◌, length, get_or, take, drop, set, replicate, refl, sym, ap, ◌∙◌, subst, arith, sum_by, All, Option, Some, None, length-set}
+use Rattle.std.proofs.Common.{◌≡◌, ◌≢◌, ℕ, false, ◌+◌, ◌-◌, ◌<◌, ◌≤◌, inl, inr, List, [], ◌∷◌, ◌++◌, length, get_or, take, drop, set, replicate, refl, sym, ap, ◌∙◌, subst, arith, sum_by, All, Option, Some, None, length-set}
 use Rattle.std.specs.Option.{option_map}
 use Rattle.std.proofs.lemmas.List.{get_or_past, get_or-set_same, get_or-set_other, get_or_append_left, get_or_push, length_push}
 use Rattle.std.proofs.lemmas.List.Sums.{sum_by-set, sum_by-le}
 use Rattle.std.proofs.lemmas.List.Elements.{All-from_get_or}
 use Rattle.std.proofs.lemmas.Bool.{cases_lt, cases_eq}
 use Rattle.hy_frames.specs.FrameTable.{Frame, FrameTable, count_of, page_of, lent_at, free_of, frame_at, Sets, Takes, occurrences}
-use Rattle.hy_space.specs.Space.{SpaceState, KeepsOwn, KeepsOthers, WritesPage, GrowsPage, MakesOwn, MakesPrivate, TakesFrame, IsPrivate, page_count, Lends, with_new_frame, with_first_frames, AddsUsers, DropsUsers, child_times, times, table_bytes, owner_bytes, child_table, child_bytes, HasPage, IsOwn, frame_no, with_frame, with_page, with_new_page, with_first_pages}
+use Rattle.hy_space.specs.Space.{SpaceState, KeepsOwn, KeepsOthers, WritesPage, GrowsPage, MakesPrivate, IsPrivate, page_count, Lends, with_new_frame, with_first_frames, AddsUsers, DropsUsers, child_times, times, table_bytes, owner_bytes, child_table, child_bytes, HasPage, IsOwn, frame_no, with_frame, with_page, with_new_page, with_first_pages}
 use Rattle.hy_space.specs.inside.Children.{IsPadded}
 use Rattle.hy_space.specs.inside.Users.{IsCounted}
 use Rattle.hy_space.proofs.UserLaws.{same, same_yes, same_no}
@@ -60,8 +60,8 @@ module _ (page_size : ℕ) (s : SpaceState) (counted : IsCounted page_size s) wh
   child_counted f child = omega (arith, counted.exact f, child_in_sum f s.children child)
 
   -- a page that is the owner's own is written
-  pub written_own : (segment page : ℕ) → HasPage s segment page → IsOwn s segment page → (new : FrameTable) (bytes : List ℕ) (lent : Bool) → Sets s.frames new (frame_no s segment page) (record { count = 1; bytes = bytes; lent = lent }) → (table_bytes new s.owner ≡ with_page (owner_bytes s) segment page bytes) × ((child : ℕ) → option_map (table_bytes new) (child_table s child) ≡ child_bytes s child)
-  written_own segment page place own new bytes lent sets =
+  pub written_own : (segment page : ℕ) → HasPage s segment page → IsOwn s segment page → (new : FrameTable) (bytes : List ℕ) → Sets s.frames new (frame_no s segment page) (record { count = 1; bytes = bytes; lent = false }) → (table_bytes new s.owner ≡ with_page (owner_bytes s) segment page bytes) × ((child : ℕ) → option_map (table_bytes new) (child_table s child) ≡ child_bytes s child)
+  written_own segment page place own new bytes sets =
       let f = frame_no s segment page in
       let stay : (g : ℕ) → g ≢ f → page_of new g ≡ page_of s.frames g = λ g apart. ap (λ (x : Frame). x.bytes) (sets.others g apart) in
       let stood = stands s.owner segment page place.0 place.1 in
@@ -88,13 +88,13 @@ module _ (page_size : ℕ) (s : SpaceState) (counted : IsCounted page_size s) wh
             };
       }
 
-  pub written : (segment page : ℕ) → HasPage s segment page → IsOwn s segment page → (new : FrameTable) (bytes : List ℕ) (is_lent : Bool) → Sets s.frames new (frame_no s segment page) (record { count = 1; bytes = bytes; lent = is_lent }) → free_of new ≡ free_of s.frames → WritesPage s (record { owner = s.owner; children = s.children; frames = new }) segment page bytes is_lent
-  written segment page place own new bytes is_lent sets free =
-      let seen = written_own segment page place own new bytes is_lent sets in record {
+  pub written : (segment page : ℕ) → HasPage s segment page → IsOwn s segment page → (new : FrameTable) (bytes : List ℕ) → Sets s.frames new (frame_no s segment page) (record { count = 1; bytes = bytes; lent = false }) → free_of new ≡ free_of s.frames → WritesPage s (record { owner = s.owner; children = s.children; frames = new }) segment page bytes
+  written segment page place own new bytes sets free =
+      let seen = written_own segment page place own new bytes sets in record {
         bytes = seen.0;
         table = refl;
         frame = sets;
-        others = written_others segment page place own new (record { count = 1; bytes = bytes; lent = is_lent }) refl sets;
+        others = written_others segment page place own new (record { count = 1; bytes = bytes; lent = false }) refl sets;
         children = record { tables = refl; bytes = seen.1 };
         free = free;
         limit = sets.limit;
@@ -204,63 +204,6 @@ KeepsOwn-from old new stays = record {
 
 -- ---- one page of the owner
 
--- a change behind another that leaves the owner's table
-pub KeepsOthers-then : (old mid new : SpaceState) (segment page : ℕ) → new.owner ≡ mid.owner → KeepsOthers old mid segment page → KeepsOthers mid new segment page → KeepsOthers old new segment page
-KeepsOthers-then old mid new segment page table first second =
-    let same_frame : frame_no mid segment page ≡ frame_no new segment page = ap (λ rows. get_or (get_or rows segment []) page 0) (sym table) in
-    let back = λ (segment' page' : ℕ) (there : HasPage new segment' page'). subst (λ rows. (segment' < length rows) × (page' < length (get_or rows segment' []))) table there in
-    record {
-      frames = λ f was is_now.
-          let apart : f ≢ frame_no mid segment page = λ e. is_now (e ∙ same_frame) in
-          second.frames f apart is_now ∙ first.frames f was apart;
-      own = λ segment' page' before after own. second.own segment' page' (back segment' page' after) after (first.own segment' page' before (back segment' page' after) own);
-      private = λ segment' page' other before after private. second.private segment' page' other (back segment' page' after) after (first.private segment' page' other before (back segment' page' after) private);
-    }
-
--- a page that was made the owner's own, and then has other bytes or a hold
-pub MakesOwn-then : (old mid new : SpaceState) (segment page : ℕ) (content : List ℕ) (is_lent : Bool) → MakesOwn old mid segment page → WritesPage mid new segment page content is_lent → MakesOwn old new segment page
-MakesOwn-then old mid new segment page content is_lent made writes =
-    let same_frame : frame_no new segment page ≡ frame_no mid segment page = ap (λ rows. get_or (get_or rows segment []) page 0) writes.table in
-    let apart : TakesFrame old mid segment page → frame_no old segment page ≢ frame_no mid segment page = λ takes e.
-    absurd (omega (arith, made.own, takes.unused, ap (count_of mid.frames) e, ap (count_of old.frames) e, ap (λ (x : Frame). x.count) takes.left))
-    in
-    record {
-      own = ap (count_of new.frames) same_frame ∙ ap (λ (x : Frame). x.count) writes.frame.here;
-      table = λ own. writes.table ∙ made.table own;
-      free = λ own. writes.free ∙ made.free own;
-      fresh = λ shared.
-          let takes = made.fresh shared in
-          record {
-            unused = ap (count_of old.frames) same_frame ∙ takes.unused;
-            table = writes.table ∙ takes.table ∙ ap (with_frame old.owner segment page) (sym same_frame);
-            left = writes.frame.others (frame_no old segment page) (apart takes) ∙ takes.left;
-            free = omega (arith, takes.free, writes.free);
-          };
-      children = record {
-        tables = writes.children.tables ∙ made.children.tables;
-        bytes = λ child. writes.children.bytes child ∙ made.children.bytes child;
-      };
-      limit = writes.limit ∙ made.limit;
-    }
-
--- what is made private is made the owner's own, and the other pages stay
-pub MakesOwn-private : (old new : SpaceState) (segment page : ℕ) → MakesPrivate old new segment page → MakesOwn old new segment page
-MakesOwn-private old new segment page made = record {
-  own = made.private.own;
-  table = made.table;
-  free = made.free;
-  fresh = made.fresh;
-  children = made.children;
-  limit = made.limit;
-}
-
-pub KeepsOthers-private : (old new : SpaceState) (segment page : ℕ) → MakesPrivate old new segment page → KeepsOthers old new segment page
-KeepsOthers-private old new segment page made = record {
-  frames = made.others;
-  own = made.kept.own;
-  private = λ segment' page' other before after was. made.kept.private segment' page' before after was;
-}
-
 -- where every other page stays and this one isn't lent afterwards, every page stays
 KeepsOwn-private : (old new : SpaceState) (segment page : ℕ) → KeepsOthers old new segment page → IsPrivate new segment page → KeepsOwn old new
 KeepsOwn-private old new segment page others private = record {
@@ -275,7 +218,7 @@ KeepsOwn-private old new segment page others private = record {
 }
 
 -- a page of the owner's own is private where it is written, and where it is taken back
-pub MakesPrivate-written : (old new : SpaceState) (segment page : ℕ) (content : List ℕ) → IsOwn old segment page → WritesPage old new segment page content false → MakesPrivate old new segment page
+pub MakesPrivate-written : (old new : SpaceState) (segment page : ℕ) (content : List ℕ) → IsOwn old segment page → WritesPage old new segment page content → MakesPrivate old new segment page
 MakesPrivate-written old new segment page content own writes =
     let same_frame : frame_no new segment page ≡ frame_no old segment page = ap (λ rows. get_or (get_or rows segment []) page 0) writes.table in
     let private : IsPrivate new segment page = record {

@@ -1,7 +1,7 @@
 -- What one table says of its frames, and what is seen through it.
 use Rattle.std.proofs.Common.{◌≡◌, ◌≢◌, ℕ, zero, suc, ◌+◌, ◌<◌, ◌≤◌, inl, inr, List, [], ◌∷◌, ◌++◌, length, get_or, take, drop, set, map, refl, sym, ap, ap₂, ◌∙◌, arith, sum_by, Option, Some, None, length-set}
 use Rattle.std.specs.Option.{option_map}
-use Rattle.std.proofs.lemmas.List.{get_or_past, get_or-take, length-take, get_or-set_same, get_or-set_other, get_or_append_left, get_or_push, length-map, map-append, take-map, map-set, set-get_or}
+use Rattle.std.proofs.lemmas.List.{get_or_past, get_or-take, length-take, get_or-set_same, get_or-set_other, get_or_append_left, get_or_push, map-append, take-map, map-set, set-get_or}
 use Rattle.std.proofs.lemmas.List.Sums.{sum_by-cons, sum_by-set, get_or-le-sum_by, sum_by-take-drop}
 use Rattle.std.proofs.lemmas.Bool.{cases_lt, cases_eq}
 use Rattle.hy_frames.specs.FrameTable.{FrameTable, page_of, occurrences}
@@ -100,16 +100,6 @@ page_at-table_bytes frames table segment page within =
     in_row [] page within = absurd (omega arith)
     in_row (x ∷ row) zero within = refl
     in_row (x ∷ row) (suc page) within = in_row row page (omega arith)
-
--- a page that is there is there in each table of the same bytes
-pub there_by_bytes : (old_frames new_frames : FrameTable) (old new : List (List ℕ)) (segment page : ℕ) → table_bytes new_frames new ≡ table_bytes old_frames old → (segment < length old) × (page < length (get_or old segment [])) → (segment < length new) × (page < length (get_or new segment []))
-there_by_bytes old_frames new_frames old new segment page same there = (
-  omega (arith, there.0, ap length same, length-map old (map (page_of old_frames)), length-map new (map (page_of new_frames))),
-  omega (arith, there.1, row old_frames old, row new_frames new, ap (λ all. length (get_or all segment [])) same),
-)
-  where
-    row : (frames : FrameTable) (table : List (List ℕ)) → length (get_or (table_bytes frames table) segment []) ≡ length (get_or table segment [])
-    row frames table = ap length (get_or-map_at (map (page_of frames)) table segment []) ∙ length-map (get_or table segment []) (page_of frames)
 
 -- putting back the bytes that are there
 pub with_page_same : (segments : List (List (List ℕ))) (segment page : ℕ) → with_page segments segment page (page_at segments segment page) ≡ segments

@@ -133,15 +133,6 @@ pub record KeepsOthers (old new : SpaceState) (segment page : ℕ) : Type 0 wher
   pub private : (segment' page' : ℕ) → ¬ ((segment' ≡ segment) × (page' ≡ page)) → HasPage old segment' page'
       → HasPage new segment' page' → IsPrivate old segment' page' → IsPrivate new segment' page'
 
--- the page is the owner's own afterwards: it stays where it is, or takes one fresh frame
-pub record MakesOwn (old new : SpaceState) (segment page : ℕ) : Type 0 where
-  pub own : IsOwn new segment page
-  pub table : IsOwn old segment page → new.owner ≡ old.owner
-  pub free : IsOwn old segment page → free_of new.frames ≡ free_of old.frames
-  pub fresh : ¬ IsOwn old segment page → TakesFrame old new segment page
-  pub children : SameForChildren old new
-  pub limit : new.frames.max ≡ old.frames.max
-
 -- the page is private afterwards: it stays where it is, or takes one fresh frame; no frame changes but those of this
 -- page
 pub record MakesPrivate (old new : SpaceState) (segment page : ℕ) : Type 0 where
@@ -156,11 +147,11 @@ pub record MakesPrivate (old new : SpaceState) (segment page : ℕ) : Type 0 whe
   pub limit : new.frames.max ≡ old.frames.max
 
 -- a page of the owner's own has other bytes in the frame where it stands
-pub record WritesPage (old new : SpaceState) (segment page : ℕ) (content : List ℕ) (is_lent : Bool) : Type 0 where
+pub record WritesPage (old new : SpaceState) (segment page : ℕ) (content : List ℕ) : Type 0 where
   pub bytes : owner_bytes new ≡ with_page (owner_bytes old) segment page content
   pub table : new.owner ≡ old.owner
   pub frame : Sets old.frames new.frames (frame_no old segment page)
-      (record { count = 1; bytes = content; lent = is_lent })
+      (record { count = 1; bytes = content; lent = false })
   pub others : KeepsOthers old new segment page
   pub children : SameForChildren old new
   pub free : free_of new.frames ≡ free_of old.frames

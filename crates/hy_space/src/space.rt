@@ -1,10 +1,10 @@
 //! The space of an owner and its children.
 
-ghost use Rattle.std.specs.Prelude.{◌≡◌, ℕ, true, false, ◌+◌, ◌^◌, ◌<◌, ◌≤◌, ◌↔◌, [], IsTrue, length, map, replicate, Some, None, IsSome, IsOk, IfOk, OnOk, OnErr, IsErrOf, IsSomeAnd, slice_index_or, drop, unwrap_or};
+ghost use Rattle.std.specs.Prelude.{◌≡◌, ℕ, true, ◌+◌, ◌^◌, ◌<◌, ◌≤◌, ◌↔◌, [], IsTrue, length, map, replicate, Some, None, IsSome, IsOk, IfOk, OnOk, OnErr, IsErrOf, IsSomeAnd, slice_index_or, drop, unwrap_or};
 ghost use Rattle.std.specs.Option.{option_map};
 ghost use Rattle.hy_frames.specs.FrameTable.{occurrences, max_frames, count_of, lent_at, in_use, free_of, shared_of, IsLimitFor, IsPageSize};
 ghost use Rattle.hy_page.specs.Bytes.{number_of, bytes_at, overwritten};
-ghost use Rattle.hy_space.specs.Space.{SpaceState, owner_bytes, child_table, child_bytes, page_count, HasPage, frame_no, page_bytes, IsOwn, IsPrivate, KeepsOwn, AddsUsers, DropsUsers, child_times, times, IsUnchanged, ChangesBytesOf, HasChildPage, child_frame_no, IsChildPrivate, MovesChildPage, page_at, with_new_frame, with_first_frames, with_page, with_new_page, with_first_pages, MakesOwn, MakesPrivate, WritesPage, GrowsPage, KeepsOthers, Lends, LacksFrame, IsLeastFree, SameForChildren, SameForOthers, SameForOwner, IsSound};
+ghost use Rattle.hy_space.specs.Space.{SpaceState, owner_bytes, child_table, child_bytes, page_count, HasPage, frame_no, page_bytes, IsPrivate, KeepsOwn, AddsUsers, DropsUsers, child_times, times, IsUnchanged, ChangesBytesOf, HasChildPage, child_frame_no, IsChildPrivate, MovesChildPage, page_at, with_new_frame, with_first_frames, with_page, with_new_page, with_first_pages, MakesPrivate, WritesPage, GrowsPage, Lends, LacksFrame, IsLeastFree, SameForChildren, SameForOthers, SameForOwner, IsSound};
 ghost use Rattle.hy_space.specs.inside.Children.{IsFirstClosed, IsPadded};
 
 use super::tables::PageTable;
@@ -151,7 +151,7 @@ impl<const N: usize> Space<N> {
         requires private { IsPrivate self.old segment page }
         requires within { offset + length bytes.now ≤ N }
         ensures writes { WritesPage self.old self.new segment page
-            (overwritten (page_bytes self.old segment page) offset bytes.now) false }
+            (overwritten (page_bytes self.old segment page) offset bytes.now) }
         ensures kept { KeepsOwn self.old self.new }
     {
         let frame = self.owner.frame(segment as usize, page as usize);
@@ -218,33 +218,6 @@ impl<const N: usize> Space<N> {
     {
         self.frames.sound();
         self.owner.segments()[segment as usize].frames().len() as u32
-    }
-
-    /// Makes a page the owner's own, and gives a hold of its bytes.
-    pub fn own(&mut self, segment: u32, page: u32) -> Result<Hold<N>, Shortage>
-        requires { HasPage self.old segment page }
-        ensures hold { IfOk result (λ hold. hold ≡ page_bytes self.old segment page) }
-        ensures bytes { owner_bytes self.new ≡ owner_bytes self.old }
-        ensures children { SameForChildren self.old self.new }
-        ensures others { KeepsOthers self.old self.new segment page }
-        ensures own { OnOk result (MakesOwn self.old self.new segment page) }
-        ensures lent { OnOk result (lent_at self.new.frames (frame_no self.new segment page) ≡ true) }
-        ensures full { IsErrOf result Shortage.NoFrame ↔ LacksFrame self.old segment page }
-        ensures limit { self.new.frames.max ≡ self.old.frames.max }
-    {
-        self.touch(segment, page)?;
-        let frame = self.owner.frame(segment as usize, page as usize);
-        Ok(self.frames.hold(frame)?)
-    }
-
-    /// Puts another page in the place of one of the owner's own. This needs no memory.
-    pub fn put_back(&mut self, segment: u32, page: u32, content: Hold<N>)
-        requires there { HasPage self.old segment page }
-        requires own { IsOwn self.old segment page }
-        ensures { WritesPage self.old self.new segment page content.entry true }
-    {
-        let frame = self.owner.frame(segment as usize, page as usize);
-        self.frames.replace(frame, content);
     }
 
     /// Keeps the first pages of a segment of the owner, and gives up the others. This needs no memory.
@@ -349,17 +322,6 @@ impl<const N: usize> Space<N> {
             Some(table) => users::holds_of_table(self.alloc, &mut self.frames, table),
             None => unreachable!(),
         }
-    }
-
-    /// Holds of all that the owner sees, by segment.
-    pub fn holds_of_owner(&mut self) -> Result<Vec<Vec<Hold<N>>>, AllocError>
-        ensures holds { IfOk result
-            (λ holds. owner_bytes self.old ≡ map (λ segment. segment.items) holds.items) }
-        ensures lent { OnOk result ((f : ℕ) → 0 < times f self.old.owner → lent_at self.new.frames f ≡ true) }
-        ensures lends { Lends self.old.frames self.new.frames (λ f. times f self.old.owner) }
-        ensures unchanged { IsUnchanged self.old self.new }
-    {
-        users::holds_of_table(self.alloc, &mut self.frames, &self.owner)
     }
 
     /// How many more frames can be taken.

@@ -5,6 +5,7 @@ ghost use Rattle.hy_frames.specs.FrameTable.{free_of};
 ghost use Rattle.hy_rows.specs.Spelling.{HasTables, live_rows, new_order_segment, tables_of};
 ghost use Rattle.hy_space.specs.Space.{owner_bytes};
 ghost use Rattle.hy_undo.specs.PrivatePages.{IsUndoLog};
+ghost use Rattle.hy_undo.specs.Writes.{IsOutOfFrames};
 ghost use Rattle.hy_relation.specs.Relation.{HasRelation, IsLive, relation_slots};
 ghost use Rattle.hy_store.specs.Stored.{HasStore, Stored, all_segments};
 ghost use Rattle.hy_store.specs.Writes.{WritesStore, stored_in};
@@ -86,15 +87,6 @@ fn know_rows<R: Lasting, const N: usize>(_space: &Space<N>)
         ≡ map Some (R.rows_in (stored_in N _space.now).tables) }
 {}
 
-/// How many rows a table has.
-pub fn count_rows<R: Lasting, const N: usize>(space: &Space<N>) -> u64
-    requires { HasStore N (owner_bytes space.now) }
-    ensures { result ≡ length (R.rows_in (stored_in N space.now).tables) }
-{
-    know_rows::<R, N>(space);
-    Relation::<R>::new().slots(space)
-}
-
 /// The row at a place of its table.
 pub fn row_at<R: Lasting, const N: usize>(space: &Space<N>, place: u64) -> R
     requires store { HasStore N (owner_bytes space.now) }
@@ -124,7 +116,7 @@ pub fn put_row<R: Lasting, const N: usize>(
           (slice_set (R.rows_in (stored_in N space.old).tables) place row.now);
     }) }
     ensures writes { WritesStore N space.old space.new undo.old undo.new }
-    ensures no_frame { IsErrOf result Shortage.NoFrame → free_of space.new.frames ≡ 0 }
+    ensures no_frame { IsErrOf result Shortage.NoFrame → IsOutOfFrames space.new }
 {
     know_rows::<R, N>(space);
     Relation::<R>::new().put(space, undo, place, row)
@@ -191,7 +183,7 @@ pub fn erase_new_order<const N: usize>(
       new_order_slots = slice_set (stored_in N space.old).new_order_slots slot None;
     }) }
     ensures writes { WritesStore N space.old space.new undo.old undo.new }
-    ensures no_frame { IsErrOf result Shortage.NoFrame → free_of space.new.frames ≡ 0 }
+    ensures no_frame { IsErrOf result Shortage.NoFrame → IsOutOfFrames space.new }
 {
     know_relation::<NewOrder, N>(space);
     Relation::<NewOrder>::new().erase(space, undo, slot)

@@ -52,6 +52,7 @@ impl Executor {
     ghost use Rattle.hy_store.specs.Writes.{WritesStore, stored_in};
     ghost use Rattle.hy_writers.specs.Waiting.{IsSoundStore};
     ghost use Rattle.hy_tpcc.specs.Executor.{HasDone, IsUnderWay, StaysInBounds, answer_of};
+    ghost use Rattle.hy_tpcc.specs.Shortages.{FindsNoFrame};
 
     /// An executor for the warehouse of a layout. Takes no memory.
     pub fn new(alloc: Global, layout: Layout) -> Executor
@@ -101,8 +102,8 @@ impl Executor {
     /// Does the next slice of a command that this executor began, behind so many: the head of a purchase and then each
     /// of its lines; the home and then the customer of a payment; the districts of a delivery, one after the other; a
     /// command that only reads in one. The last one answers the reply. Refused E7 exactly where it is that of a line
-    /// whose item isn't there, before it writes anything; E2 where it lacks a frame, E1. Behind E2 and E1 only what the
-    /// undo log gives back is known.
+    /// whose item isn't there, before it writes anything; E2 where it lacks a frame, which one that only reads never
+    /// does; E1. Behind E2 and E1 only what the undo log gives back is known.
     pub fn slice<const N: usize>(
         &mut self,
         space: &mut Space<N>,
@@ -128,7 +129,7 @@ impl Executor {
         ensures refused { IfErr result (λ refusal. (refusal ≡ Refusal.NoSuchItem)
             ⊎ (refusal ≡ Refusal.NoFrame) ⊎ (refusal ≡ Refusal.NoMemory)) }
         ensures writes { WritesStore N space.old space.new undo.old undo.new }
-        ensures no_frame { IsErrOf result Refusal.NoFrame → free_of space.new.frames ≡ 0 }
+        ensures no_frame { IsErrOf result Refusal.NoFrame → FindsNoFrame command.now done space.new }
         ensures layout { self.new.layout ≡ self.old.layout }
     {
         match command {

@@ -2,12 +2,12 @@
 
 ghost use Rattle.std.specs.Prelude.{◌≡◌, ◌+◌, ◌<◌, ◌⊎◌, IfErr, IfOk, IsErrOf, OnOk};
 ghost use Rattle.hy_rows.specs.Tables.{Tables};
-ghost use Rattle.hy_frames.specs.FrameTable.{free_of};
 ghost use Rattle.hy_space.specs.Space.{owner_bytes};
 ghost use Rattle.hy_undo.specs.PrivatePages.{IsUndoLog};
 ghost use Rattle.hy_store.specs.Stored.{HasStore};
 ghost use Rattle.hy_store.specs.Writes.{WritesStore, stored_in};
 ghost use Rattle.hy_tpcc.specs.Executor.{HasDone, answer_of};
+ghost use Rattle.hy_tpcc.specs.Shortages.{FindsNoFrame};
 
 use crate::refused::refusal_of_shortage;
 use hy_commands::{Command, Payment, Reply};
@@ -40,7 +40,7 @@ pub(crate) fn pay<const N: usize>(
         → reply ≡ answer_of layout.now (Command.Payment payment.now) done before) }
     ensures refused { IfErr result (λ refusal. (refusal ≡ Refusal.NoFrame) ⊎ (refusal ≡ Refusal.NoMemory)) }
     ensures writes { WritesStore N space.old space.new undo.old undo.new }
-    ensures no_frame { IsErrOf result Refusal.NoFrame → free_of space.new.frames ≡ 0 }
+    ensures no_frame { IsErrOf result Refusal.NoFrame → FindsNoFrame (Command.Payment payment.now) done space.new }
 {
     if done == 0 {
         return match pay_home(layout, space, undo, payment, place) {

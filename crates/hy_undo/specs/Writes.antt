@@ -32,7 +32,11 @@ pub record CanUndoGrowth (n writes most : ℕ) (old new : SpaceState) (before af
   pub frames : free_of old.frames ≤ free_of new.frames + most
   pub limit : new.frames.max ≡ old.frames.max
 
+-- some child is open
+abbrev pub HasChild : SpaceState → Type 0
+HasChild space = (child : ℕ) × IsSome (child_table space child)
+
 -- no frame is free, and a child is open, which may share the page that is written
 pub record IsOutOfFrames (space : SpaceState) : Type 0 where
   pub full : free_of space.frames ≡ 0
-  pub open_child : (child : ℕ) × IsSome (child_table space child)
+  pub open_child : HasChild space

@@ -22,7 +22,9 @@ fn a_hold_keeps_its_bytes(rt: HostRuntime) {
     let (mut frames, frame) = one_frame(&rt, 1);
     assert_eq!(rt; frames.free(), 0);
     let hold = frames.hold(frame).expect(&rt, "a hold");
+    assert!(rt; !frames.is_private(frame));
     frames.take_back(frame).expect(&rt, "a page of its own");
+    assert!(rt; frames.is_private(frame));
     frames.write(frame, 3, b"new");
     assert_eq!(rt; frames.page(frame).field(3, 2), 0x656e);
     assert_eq!(rt; hold.page().field(3, 2), 0);
@@ -55,18 +57,6 @@ fn a_copy_is_a_page_of_its_own(rt: HostRuntime) {
 }
 
 #[test]
-fn a_page_of_a_hold_is_put_into_a_frame(rt: HostRuntime) {
-    let (mut frames, frame) = one_frame(&rt, 1);
-    let before = frames.hold(frame).expect(&rt, "a hold");
-    frames.take_back(frame).expect(&rt, "a page of its own");
-    assert!(rt; frames.is_private(frame));
-    frames.write(frame, 0, b"new");
-    frames.replace(frame, before);
-    assert!(rt; !frames.is_private(frame));
-    assert_eq!(rt; frames.page(frame).field(0, 2), 0);
-}
-
-#[test]
 fn a_child_keeps_what_it_saw(rt: HostRuntime) {
     let mut space: Space<256> = Space::new(rt.alloc(), 1, 2).expect(&rt, "a space");
     let page = space.grow(0).expect(&rt, "a page");
@@ -83,13 +73,10 @@ fn a_child_keeps_what_it_saw(rt: HostRuntime) {
 }
 
 #[test]
-fn a_page_is_put_back(rt: HostRuntime) {
+fn a_page_is_cut_off(rt: HostRuntime) {
     let mut space: Space<256> = Space::new(rt.alloc(), 1, 2).expect(&rt, "a space");
     let page = space.grow(0).expect(&rt, "a page");
-    let before = space.own(0, page).expect(&rt, "a page of its own");
     space.write(0, page, 0, b"one").expect(&rt, "a write");
-    space.put_back(0, page, before);
-    assert_eq!(rt; space.read(0, page, 0, 8), 0);
     space.set_max(1).expect(&rt, "a limit");
     space.cut(0, 0);
     assert_eq!(rt; space.free(), 1);

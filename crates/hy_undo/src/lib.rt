@@ -86,25 +86,6 @@ impl<const N: usize> Undo<N> {
         Ok(())
     }
 
-    /// Keeps a whole page for an undo, and makes it private. Its record is that of a write over the whole page.
-    pub fn first_touch(
-        &mut self,
-        space: &mut Space<N>,
-        segment: u32,
-        page: u32,
-    ) -> Result<(), Shortage>
-        requires there { HasPage space.old segment page }
-        requires undo_log { IsUndoLog N space.old self.old }
-        ensures bytes { OnOk result (owner_bytes space.new ≡ owner_bytes space.old) }
-        ensures logs { OnOk result (LogsImage space.old space.new self.old self.new
-            (image_at space.old segment page 0 N)) }
-        ensures undoes { UndoesTheSame N space.old space.new self.old self.new }
-        ensures full { IsErrOf result Shortage.NoFrame ↔ LacksFrame space.old segment page }
-        ensures err { OnErr result ((self.new ≡ self.old) × (space.new ≡ space.old)) }
-    {
-        self.keep_touched(space, segment, page, 0, N)
-    }
-
     /// Keeps `count` bytes of a page from `offset` on, and makes the page private.
     fn keep_touched(
         &mut self,

@@ -59,14 +59,6 @@ impl Pages {
             .expect(rt, "a write");
     }
 
-    /// Keeps a whole page.
-    fn first_touch(&mut self, rt: &impl Abort, page: u32) {
-        assert!(rt; page < self.space.pages(0));
-        self.undo
-            .first_touch(&mut self.space, 0, page)
-            .expect(rt, "a page of its own");
-    }
-
     /// A number in a page.
     fn read(&self, rt: &impl Abort, page: u32, offset: usize, width: usize) -> u64
         requires within { offset + width ≤ 256 }
@@ -164,15 +156,6 @@ fn a_roll_back_puts_back_what_stood_there(rt: HostRuntime) {
     assert_eq!(rt; pages.count(), 1);
     assert_eq!(rt; pages.read(&rt, 0, 10, 3), 0x656e6f);
     assert_eq!(rt; pages.touched(), 0);
-}
-
-#[test]
-fn a_whole_page_comes_back(rt: HostRuntime) {
-    let mut pages = with_page(&rt, 1, 250, b"one");
-    pages.first_touch(&rt, 0);
-    pages.write(&rt, 0, 250, b"two");
-    pages.roll_back();
-    assert_eq!(rt; pages.read(&rt, 0, 250, 3), 0x656e6f);
 }
 
 #[test]

@@ -7,6 +7,7 @@ ghost use Rattle.hy_rows.specs.Limits.{max_carriers, max_line_cents, max_lines};
 ghost use Rattle.hy_rows.specs.Ranges.{IsBetween, IsLineAmount};
 ghost use Rattle.hy_space.specs.Space.{owner_bytes};
 ghost use Rattle.hy_undo.specs.PrivatePages.{IsUndoLog};
+ghost use Rattle.hy_undo.specs.Writes.{IsOutOfFrames};
 ghost use Rattle.hy_index.specs.declared.key.Entry.{Entry};
 ghost use Rattle.hy_commands.specs.Deliveries.{carried, customer_delivered, delivered_in, delivered_line, oldest, order_cents};
 ghost use Rattle.hy_rows.specs.Spelling.{live_rows};
@@ -54,7 +55,7 @@ fn deliver_line<const N: usize>(
     ensures store { OnOk result (HasStore N (owner_bytes space.new)) }
     ensures delivered { IfOk result (DeliversLine moment place (stored_in N space.old) (stored_in N space.new)) }
     ensures writes { WritesStore N space.old space.new undo.old undo.new }
-    ensures no_frame { IsErrOf result Shortage.NoFrame → free_of space.new.frames ≡ 0 }
+    ensures no_frame { IsErrOf result Shortage.NoFrame → IsOutOfFrames space.new }
 {
     let row = row_at::<OrderLine, N>(space, place);
     let delivered = OrderLine {
@@ -85,7 +86,7 @@ fn deliver_lines<const N: usize>(
     ensures cents { IfOk result (λ cents. cents
         ≡ (walk_over moment (map (λ (entry : Entry LineKey). entry.slot) entries.now) (stored_in N space.old)).cents) }
     ensures writes { WritesStore N space.old space.new undo.old undo.new }
-    ensures no_frame { IsErrOf result Shortage.NoFrame → free_of space.new.frames ≡ 0 }
+    ensures no_frame { IsErrOf result Shortage.NoFrame → IsOutOfFrames space.new }
 {
     let mut cents = 0;
     for entry in entries {
@@ -126,7 +127,7 @@ fn deliver_order_lines<const N: usize>(
     ensures cents { IfOk result (λ cents. cents
         ≡ order_cents order.now (stored_in N space.old).tables.order_lines) }
     ensures writes { WritesStore N space.old space.new undo.old undo.new }
-    ensures no_frame { IsErrOf result Shortage.NoFrame → free_of space.new.frames ≡ 0 }
+    ensures no_frame { IsErrOf result Shortage.NoFrame → IsOutOfFrames space.new }
 {
     know_entries::<LineKey, N>(space);
     let low = LineKey {
@@ -202,7 +203,7 @@ fn charge<const N: usize>(
     ensures store { OnOk result (HasStore N (owner_bytes space.new)) }
     ensures charged { OnOk result (ChargesCustomer cents place (stored_in N space.old) (stored_in N space.new)) }
     ensures writes { WritesStore N space.old space.new undo.old undo.new }
-    ensures no_frame { IsErrOf result Shortage.NoFrame → free_of space.new.frames ≡ 0 }
+    ensures no_frame { IsErrOf result Shortage.NoFrame → IsOutOfFrames space.new }
 {
     let row = row_at::<Customer, N>(space, place);
     put_row(space, undo, place, &customer_after(&row, cents))

@@ -7,6 +7,7 @@ ghost use Rattle.hy_rows.specs.Limits.{max_payment};
 ghost use Rattle.hy_schema.specs.Keys.{IsOneWarehouse};
 ghost use Rattle.hy_space.specs.Space.{owner_bytes};
 ghost use Rattle.hy_undo.specs.PrivatePages.{IsUndoLog};
+ghost use Rattle.hy_undo.specs.Writes.{IsOutOfFrames};
 ghost use Rattle.hy_commands.specs.declared.reply.Reply.{Reply};
 ghost use Rattle.hy_commands.specs.Growth.{IsCustomerUpTo, IsDistrictUpTo, IsMoneyUpTo, IsWarehouseUpTo};
 ghost use Rattle.hy_commands.specs.Payments.{customer_paid, district_paid, paid_by, paid_in, warehouse_paid};
@@ -197,7 +198,7 @@ pub fn pay_customer<const N: usize>(
     ensures reply { IfOk result (λ reply. reply
         ≡ payment_reply payment.now (payer payment.now (stored_in N space.old).tables)) }
     ensures writes { WritesStore N space.old space.new undo.old undo.new }
-    ensures no_frame { IsErrOf result Shortage.NoFrame → free_of space.new.frames ≡ 0 }
+    ensures no_frame { IsErrOf result Shortage.NoFrame → IsOutOfFrames space.new }
 {
     let before = row_at::<Customer, N>(space, place);
     let row = customer_after(&before, payment.amount);

@@ -17,6 +17,11 @@ entry_width key_width = key_width + 8
 abbrev pub per_page : ℕ → ℕ → ℕ
 per_page n width = n / width
 
+-- how many pages a segment has at most that never had more than so many entries: its page 0, those that the entries
+-- fill, and one behind them
+abbrev pub most_pages : ℕ → ℕ → ℕ → ℕ
+most_pages n width count = count / per_page n width + 2
+
 -- where entry k lies: its page in the segment, and the offset of its first byte there
 abbrev pub entry_page : ℕ → ℕ → ℕ → ℕ
 entry_page n width k = 1 + k / per_page n width

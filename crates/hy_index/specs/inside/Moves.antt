@@ -1,7 +1,7 @@
 -- What writes do to the entries of a segment.
 use Rattle.std.specs.Prelude.{◌≡◌, ℕ, ◌+◌, ◌-◌, ◌*◌, ◌<◌, ◌≤◌, ◌==◌, nat_lt, cond, List, length, slice_set}
 use Rattle.hy_page.specs.Bytes.{bytes_at, overwritten}
-use Rattle.hy_index.specs.inside.Layout.{entry_at, list_at, per_page, used}
+use Rattle.hy_index.specs.inside.Layout.{entry_at, list_at, most_pages, per_page, used}
 
 -- pages with other bytes in one of them from an offset on
 abbrev pub with_bytes : List (List ℕ) → ℕ → ℕ → List ℕ → List (List ℕ)
@@ -44,6 +44,16 @@ pub record HasRoom (n width : ℕ) (old new : List (List ℕ)) : Type 0 where
   pub counted : used new ≡ used old
   pub room : used old + 1 ≤ per_page n width * (length new - 1)
   pub entries : (k : ℕ) → k < used old → entry_at n width new k ≡ entry_at n width old k
+
+-- pages of so many entries get no other one without need: where they were no more than those for some number of entries,
+-- and this was no less, they are no more still
+abbrev pub GrowsForEntries : ℕ → ℕ → ℕ → List (List ℕ) → List (List ℕ) → Type 0
+GrowsForEntries n width count old new =
+    (most : ℕ) → count ≤ most → length old ≤ most_pages n width most → length new ≤ most_pages n width most
+
+-- each place of the pages has its entry
+abbrev pub IsFull : ℕ → ℕ → List (List ℕ) → Type 0
+IsFull n width pages = used pages ≡ per_page n width * (length pages - 1)
 
 -- the entries from `from` on have moved, and those before stand as they were
 pub record MovesFrom (n width : ℕ) (old new : List (List ℕ)) (entry : ℕ → List ℕ) (from count : ℕ) : Type 0 where

@@ -24,3 +24,6 @@ returns-clause-index g c = empty-index g.row.N g.K.Key.BYTES g.K.Key.bytes_of_ke
 
 pub returns-clause-empty : goal.returns-clause-empty
 returns-clause-empty g c = empty-entries g.row.N g.K.Key.BYTES g.K.Key.bytes_of_key g.K.Key.key_of_bytes g.K.Key.IsKey c.grow.new.space c.args.self.now (omega arith) (pages g c)
+
+pub returns-clause-pages : goal.returns-clause-pages
+returns-clause-pages g c = ap length (pages g c)

@@ -1,5 +1,6 @@
-use Rattle.std.proofs.Common.{◌≡◌, ◌+◌, Some, None, ap, sym, ◌∙◌}
+use Rattle.std.proofs.Common.{◌≡◌, ◌+◌, Some, None, length, ap, sym, subst, ◌∙◌, arith}
 use Rattle.std.proofs.lemmas.Result.{on_ok_weaker}
+use Rattle.hy_index.specs.Writes.{pages_of}
 use Rattle.hy_index.proofs.IndexLaws.{found-there, taken_out-entries, taken_out-index, without-absent}
 use Rattle.hy_index.proofs.Index.remove.Goals as goal
 
@@ -21,3 +22,9 @@ returns-then-sought-clause-absent g c none = absurd (some_none _ (sym (found-the
 
 pub returns-clause-entries : goal.returns-clause-entries
 returns-clause-entries g c = without-absent g.row.N g.K.Key.BYTES g.K.Key.bytes_of_key g.K.Key.key_of_bytes g.K.Key.IsKey g.K.Key.is_less g.met.K.Key.ordered c.args.space.now c.args.self.now c.requires.index c.args.key.now c.bytes_of-bytes.ensures.is_key c.seek-sought.result.place c.seek-sought.result.is_there c.seek-sought.ensures c.if-sought.false
+
+pub returns-then-sought-clause-pages : goal.returns-then-sought-clause-pages
+returns-then-sought-clause-pages g c =
+    let same : length (pages_of c.take_out.new.space c.args.self.now) ≡ length (pages_of c.args.space.now c.args.self.now) =
+    subst (λ s. length (pages_of c.take_out.new.space s) ≡ length (pages_of c.args.space.now s)) c.self.view_is c.take_out.ensures.pages in
+    omega (arith, same)

@@ -28,6 +28,7 @@ loop-table-preserved g c =
     here in
     record {
       files = c.in_ok-bytes.ensures.files ∙ c.loop-table.invariant.files;
+      folders = c.in_ok-bytes.ensures.folders ∙ c.loop-table.invariant.folders;
       texts =
           rw (take_more tables number table.Warehouse c.loop-table-test.true, c.push_reserved.ensures.items, map_push)
           pushed;

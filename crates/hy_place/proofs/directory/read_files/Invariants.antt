@@ -7,6 +7,7 @@ use Rattle.hy_place.proofs.directory.read_files.Given as goal
 abbrev pub invariant-loop-table : goal.invariant-loop-table
 invariant-loop-table g l = record {
   files : g.F.Place.files l.place ≡ g.F.Place.files l.fn.place;
+  folders : g.F.Place.folders l.place ≡ g.F.Place.folders l.fn.place;
   texts :
       AreFiles (g.F.Place.files l.fn.place) l.directory (take l.table-index tables)
       (map (λ text. text.items) l.texts.items);

@@ -70,4 +70,6 @@ loop-number-preserved g c =
           rw (take_more tables number table.Warehouse c.loop-number-test.true)
           (KeepsOtherFiles-push (g.F.Place.files c.args.place.now) before now directory (take number tables) own
           c.loop-number.invariant.others c.in_ok-write_file.ensures.others);
+      folders = c.in_ok-write_file.ensures.folders ∙ c.loop-number.invariant.folders;
+      unwritten = c.in_ok-write_file.ensures.written ∙ c.loop-number.invariant.unwritten;
     }

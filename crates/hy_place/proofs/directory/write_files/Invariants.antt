@@ -1,4 +1,4 @@
-use Rattle.std.proofs.Common.{map, take}
+use Rattle.std.proofs.Common.{◌≡◌, map, take}
 use Rattle.hy_place.specs.Directory.{AreFiles, KeepsOtherFiles, tables}
 use Rattle.hy_place.proofs.directory.write_files.Given as goal
 
@@ -9,4 +9,6 @@ invariant-loop-number g l = record {
       AreFiles (g.F.Place.files l.place) l.directory (take l.number tables)
       (take l.number (map (λ text. text.items) l.texts));
   others : KeepsOtherFiles (g.F.Place.files l.fn.place) (g.F.Place.files l.place) l.directory (take l.number tables);
+  folders : g.F.Place.folders l.place ≡ g.F.Place.folders l.fn.place;
+  unwritten : g.F.Place.unwritten l.place ≡ g.F.Place.unwritten l.fn.place;
 }

@@ -16,8 +16,9 @@ returns-in-Err-clause-fault g c =
     let unwritten =
     subst (λ (lists : Lists). IsUnwritten old new c.args.directory.now (texts_of lists) c.in-Err.found)
     c.in_ok-load.ensures.load c.in-Err.ensures.fault in
-    generate_fault c.args.directory.now c.args.size old new (c.args.out.now ≡ c.args.out.now) c.in-Err.found
-    c.of_files.result c.of_files.ensures unwritten
+    generate_fault c.args.directory.now c.args.size old new
+    (g.F.Place.unwritten c.args.place.now, g.F.Place.unwritten c.write_load.new.place) (c.args.out.now ≡ c.args.out.now)
+    c.in-Err.found c.of_files.result c.of_files.ensures unwritten c.in-Err.ensures.unwritten
     (true_unless_false _ (λ out. ok_is_no_err _ _ (c.in_ok-load.ensures.out_of_range.1 out))) (search rules)
 
 pub returns-in_err-writeln-clause-fault : goal.returns-in_err-writeln-clause-fault
@@ -28,5 +29,6 @@ returns-in_err-writeln-clause-fault g c =
     let written =
     subst (λ (lists : Lists). AreFiles new c.args.directory.now tables (texts_of lists))
     c.in_ok-load.ensures.load c.in_default.ensures.files in
-    subst (λ (r : Result (Unit {0}) RunFault). IfErr r (IsGenerateFault c.args.directory.now c.args.size (old, new) (c.writeln.new.self ≡ c.args.out.now)))
+    subst (λ (r : Result (Unit {0}) RunFault). IfErr r (IsGenerateFault c.args.directory.now c.args.size (old, new)
+    (g.F.Place.unwritten c.args.place.now, g.F.Place.unwritten c.write_load.new.place) (c.writeln.new.self ≡ c.args.out.now)))
     (sym is) (true_unless_false _ (λ out. ok_is_no_err _ _ (c.in_ok-load.ensures.out_of_range.1 out)), written)

@@ -1,7 +1,15 @@
-use Rattle.std.proofs.Common.{rules}
-use Rattle.hy_program.proofs.ScriptLaws.{read_fault}
+use Rattle.std.proofs.Common.{rules, inr}
+use Rattle.hy_program.proofs.ScriptLaws.{broken_nine}
 use Rattle.hy_program.proofs.script.read_all.Goals as goal
 
-pub returns-in-Err-loaded-clause-fault : goal.returns-in-Err-loaded-clause-fault
-returns-in-Err-loaded-clause-fault g c =
-    search (rules, read_fault c.args.directory.now c.args.file.now (g.F.Place.files c.args.place.now))
+-- the file of the script was read, and the rows of the load are broken
+pub returns-in_ok-_script-in-Err-Refused-BadLoad-clause-fault :
+    goal.returns-in_ok-_script-in-Err-Refused-BadLoad-clause-fault
+returns-in_ok-_script-in-Err-Refused-BadLoad-clause-fault g c =
+    let known = g.F.Place.files c.args.place.now in
+    let script = c.in_ok-_script-in-Err-Refused-BadLoad in
+    inr (
+      (script._script.items, rw c.in-Err-Refused-BadLoad.ensures.files at script.ensures.read),
+      broken_nine c.args.directory.now known c.in-Err-Refused-BadLoad.field-0 c.in-Err-Refused-BadLoad.fault
+          (search rules) c.in-Err-Refused-BadLoad.ensures.load,
+    )

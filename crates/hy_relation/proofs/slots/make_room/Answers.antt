@@ -4,8 +4,9 @@ use Rattle.hy_space.specs.Space.{owner_bytes, page_count, with_new_page}
 use Rattle.hy_undo.proofs.PrivatePageLaws.{length-segment-owner_bytes}
 use Rattle.hy_relation.specs.Relation.{owner_pages}
 use Rattle.hy_relation.specs.inside.Places.{GrowsSlots, slot_page}
+use Rattle.hy_relation.proofs.FewPages.{few-grown}
 use Rattle.hy_relation.proofs.PageLaws.{grows_slots}
-use Rattle.hy_relation.proofs.RelationLaws.{pages-full, pages-room}
+use Rattle.hy_relation.proofs.RelationLaws.{pages-full, pages-room, slots-used}
 use Rattle.hy_relation.proofs.SpaceLaws.{next_slot_page, segment-set, segment_there}
 use Rattle.hy_relation.proofs.slots.make_room.Goals as goal
 
@@ -37,6 +38,32 @@ returns-in_ok-grow-clause-pages g c =
     ap length (after ∙ segment-set old segment _ (segment_there old segment c.requires.slots.first))
     ∙ length-append pages (replicate g.row.N 0 ∷ [])
     ∙ sym (pages-full g.row.N g.R.Row.BYTES pages room c.requires.slots (sym place ∙ c.if-place-from.true ∙ count))
+
+-- that page is the one behind those whose slots are all used
+pub returns-in_ok-grow-clause-few : goal.returns-in_ok-grow-clause-few
+returns-in_ok-grow-clause-few g c few =
+    let segment : ℕ = g.R.Row.SEGMENT in
+    let pages : List (List ℕ) = owner_pages c.args.space.now segment in
+    let room : slot_width g.R.Row.BYTES ≤ g.row.N = omega (arith, g.met.R.Row.fits, c.sound.ensures.size.smallest) in
+    let count : c.from.result ≡ length pages = c.from.ensures ∙ c.pages.ensures ∙ ap (page_count c.args.space.now) c.SEGMENT.ensures
+    ∙ sym (length-segment-owner_bytes c.args.space.now segment) in
+    let place : c.place_of-place.result.page ≡ slot_page g.row.N g.R.Row.BYTES (used_slots pages) = c.place_of-place.ensures.page
+    ∙ ap (λ (w : ℕ). slot_page g.row.N w c.used_of-used.result) c.BYTES.ensures ∙ ap (slot_page g.row.N g.R.Row.BYTES) c.used_of-used.ensures.value in
+    let last : slot_page g.row.N g.R.Row.BYTES (used_slots pages) ≡ length pages = sym place ∙ c.if-place-from.true ∙ count in
+    let grows : GrowsSlots pages (owner_pages c.grow.new.space segment) = returns-in_ok-grow-clause-grows g c in
+    few-grown g.row.N g.R.Row.BYTES pages (owner_pages c.grow.new.space segment) last
+    (returns-in_ok-grow-clause-pages g c ∙ pages-full g.row.N g.R.Row.BYTES pages room c.requires.slots last) grows.used
+
+pub returns-in_err-grow-clause-wanted : goal.returns-in_err-grow-clause-wanted
+returns-in_err-grow-clause-wanted g c failed =
+    let segment : ℕ = g.R.Row.SEGMENT in
+    let pages : List (List ℕ) = owner_pages c.args.space.now segment in
+    let room : slot_width g.R.Row.BYTES ≤ g.row.N = omega (arith, g.met.R.Row.fits, c.sound.ensures.size.smallest) in
+    let count : c.from.result ≡ length pages = c.from.ensures ∙ c.pages.ensures ∙ ap (page_count c.args.space.now) c.SEGMENT.ensures
+    ∙ sym (length-segment-owner_bytes c.args.space.now segment) in
+    let place : c.place_of-place.result.page ≡ slot_page g.row.N g.R.Row.BYTES (used_slots pages) = c.place_of-place.ensures.page
+    ∙ ap (λ (w : ℕ). slot_page g.row.N w c.used_of-used.result) c.BYTES.ensures ∙ ap (slot_page g.row.N g.R.Row.BYTES) c.used_of-used.ensures.value in
+    slots-used g.row.N g.R.Row.BYTES pages room c.requires.slots (sym place ∙ c.if-place-from.true ∙ count)
 
 pub returns-else-place-from-clause-room : goal.returns-else-place-from-clause-room
 returns-else-place-from-clause-room g c =

@@ -5,8 +5,9 @@ use Rattle.hy_rows.specs.Spelling.{list_at, slot_width}
 use Rattle.hy_frames.specs.FrameTable.{free_of}
 use Rattle.hy_space.specs.Space.{SpaceState, HasPage, IsOwn, owner_bytes, page_at, with_page}
 use Rattle.hy_undo.proofs.WriteLaws.{by_outcome, can_undo-none, can_undo-written, out_of_frames}
-use Rattle.hy_relation.specs.Relation.{owner_pages}
+use Rattle.hy_relation.specs.Relation.{HasFewPages, owner_pages}
 use Rattle.hy_relation.specs.inside.Places.{WritesSlot, slot_offset, slot_page}
+use Rattle.hy_relation.proofs.FewPages.{few-kept}
 use Rattle.hy_relation.proofs.PageLaws.{writes_slot}
 use Rattle.hy_relation.proofs.SpaceLaws.{few_pages, has_page, pages_sized, segment-set, segment_there}
 use Rattle.hy_relation.proofs.slots.write_slot.Goals as goal
@@ -59,6 +60,17 @@ returns-clause-slot g c = on_ok_weaker c.write.result (λ raw.
     subst (λ (new : List (List ℕ)). WritesSlot n width (list_at old segment) new k part)
     (sym (pages ∙ segment-set old segment _ (segment_there old segment (some g c))))
     (writes_slot n width (list_at old segment) k (pages_sized n segment c.args.space.now c.sound.ensures (some g c)) c.requires.there fits part c.requires.within)) c.write.ensures.bytes
+
+-- no page comes
+pub returns-clause-few : goal.returns-clause-few
+returns-clause-few g c few =
+    let n : ℕ = g.row.N in
+    let width : ℕ = g.R.Row.BYTES in
+    let segment : ℕ = g.R.Row.SEGMENT in
+    let room : slot_width width ≤ n = omega (arith, c.place_of-place.ensures.fits, c.BYTES.ensures) in
+    by_outcome c.write.result (returns-clause-slot g c) c.write.ensures.err
+    (λ written. few-kept n width (owner_pages c.args.space.now segment) (owner_pages c.write.new.space segment) room written.pages (omega (arith, written.used)) few)
+    (λ same. subst (λ (space : SpaceState). HasFewPages n width (owner_pages space segment)) (sym same.1) few)
 
 pub returns-clause-can_undo : goal.returns-clause-can_undo
 returns-clause-can_undo g c =

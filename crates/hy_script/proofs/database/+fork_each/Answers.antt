@@ -11,5 +11,5 @@ returns-in-Err-clause-stays g t c =
     search (
       rules,
       closed_again g.row.N c.in-Some.first.now c.fork.new.self c.close_last.new.self
-          c.in_ok-fork.ensures.gains c.close_last.ensures.loses,
+          c.in_ok-fork.ensures.gains c.close_last.ensures.loses c.counts.ensures c.counts-in-Err.ensures,
     )

@@ -2,7 +2,6 @@ use Rattle.std.proofs.Common.{List, Option, Some, [], ◌∷◌, ◌++◌, ap, �
 use Rattle.std.proofs.lemmas.Result.{on_ok_weaker}
 use Rattle.hy_rows.specs.declared.new_order.NewOrder.{NewOrder}
 use Rattle.hy_space.specs.Space.{owner_bytes}
-use Rattle.hy_undo.proofs.WriteLaws.{both_on_ok}
 use Rattle.hy_relation.proofs.ChangedRows.{live_rows-push}
 use Rattle.hy_store.specs.Stored.{Stored}
 use Rattle.hy_store.specs.Writes.{stored_in}
@@ -11,14 +10,14 @@ use Rattle.hy_store.proofs.rows.push_new_order.Goals as goal
 
 pub returns-clause-store : goal.returns-clause-store
 returns-clause-store g c = on_ok_weaker c.push.result
-    (λ only. store-new_orders g.row.N (owner_bytes c.args.space.now) (owner_bytes c.push.new.space) c.requires.store only c.push.ensures.slots)
-    c.push.ensures.only
+    (λ pushed. store-new_orders g.row.N (owner_bytes c.args.space.now) (owner_bytes c.push.new.space) c.requires.store c.push.ensures.only c.push.ensures.slots)
+    c.push.ensures.pushed
 
 pub returns-clause-pushed : goal.returns-clause-pushed
 returns-clause-pushed g c =
     let old : Stored = stored_in g.row.N c.args.space.now in
     let slots : List (Option NewOrder) = old.new_order_slots ++ Some c.args.row.now ∷ [] in
-    on_ok_weaker c.push.result (λ done.
-    stored-new_orders g.row.N (owner_bytes c.args.space.now) (owner_bytes c.push.new.space) c.requires.store done.0 c.push.ensures.slots slots done.1
+    on_ok_weaker c.push.result (λ pushed.
+    stored-new_orders g.row.N (owner_bytes c.args.space.now) (owner_bytes c.push.new.space) c.requires.store c.push.ensures.only c.push.ensures.slots slots pushed
     ∙ ap (λ (rows : List NewOrder). record old { tables = record old.tables { new_orders = rows }; new_order_slots = slots }) (live_rows-push old.new_order_slots c.args.row.now))
-    (both_on_ok _ _ c.push.result c.push.ensures.only c.push.ensures.pushed)
+    c.push.ensures.pushed

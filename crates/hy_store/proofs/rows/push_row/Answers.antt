@@ -1,21 +1,20 @@
 use Rattle.std.proofs.lemmas.Result.{on_ok_weaker}
 use Rattle.hy_space.specs.Space.{owner_bytes}
-use Rattle.hy_undo.proofs.WriteLaws.{both_on_ok}
 use Rattle.hy_store.specs.Writes.{stored_in}
 use Rattle.hy_store.proofs.SlotLaws.{slots-pushed}
 use Rattle.hy_store.proofs.StoreLaws.{store-lasting, stored-lasting}
 use Rattle.hy_store.proofs.rows.push_row.Goals as goal
 
 pub returns-clause-store : goal.returns-clause-store
-returns-clause-store g c = on_ok_weaker c.push.result (λ done.
+returns-clause-store g c = on_ok_weaker c.push.result (λ pushed.
     store-lasting g.row.N g.R.Row.SEGMENT g.R.Row.BYTES g.R.Row.row_of_bytes g.R.Row.rows_in g.R.Row.with_rows g.met.R.Row.is_table g.met.R.Lasting.lasts g.met.R.Row.spelled g.met.R.Row.respelled
-    (owner_bytes c.args.space.now) (owner_bytes c.push.new.space) c.requires.store done.0 c.push.ensures.slots _
-    (slots-pushed (g.R.Row.rows_in (stored_in g.row.N c.args.space.now).tables) c.args.row.now done.1 c.know_rows.ensures.slots))
-    (both_on_ok _ _ c.push.result c.push.ensures.only c.push.ensures.pushed)
+    (owner_bytes c.args.space.now) (owner_bytes c.push.new.space) c.requires.store c.push.ensures.only c.push.ensures.slots _
+    (slots-pushed (g.R.Row.rows_in (stored_in g.row.N c.args.space.now).tables) c.args.row.now pushed c.know_rows.ensures.slots))
+    c.push.ensures.pushed
 
 pub returns-clause-pushed : goal.returns-clause-pushed
-returns-clause-pushed g c = on_ok_weaker c.push.result (λ done.
+returns-clause-pushed g c = on_ok_weaker c.push.result (λ pushed.
     stored-lasting g.row.N g.R.Row.SEGMENT g.R.Row.BYTES g.R.Row.row_of_bytes g.R.Row.rows_in g.R.Row.with_rows g.met.R.Row.is_table g.met.R.Lasting.lasts g.met.R.Row.spelled g.met.R.Row.respelled
-    (owner_bytes c.args.space.now) (owner_bytes c.push.new.space) c.requires.store done.0 c.push.ensures.slots _
-    (slots-pushed (g.R.Row.rows_in (stored_in g.row.N c.args.space.now).tables) c.args.row.now done.1 c.know_rows.ensures.slots))
-    (both_on_ok _ _ c.push.result c.push.ensures.only c.push.ensures.pushed)
+    (owner_bytes c.args.space.now) (owner_bytes c.push.new.space) c.requires.store c.push.ensures.only c.push.ensures.slots _
+    (slots-pushed (g.R.Row.rows_in (stored_in g.row.N c.args.space.now).tables) c.args.row.now pushed c.know_rows.ensures.slots))
+    c.push.ensures.pushed

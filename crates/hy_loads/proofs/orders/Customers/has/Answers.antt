@@ -6,5 +6,5 @@ use Rattle.hy_loads.proofs.orders.Customers.has.Goals as goal
 -- the set has the keys of the customers
 pub returns : goal.returns
 returns c =
-    c.contains.ensures ∙ c.requires.customers c.customer_key.result
-    ∙ ap (λ key. list_any (is_customer_by key) c.args.self.now.rows.now) c.customer_key.ensures
+    c.contains.ensures ∙ c.requires.customers c.new.result
+    ∙ ap (λ key. list_any (is_customer_by key) c.args.self.now.rows.now) c.new.ensures

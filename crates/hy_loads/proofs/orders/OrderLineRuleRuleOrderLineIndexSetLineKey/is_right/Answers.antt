@@ -15,8 +15,8 @@ returns-clause-decides c =
     let before = take c.args._place c.args.self.now.rows.now in
     let own : OrderKey → LineKey = λ order. record { order = order; number = row.number } in
     let there =
-    c.requires.seen (own c.order_key-order.result)
-    ∙ ap (λ order. list_any (is_line_with (own order)) before) c.order_key-order.ensures in
+    c.requires.seen (own c.new-order.result)
+    ∙ ap (λ order. list_any (is_line_with (own order)) before) c.new-order.ensures in
     decides-new c.in_ok-is_new.is_new (list_any (is_line row.warehouse row.district row.order row.number) before)
     (c.if-not-is_line.ensures.0 refl)
     (λ rest new. (rest.0, new, rest.1, rest.2, rest.3)) (λ right. right.1) (c.in_ok-is_new.ensures.added ∙ ap not there)
@@ -27,6 +27,6 @@ returns-clause-seen c = λ new.
     let row = c.args.row.now in
     let before = take c.args._place c.args.self.now.rows.now in
     let own : OrderKey → LineKey = λ order. record { order = order; number = row.number } in
-    HasKeys-one_more same_line is_line_with c.args.seen.now c.insert.new.self before row (own c.order_key-order.result)
-    (λ key. ap (λ order. same_line (own order) key) (sym c.order_key-order.ensures)) c.requires.seen
+    HasKeys-one_more same_line is_line_with c.args.seen.now c.insert.new.self before row (own c.new-order.result)
+    (λ key. ap (λ order. same_line (own order) key) (sym c.new-order.ensures)) c.requires.seen
     c.in_ok-is_new.ensures.updates

@@ -10,6 +10,6 @@ pub returns-clause-decides : goal.returns-clause-decides
 returns-clause-decides c =
     let row = c.args.row.now in
     let before = take c.args._place c.args.self.now.rows.now in
-    let there = c.requires.seen c.order_key.result ∙ ap (λ key. list_any (is_order_with key) before) c.order_key.ensures in
+    let there = c.requires.seen c.new.result ∙ ap (λ key. list_any (is_order_with key) before) c.new.ensures in
     decides-new c.in_ok-is_new.is_new (list_any (is_order row.warehouse row.district row.id) before) (c.if-not-is_order_of.ensures.0 refl)
     (λ rest new. (rest.0, new, rest.1, rest.2)) (λ right. right.1) (c.in_ok-is_new.ensures.added ∙ ap not there)

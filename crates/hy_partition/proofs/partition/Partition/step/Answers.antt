@@ -5,6 +5,7 @@ use Rattle.hy_space.specs.Space.{SameForChildren, SpaceState, owner_bytes}
 use Rattle.hy_store.specs.Stored.{stored}
 use Rattle.hy_slices.specs.Slices.{has_item_at}
 use Rattle.hy_tpcc.specs.Executor.{ExecutorState, IsUnderWay, answer_of}
+use Rattle.hy_tpcc.specs.Shortages.{FindsNoFrame}
 use Rattle.hy_commands.specs.Commands.{kept_of}
 use Rattle.hy_partition.specs.Jobs.{DoneState, RunningJob}
 use Rattle.hy_partition.specs.Partition.{PartitionState}
@@ -51,6 +52,10 @@ returns-in-Ok-None g c =
     let executor : ExecutorState = c.self.inside.executor in
     let next : ExecutorState = c.slice.new.self in
     let space : SpaceState = c.slice.new.space in
+    let under_way : (before : Tables)
+    → IsUnderWay executor job.command job.slices before (stored g.row.N (owner_bytes p.space))
+    → IsUnderWay next job.command (job.slices + 1) before (stored g.row.N (owner_bytes space)) =
+    rw (c.command.ensures, c.slices-done.ensures) at c.in-Ok-None.ensures.under_way in
     let answered : (before : Tables)
     → IsUnderWay executor job.command job.slices before (stored g.row.N (owner_bytes p.space))
     → None ≡ answer_of executor.layout job.command job.slices before =
@@ -61,7 +66,7 @@ returns-in-Ok-None g c =
     let steps : StepsTo job p after progress.More =
     subst (λ (place : Option RunningJob). StepsTo job p (record after { running = place }) progress.More) put
     (steps-more g.row.N _ executor p c.self.invariant job running next space c.slice.new.undo c.slice.ensures.layout
-    c.slice.ensures.writes c.next.result c.next.ensures more) in
+    c.slice.ensures.writes c.next.result c.next.ensures more under_way) in
     step-running c.args.self.now p _ job progress.More (Ok progress.More) refl c.self.view_is running
     (relaid (λ q. StepsTo job p q progress.More) after next.layout c.slice.ensures.layout steps)
 
@@ -178,9 +183,15 @@ returns-in-Err g c =
     let missing : c.in-Err.refusal ≡ refusals.NoSuchItem
     → has_item_at executor.layout.load.items job.command job.slices ≡ false =
     λ item. (rw (c.command.ensures, c.slices-done.ensures) at c.in-Err.ensures.no_item.0) (ap Err item) in
+    let only : has_item_at executor.layout.load.items job.command job.slices ≡ false
+    → c.in-Err.refusal ≡ refusals.NoSuchItem =
+    λ gone. (let same : Err c.in-Err.refusal ≡ Err refusals.NoSuchItem = (rw (c.command.ensures, c.slices-done.ensures) at c.in-Err.ensures.no_item.1) gone in cc) in
+    let lacks : c.in-Err.refusal ≡ refusals.NoFrame → FindsNoFrame job.command job.slices space =
+    λ frame. (rw (c.command.ensures, c.slices-done.ensures) at c.in-Err.ensures.no_frame) (ap Err frame) in
     let steps : StepsTo job p (record after { running = None; finished = Some c.refuse.result }) progress.Finished =
     steps-refused g.row.N _ executor p c.self.invariant job running next space c.slice.new.undo c.slice.ensures.layout
-    writes c.roll_back.new.space c.roll_back.new.self c.in-Err.refusal c.refuse.result missing c.in-Err.ensures.refused
+    writes c.roll_back.new.space c.roll_back.new.self c.in-Err.refusal c.refuse.result missing only lacks c.sound.ensures.counts
+    c.in-Err.ensures.refused
     back.log back.bytes back.gives_up c.refuse.ensures in
     let placed : StepsTo job p after progress.Finished =
     subst (λ (place : Option RunningJob). StepsTo job p (record after { running = place }) progress.Finished)

@@ -1,4 +1,4 @@
-use Rattle.std.proofs.Common.{◌≡◌, ℕ, List, [], ◌∷◌, ◌++◌, replicate, sym, ap, ◌∙◌, subst, arith}
+use Rattle.std.proofs.Common.{◌≡◌, ℕ, List, [], ◌∷◌, ◌++◌, length, replicate, sym, ap, ◌∙◌, subst, arith}
 use Rattle.std.proofs.lemmas.List.{length-map, nil_from_length}
 use Rattle.hy_rows.specs.Spelling.{HasSlots, list_at, slots_of}
 use Rattle.hy_space.specs.Space.{owner_bytes, with_new_page}
@@ -28,3 +28,12 @@ pub returns-clause-empty : goal.returns-clause-empty
 returns-clause-empty g c =
     ap (λ (pages : List (List ℕ)). slots_of g.row.N g.R.Row.BYTES g.R.Row.row_of_bytes pages) (after g c)
     ∙ slots_of-zeros g.row.N g.R.Row.BYTES g.R.Row.row_of_bytes (omega (arith, c.sound.ensures.size.smallest))
+
+-- it is the only page
+pub returns-clause-pages : goal.returns-clause-pages
+returns-clause-pages g c = ap length (after g c)
+
+pub returns-clause-few : goal.returns-clause-few
+returns-clause-few g c =
+    let one : length (owner_pages c.grow.new.space g.R.Row.SEGMENT) ≡ 1 = ap length (after g c) in
+    omega (arith, one)

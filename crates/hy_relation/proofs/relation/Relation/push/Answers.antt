@@ -1,10 +1,11 @@
 use Rattle.std.proofs.Common.{◌≡◌, ℕ, ◌<◌, ◌≤◌, List, [], ◌∷◌, ◌++◌, length, Some, sym, ap, ◌∙◌, subst, arith}
 use Rattle.hy_rows.specs.Spelling.{slot_width, slots_of}
 use Rattle.hy_space.specs.Space.{SpaceState, owner_bytes}
-use Rattle.hy_relation.specs.Relation.{HasRelation, owner_pages, relation_slots}
+use Rattle.hy_relation.specs.Relation.{HasFewPages, HasRelation, owner_pages, relation_slots}
 use Rattle.hy_relation.specs.inside.Places.{WritesSlot, slot_page}
+use Rattle.hy_relation.proofs.FewPages.{few-kept}
 use Rattle.hy_relation.proofs.RelationLaws.{has_slots-behind, has_slots-grown, has_slots-pushed, length-slots_of, on_err, slots_of-behind, slots_of-grown, slots_of-pushed}
-use Rattle.hy_relation.proofs.SpaceLaws.{changes-then, pages_sized}
+use Rattle.hy_relation.proofs.SpaceLaws.{changes-none, changes-then, pages_sized}
 use Rattle.hy_relation.proofs.relation.Relation.push.Goals as goal
 
 pub returns-clause-pushed : goal.returns-clause-pushed
@@ -125,3 +126,44 @@ pub returns-in_err-make_room-clause-kept : goal.returns-in_err-make_room-clause-
 returns-in_err-make_room-clause-kept g c =
     on_err c.from_residual.result
     (ap (λ (space : SpaceState). relation_slots g.row.N g.R.Row.SEGMENT g.R.Row.BYTES g.R.Row.row_of_bytes space) c.in_err-make_room.ensures.err)
+
+-- few pages stay few, also where a call is refused
+pub returns-clause-few : goal.returns-clause-few
+returns-clause-few g c few =
+    let n : ℕ = g.row.N in
+    let width : ℕ = g.R.Row.BYTES in
+    let segment : ℕ = g.R.Row.SEGMENT in
+    let room : slot_width width ≤ n = omega (arith, g.met.R.Row.fits, c.sound.ensures.size.smallest) in
+    let counted = c.in_ok-write_count.ensures.count in
+    few-kept n width (owner_pages c.write_slot.new.space segment) (owner_pages c.write_count.new.space segment) room counted.pages
+    (omega (arith, counted.used, c.in_ok-write_slot.ensures.slot.used, c.in_ok-make_room.ensures.grows.used, c.used_of-slot.ensures.value))
+    (c.write_slot.ensures.few (c.make_room.ensures.few few))
+
+pub returns-in_err-write_count-clause-few : goal.returns-in_err-write_count-clause-few
+returns-in_err-write_count-clause-few g c few =
+    subst (λ (space : SpaceState). HasFewPages g.row.N g.R.Row.BYTES (owner_pages space g.R.Row.SEGMENT)) (sym c.in_err-write_count.ensures.err.1)
+    (c.write_slot.ensures.few (c.make_room.ensures.few few))
+
+pub returns-in_err-write_slot-clause-few : goal.returns-in_err-write_slot-clause-few
+returns-in_err-write_slot-clause-few g c few = c.write_slot.ensures.few (c.make_room.ensures.few few)
+
+pub returns-in_err-make_room-clause-few : goal.returns-in_err-make_room-clause-few
+returns-in_err-make_room-clause-few g c few = c.make_room.ensures.few few
+
+-- a refused call changes no other segment
+pub returns-in_err-make_room-clause-only : goal.returns-in_err-make_room-clause-only
+returns-in_err-make_room-clause-only g c =
+    changes-none (owner_bytes c.args.space.now) (owner_bytes c.make_room.new.space) g.R.Row.SEGMENT (ap owner_bytes c.in_err-make_room.ensures.err)
+
+pub returns-in_err-write_slot-clause-only : goal.returns-in_err-write_slot-clause-only
+returns-in_err-write_slot-clause-only g c =
+    changes-then (owner_bytes c.args.space.now) (owner_bytes c.make_room.new.space) (owner_bytes c.write_slot.new.space) g.R.Row.SEGMENT c.in_ok-make_room.ensures.only
+    (changes-none (owner_bytes c.make_room.new.space) (owner_bytes c.write_slot.new.space) g.R.Row.SEGMENT (ap owner_bytes c.in_err-write_slot.ensures.err.1))
+
+pub returns-in_err-write_count-clause-only : goal.returns-in_err-write_count-clause-only
+returns-in_err-write_count-clause-only g c =
+    let old = owner_bytes c.args.space.now in
+    let filled = owner_bytes c.write_slot.new.space in
+    changes-then old filled (owner_bytes c.write_count.new.space) g.R.Row.SEGMENT
+    (changes-then old (owner_bytes c.make_room.new.space) filled g.R.Row.SEGMENT c.in_ok-make_room.ensures.only c.in_ok-write_slot.ensures.only)
+    (changes-none filled (owner_bytes c.write_count.new.space) g.R.Row.SEGMENT (ap owner_bytes c.in_err-write_count.ensures.err.1))

@@ -19,5 +19,5 @@ returns-then-count-eq1-clause-made g c =
     let own : IsOwn s segment page = ap (count_of s.frames) (sym is_f) ∙ one in
     let at_f = subst (λ (n : ℕ). Sets s.frames new f (record { count = n; bytes = page_of s.frames f; lent = false })) one c.in_ok-take_back.ensures.set in
     let sets = subst (λ n. Sets s.frames new n (record { count = 1; bytes = page_of s.frames f; lent = false })) is_f at_f in
-    let done = written g.row.N s c.self.invariant segment page place own new (page_of s.frames f) false sets c.in_ok-take_back.ensures.free in
+    let done = written g.row.N s c.self.invariant segment page place own new (page_of s.frames f) sets c.in_ok-take_back.ensures.free in
     subst (λ now. MakesPrivate now (record s { frames = new }) segment page) is (MakesPrivate-written s (record s { frames = new }) segment page (page_of s.frames f) own done)

@@ -20,9 +20,9 @@ returns-clause-writes g c =
     ap (λ page. overwritten page c.args.offset c.args.bytes.now) (ap (page_of s.frames) is_f ∙ sym (page_at-table_bytes s.frames s.owner c.args.segment c.args.page place.1))
     in
     let sets = subst (λ n. Sets s.frames c.write.new.self n (record { count = 1; bytes = bytes; lent = false })) is_f c.write.ensures.set in
-    let done = written g.row.N s c.self.invariant c.args.segment c.args.page place own c.write.new.self bytes false sets c.write.ensures.free in
-    subst (λ now. WritesPage now new c.args.segment c.args.page (overwritten (page_bytes now c.args.segment c.args.page) c.args.offset c.args.bytes.now) false) is
-    (subst (λ b. WritesPage s new c.args.segment c.args.page b false) content done)
+    let done = written g.row.N s c.self.invariant c.args.segment c.args.page place own c.write.new.self bytes sets c.write.ensures.free in
+    subst (λ now. WritesPage now new c.args.segment c.args.page (overwritten (page_bytes now c.args.segment c.args.page) c.args.offset c.args.bytes.now)) is
+    (subst (λ b. WritesPage s new c.args.segment c.args.page b) content done)
 
 pub returns-clause-kept : goal.returns-clause-kept
 returns-clause-kept g c = (MakesPrivate-written c.args.self.now _ c.args.segment c.args.page _ c.requires.private.own (returns-clause-writes g c)).kept
