@@ -1,5 +1,5 @@
 -- Laws on the steps of a scenario.
-use Rattle.std.proofs.Common.{rules, arith, ◌≡◌, ◌+◌, ◌-◌, ◌<◌, ◌≤◌, ◌++◌, ℕ, suc, true, false, List, [], ◌∷◌, Option, None, Some, Bor, ap, sym, refl, append_assoc, drop, drop-cons, get_or, length, option_map, take, add-one, nat_eq}
+use Rattle.std.proofs.Common.{rules, arith, ◌≡◌, ◌∙◌, ◌+◌, ◌-◌, ◌<◌, ◌≤◌, ◌++◌, ℕ, zero, suc, Bool, true, false, cond, List, [], ◌∷◌, Option, None, Some, Bor, ap, sym, refl, subst, append_assoc, drop, drop-cons, get_or, length, map, option_map, take, add-one, not, nat_eq}
 use Rattle.std.proofs.Math.Seq.{take-suc}
 use Rattle.std.proofs.lemmas.Grind.{common_steps}
 use Rattle.std.proofs.lemmas.List.{take_all}

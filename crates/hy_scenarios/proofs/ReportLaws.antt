@@ -1,5 +1,5 @@
 -- Laws on what is printed of scenarios.
-use Rattle.std.proofs.Common.{◌≡◌, ◌∙◌, ◌+◌, ◌<◌, ◌++◌, ℕ, suc, Bool, true, false, Option, None, Some, List, [], ◌∷◌, add-one, ap, append_assoc, append-nil, get_or, is_none, is_some, length, not, refl, string_bytes, sym, take}
+use Rattle.std.proofs.Common.{◌≡◌, ◌∙◌, ◌+◌, ◌<◌, ◌++◌, ℕ, suc, Bool, true, false, Option, None, Some, List, [], ◌∷◌, add-one, ap, append_assoc, append-nil, get_or, is_none, is_some, length, not, refl, string_bytes, subst, sym, take}
 use Rattle.std.proofs.Math.Seq.{take-suc}
 use Rattle.hy_scenarios.specs.declared.report.Scenario.{Scenario}
 use Rattle.hy_scenarios.specs.Reports.{AreReported, IsLine}

@@ -1,5 +1,5 @@
 -- Laws on what the blocks of a scenario do.
-use Rattle.std.proofs.Common.{arith, ◌≡◌, ◌∙◌, ◌+◌, ◌<◌, ℕ, zero, suc, Bool, true, false, List, [], ◌∷◌, Some, Bor, sym, refl, subst, All, IsUtf8, MatchOption, add-one, drop, drop-cons, get_or, inl, inr, length}
+use Rattle.std.proofs.Common.{rules, arith, ◌≡◌, ◌∙◌, ◌+◌, ◌<◌, ◌++◌, ℕ, zero, suc, Bool, true, false, List, [], ◌∷◌, Option, None, Some, Bor, ap, sym, refl, subst, All, IsUtf8, MatchOption, add-one, drop, drop-cons, get_or, inl, inr, length}
 use Rattle.hy_words.specs.CommandLine.{texts_of}
 use Rattle.hy_place.specs.Files.{FilesByPath}
 use Rattle.hy_scenarios.specs.Changes.{replaced}

@@ -7,7 +7,7 @@ use Rattle.hy_program.specs.declared.ending.Ending.{Ending}
 use Rattle.hy_program.specs.declared.ending.Ending.TheVariants as ending
 use Rattle.hy_program.specs.Runs.{AreRefused, Completes, KeepsFiles, status_of}
 use Rattle.hy_scenarios.specs.declared.commands.Output.{Output}
-use Rattle.hy_scenarios.specs.Marks.{output_of, status_in, text_behind}
+use Rattle.hy_scenarios.specs.Marks.{behind, output_of, status_in, text_behind}
 
 -- words have spaces between them; what stands in double quotes is one word
 abbrev pub unquoted_words : List ℕ → List (List ℕ)

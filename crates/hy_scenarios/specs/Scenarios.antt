@@ -3,7 +3,7 @@ use Rattle.std.specs.Prelude.{◌≡◌, ◌≢◌, ◌⊎◌, ℕ, All, Bool, t
 use Rattle.std.specs.List.{list_any}
 use Rattle.hy_place.specs.Files.{FilesByPath, HasFile, KeepsOthers, no_files}
 use Rattle.hy_program.specs.declared.ending.Ending.{Ending}
-use Rattle.hy_scenarios.specs.Marks.{Block, behind, blocks_of, is_head, steps_of, text_behind}
+use Rattle.hy_scenarios.specs.Marks.{Block, behind, blocks_of, body_of, is_head, steps_of, text_behind}
 use Rattle.hy_scenarios.specs.Changes.{bytes_of, replaced}
 use Rattle.hy_scenarios.specs.Commands.{Printed, Prints, given_words, wanted_by, words_of}
 

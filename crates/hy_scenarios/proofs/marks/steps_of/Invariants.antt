@@ -2,7 +2,7 @@ use Rattle.std.proofs.Common.{◌≡◌, ◌++◌}
 use Rattle.std.specs.List.{filter_map}
 use Rattle.hy_words.specs.CommandLine.{texts_of}
 use Rattle.hy_events.specs.Lines.{lines, numbered}
-use Rattle.hy_scenarios.specs.Marks.{step_in}
+use Rattle.hy_scenarios.specs.Marks.{step_in, steps_of}
 use Rattle.hy_scenarios.proofs.marks.steps_of.Given as goal
 
 abbrev pub invariant-loop-line : goal.invariant-loop-line
