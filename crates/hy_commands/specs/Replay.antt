@@ -1,7 +1,8 @@
 -- A warehouse after a list of commits, one after the other.
-use Rattle.std.specs.Prelude.{ℕ, List, fold}
+use Rattle.std.specs.Prelude.{ℕ, List, fold, length}
 use Rattle.hy_rows.specs.declared.item.Item.{Item}
-use Rattle.hy_rows.specs.Tables.{Tables}
+use Rattle.hy_rows.specs.Ranges.{IsBetween}
+use Rattle.hy_rows.specs.Tables.{Lists, Tables, of_warehouse}
 use Rattle.hy_commands.specs.declared.command.Commit.{Commit}
 use Rattle.hy_commands.specs.declared.command.Commit.TheVariants as commits
 use Rattle.hy_commands.specs.Transactions.{act}
@@ -13,3 +14,11 @@ committed items warehouse tables (commits.Local command) = (act items warehouse 
 -- the rows of a warehouse after the commits, from the loaded rows on
 abbrev pub replay : List Item → ℕ → Tables → List Commit → Tables
 replay items warehouse loaded commits = fold (committed items warehouse) loaded commits
+
+-- the lists have a warehouse of this number
+abbrev pub HasWarehouse : Lists → ℕ → Type 0
+HasWarehouse lists number = IsBetween 1 (length lists.tables.warehouses) number
+
+-- the rows of a warehouse of a load after the commits
+abbrev pub rows_after : Lists → ℕ → List Commit → Tables
+rows_after lists number commits = replay lists.items number (of_warehouse number lists.tables) commits

@@ -7,7 +7,7 @@ use Rattle.hy_rows.specs.declared.order_line.OrderLine.{OrderLine}
 use Rattle.hy_schema.specs.Conditions.{column_sum}
 use Rattle.hy_schema.specs.Related.{is_delivered}
 use Rattle.hy_conditions.specs.declared.customers.Delivered.{Delivered}
-use Rattle.hy_conditions.specs.declared.keys.CustomerKey.{CustomerKey}
+use Rattle.hy_conditions.specs.declared.keys.CustomerId.{CustomerId}
 use Rattle.hy_conditions.specs.Groups.{sum_at}
 use Rattle.hy_conditions.specs.Keys.{key_of_order, lines_with, orders_with, same_customer}
 
@@ -19,7 +19,7 @@ abbrev pub delivered_of : List OrderLine → ℤ
 delivered_of lines = column_sum (λ line. line.amount) (filter is_delivered lines)
 
 -- what was delivered to a customer
-abbrev pub delivered_with : CustomerKey → List Order → List OrderLine → ℤ
+abbrev pub delivered_with : CustomerId → List Order → List OrderLine → ℤ
 delivered_with key orders lines =
     delivered_of (flat_map (λ order. lines_with (key_of_order order) lines) (orders_with key orders))
 
@@ -34,6 +34,6 @@ abbrev pub of_parts : ℤ → ℤ → ℤ
 of_parts high low = pos (2 ^ 63) *ℤ high +ℤ low
 
 -- what two maps of parts have for a customer
-abbrev pub delivered_at : Delivered → CustomerKey → ℤ
+abbrev pub delivered_at : Delivered → CustomerId → ℤ
 delivered_at delivered key =
     of_parts (sum_at same_customer delivered.high key) (sum_at same_customer delivered.low key)

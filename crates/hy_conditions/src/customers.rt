@@ -4,8 +4,8 @@ ghost use Rattle.std.specs.Prelude.{◌≡◌, ◌^◌, ◌-◌, pos, ◌+ℤ◌
 ghost use Rattle.std.specs.List.{list_all};
 ghost use Rattle.std.proofs.Common.{int_eq};
 ghost use Rattle.hy_schema.specs.Conditions.{column_sum, condition_10, condition_12, paid_amount};
-ghost use Rattle.hy_conditions.specs.declared.keys.CustomerKey.{CustomerKey};
-ghost use Rattle.hy_conditions.specs.declared.keys.OrderKey.{OrderKey};
+ghost use Rattle.hy_conditions.specs.declared.keys.CustomerId.{CustomerId};
+ghost use Rattle.hy_conditions.specs.declared.keys.OrderId.{OrderId};
 ghost use Rattle.hy_conditions.specs.Delivered.{
   delivered_at,
   delivered_of,
@@ -29,7 +29,7 @@ ghost use Rattle.hy_conditions.specs.Keys.{
   same_order,
 };
 
-use crate::keys::{CustomerKey, OrderKey};
+use crate::keys::{CustomerId, OrderId};
 use crate::orders;
 use crate::sums::{sum_at, sums_by_key};
 use hy_schema::{Customer, History, Order, OrderLine, Tables};
@@ -40,8 +40,8 @@ use std::alloc::{AllocError, Global};
 /// order key that many orders share counts for each of them, so that one sum of 128 bits could be too small.
 #[derive(Drop)]
 pub struct Delivered {
-    high: IndexMap<CustomerKey, i128>,
-    low: IndexMap<CustomerKey, i128>,
+    high: IndexMap<CustomerId, i128>,
+    low: IndexMap<CustomerId, i128>,
 }
 
 /// The parts of a sum are the quotient and the remainder by this.
@@ -61,9 +61,9 @@ pub fn meets_condition_10(alloc: Global, tables: &Tables) -> Result<bool, AllocE
 fn are_delivered_less_paid(
     customers: &[Customer],
     delivered: &Delivered,
-    paid: &IndexMap<CustomerKey, i128>,
+    paid: &IndexMap<CustomerId, i128>,
 ) -> bool
-    requires { (key : CustomerKey) → IsSmall (sum_at same_customer paid.now key) }
+    requires { (key : CustomerId) → IsSmall (sum_at same_customer paid.now key) }
     ensures { result ≡ list_all (λ row. int_eq
         (row.balance +ℤ sum_at same_customer paid.now (key_of_customer row))
         (delivered_at delivered.now (key_of_customer row))) customers.now }
@@ -77,7 +77,7 @@ fn are_delivered_less_paid(
 fn is_delivered_less_paid(
     row: &Customer,
     delivered: &Delivered,
-    paid: &IndexMap<CustomerKey, i128>,
+    paid: &IndexMap<CustomerId, i128>,
 ) -> bool
     requires { IsSmall (sum_at same_customer paid.now (key_of_customer row.now)) }
     ensures { result ≡ int_eq (row.now.balance +ℤ sum_at same_customer paid.now (key_of_customer row.now))
@@ -87,7 +87,7 @@ fn is_delivered_less_paid(
 }
 
 /// C_BALANCE of a customer and what was paid for the customer.
-fn balance_and_paid(row: &Customer, paid: &IndexMap<CustomerKey, i128>) -> i128
+fn balance_and_paid(row: &Customer, paid: &IndexMap<CustomerId, i128>) -> i128
     requires { IsSmall (sum_at same_customer paid.now (key_of_customer row.now)) }
     ensures { result ≡ row.now.balance +ℤ sum_at same_customer paid.now (key_of_customer row.now) }
 {
@@ -123,7 +123,7 @@ fn is_balanced(row: &Customer, delivered: &Delivered) -> bool
 }
 
 /// Whether this amount was delivered to a customer.
-fn is_delivered(delivered: &Delivered, key: CustomerKey, amount: i128) -> bool
+fn is_delivered(delivered: &Delivered, key: CustomerId, amount: i128) -> bool
     ensures { result ≡ int_eq amount (delivered_at delivered.now key) }
 {
     is_of_parts(
@@ -170,7 +170,7 @@ fn delivered_by_customer(
     orders: &[Order],
     lines: &[OrderLine],
 ) -> Result<Delivered, AllocError>
-    ensures { IfOk result (λ delivered. (key : CustomerKey)
+    ensures { IfOk result (λ delivered. (key : CustomerId)
         → delivered_at delivered key ≡ delivered_with key orders.now lines.now) }
 {
     let by_order = delivered_by_order(alloc, lines)?;
@@ -183,10 +183,10 @@ fn delivered_by_customer(
 fn high_by_customer(
     alloc: Global,
     orders: &[Order],
-    delivered: &IndexMap<OrderKey, i128>,
-) -> Result<IndexMap<CustomerKey, i128>, AllocError>
-    requires { (key : OrderKey) → IsSmall (sum_at same_order delivered.now key) }
-    ensures { IfOk result (λ sums. (key : CustomerKey) → sum_at same_customer sums key ≡ column_sum
+    delivered: &IndexMap<OrderId, i128>,
+) -> Result<IndexMap<CustomerId, i128>, AllocError>
+    requires { (key : OrderId) → IsSmall (sum_at same_order delivered.now key) }
+    ensures { IfOk result (λ sums. (key : CustomerId) → sum_at same_customer sums key ≡ column_sum
         (λ row. high_part (sum_at same_order delivered.now (key_of_order row)))
         (orders_with key orders.now)) }
 {
@@ -198,9 +198,9 @@ fn high_by_customer(
 fn high_entries(
     alloc: Global,
     orders: &[Order],
-    delivered: &IndexMap<OrderKey, i128>,
-) -> Result<Vec<(CustomerKey, i64)>, AllocError>
-    requires { (key : OrderKey) → IsSmall (sum_at same_order delivered.now key) }
+    delivered: &IndexMap<OrderId, i128>,
+) -> Result<Vec<(CustomerId, i64)>, AllocError>
+    requires { (key : OrderId) → IsSmall (sum_at same_order delivered.now key) }
     ensures { IfOk result (λ entries. entries.items ≡ map (λ row. (
       customer_of_order row,
       high_part (sum_at same_order delivered.now (key_of_order row)),
@@ -214,7 +214,7 @@ fn high_entries(
 }
 
 /// The high part of what was delivered of an order, with its customer.
-fn high_entry(row: &Order, delivered: &IndexMap<OrderKey, i128>) -> (CustomerKey, i64)
+fn high_entry(row: &Order, delivered: &IndexMap<OrderId, i128>) -> (CustomerId, i64)
     requires { IsSmall (sum_at same_order delivered.now (key_of_order row.now)) }
     ensures { result
         ≡ (customer_of_order row.now, high_part (sum_at same_order delivered.now (key_of_order row.now))) }
@@ -227,9 +227,9 @@ fn high_entry(row: &Order, delivered: &IndexMap<OrderKey, i128>) -> (CustomerKey
 fn low_by_customer(
     alloc: Global,
     orders: &[Order],
-    delivered: &IndexMap<OrderKey, i128>,
-) -> Result<IndexMap<CustomerKey, i128>, AllocError>
-    ensures { IfOk result (λ sums. (key : CustomerKey) → sum_at same_customer sums key ≡ column_sum
+    delivered: &IndexMap<OrderId, i128>,
+) -> Result<IndexMap<CustomerId, i128>, AllocError>
+    ensures { IfOk result (λ sums. (key : CustomerId) → sum_at same_customer sums key ≡ column_sum
         (λ row. low_part (sum_at same_order delivered.now (key_of_order row))) (orders_with key orders.now)) }
 {
     let entries = low_entries(alloc, orders, delivered)?;
@@ -240,8 +240,8 @@ fn low_by_customer(
 fn low_entries(
     alloc: Global,
     orders: &[Order],
-    delivered: &IndexMap<OrderKey, i128>,
-) -> Result<Vec<(CustomerKey, i64)>, AllocError>
+    delivered: &IndexMap<OrderId, i128>,
+) -> Result<Vec<(CustomerId, i64)>, AllocError>
     ensures { IfOk result (λ entries. entries.items ≡ map (λ row. (
       customer_of_order row,
       low_part (sum_at same_order delivered.now (key_of_order row)),
@@ -254,7 +254,7 @@ fn low_entries(
 }
 
 /// The low part of what was delivered of an order, with its customer.
-fn low_entry(row: &Order, delivered: &IndexMap<OrderKey, i128>) -> (CustomerKey, i64)
+fn low_entry(row: &Order, delivered: &IndexMap<OrderId, i128>) -> (CustomerId, i64)
     ensures { result
         ≡ (customer_of_order row.now, low_part (sum_at same_order delivered.now (key_of_order row.now))) }
 {
@@ -281,17 +281,17 @@ fn low_part(sum: i128) -> i64
 fn delivered_by_order(
     alloc: Global,
     lines: &[OrderLine],
-) -> Result<IndexMap<OrderKey, i128>, AllocError>
-    ensures sums { IfOk result (λ sums. (key : OrderKey)
+) -> Result<IndexMap<OrderId, i128>, AllocError>
+    ensures sums { IfOk result (λ sums. (key : OrderId)
         → sum_at same_order sums key ≡ delivered_of (lines_with key lines.now)) }
-    ensures small { IfOk result (λ sums. (key : OrderKey) → IsSmall (sum_at same_order sums key)) }
+    ensures small { IfOk result (λ sums. (key : OrderId) → IsSmall (sum_at same_order sums key)) }
 {
     let entries = line_entries(alloc, lines)?;
     sums_by_key(alloc, &entries)
 }
 
 /// What was delivered of each order line, with the key of its order.
-fn line_entries(alloc: Global, lines: &[OrderLine]) -> Result<Vec<(OrderKey, i64)>, AllocError>
+fn line_entries(alloc: Global, lines: &[OrderLine]) -> Result<Vec<(OrderId, i64)>, AllocError>
     ensures { IfOk result (λ entries. entries.items
         ≡ map (λ row. (key_of_line row, line_amount row)) lines.now) }
 {
@@ -299,7 +299,7 @@ fn line_entries(alloc: Global, lines: &[OrderLine]) -> Result<Vec<(OrderKey, i64
         .iter()
         .map(|row| {
             (
-                OrderKey::new(row.warehouse, row.district, row.order),
+                OrderId::new(row.warehouse, row.district, row.order),
                 line_amount(row),
             )
         })
@@ -321,17 +321,17 @@ fn line_amount(row: &OrderLine) -> i64
 fn paid_by_customer(
     alloc: Global,
     history: &[History],
-) -> Result<IndexMap<CustomerKey, i128>, AllocError>
-    ensures sums { IfOk result (λ sums. (key : CustomerKey)
+) -> Result<IndexMap<CustomerId, i128>, AllocError>
+    ensures sums { IfOk result (λ sums. (key : CustomerId)
         → sum_at same_customer sums key ≡ paid_amount (payments_with key history.now)) }
-    ensures small { IfOk result (λ sums. (key : CustomerKey) → IsSmall (sum_at same_customer sums key)) }
+    ensures small { IfOk result (λ sums. (key : CustomerId) → IsSmall (sum_at same_customer sums key)) }
 {
     let entries = paid_entries(alloc, history)?;
     sums_by_key(alloc, &entries)
 }
 
 /// H_AMOUNT of each payment, with the key of the customer who paid.
-fn paid_entries(alloc: Global, history: &[History]) -> Result<Vec<(CustomerKey, i64)>, AllocError>
+fn paid_entries(alloc: Global, history: &[History]) -> Result<Vec<(CustomerId, i64)>, AllocError>
     ensures { IfOk result
         (λ entries. entries.items ≡ map (λ row. (customer_of_payment row, row.amount)) history.now) }
 {
@@ -339,7 +339,7 @@ fn paid_entries(alloc: Global, history: &[History]) -> Result<Vec<(CustomerKey, 
         .iter()
         .map(|row| {
             (
-                CustomerKey::new(row.customer_warehouse, row.customer_district, row.customer),
+                CustomerId::new(row.customer_warehouse, row.customer_district, row.customer),
                 row.amount,
             )
         })
@@ -347,15 +347,15 @@ fn paid_entries(alloc: Global, history: &[History]) -> Result<Vec<(CustomerKey, 
 }
 
 /// The key of a customer.
-fn key_of(row: &Customer) -> CustomerKey
+fn key_of(row: &Customer) -> CustomerId
     ensures { result ≡ key_of_customer row.now }
 {
-    CustomerKey::new(row.warehouse, row.district, row.id)
+    CustomerId::new(row.warehouse, row.district, row.id)
 }
 
 /// The key of an order's customer.
-fn customer_of(row: &Order) -> CustomerKey
+fn customer_of(row: &Order) -> CustomerId
     ensures { result ≡ customer_of_order row.now }
 {
-    CustomerKey::new(row.warehouse, row.district, row.customer)
+    CustomerId::new(row.warehouse, row.district, row.customer)
 }

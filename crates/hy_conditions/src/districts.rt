@@ -28,7 +28,7 @@ ghost use Rattle.hy_schema.specs.Related.{
   orders_of,
   payments_in_district,
 };
-ghost use Rattle.hy_conditions.specs.declared.keys.DistrictKey.{DistrictKey};
+ghost use Rattle.hy_conditions.specs.declared.keys.DistrictId.{DistrictId};
 ghost use Rattle.hy_conditions.specs.Groups.{sum_at};
 ghost use Rattle.hy_conditions.specs.Keys.{key_of_district, same_district};
 ghost use Rattle.hy_conditions.specs.Numbers.{
@@ -38,7 +38,7 @@ ghost use Rattle.hy_conditions.specs.Numbers.{
   numbers_of,
 };
 
-use crate::keys::DistrictKey;
+use crate::keys::DistrictId;
 use crate::numbers::{Numbers, numbers_at, numbers_by_key};
 use crate::sums::{sum_at, sums_by_key};
 use hy_schema::{District, History, NewOrder, Order, OrderLine, Tables};
@@ -59,8 +59,8 @@ pub fn meets_condition_2(alloc: Global, tables: &Tables) -> Result<bool, AllocEr
 /// has one.
 fn are_behind_orders(
     districts: &[District],
-    orders: &IndexMap<DistrictKey, Numbers>,
-    news: &IndexMap<DistrictKey, Numbers>,
+    orders: &IndexMap<DistrictId, Numbers>,
+    news: &IndexMap<DistrictId, Numbers>,
 ) -> bool
     ensures { result ≡ list_all (λ row. are_behind row.next_order
         (numbers_at same_district orders.now (key_of_district row))
@@ -74,8 +74,8 @@ fn are_behind_orders(
 /// Whether D_NEXT_O_ID of a district comes next behind its orders, and behind its new orders if there is one.
 fn is_behind_orders(
     row: &District,
-    orders: &IndexMap<DistrictKey, Numbers>,
-    news: &IndexMap<DistrictKey, Numbers>,
+    orders: &IndexMap<DistrictId, Numbers>,
+    news: &IndexMap<DistrictId, Numbers>,
 ) -> bool
     ensures { result ≡ are_behind row.now.next_order
         (numbers_at same_district orders.now (key_of_district row.now))
@@ -112,7 +112,7 @@ pub fn meets_condition_3(alloc: Global, tables: &Tables) -> Result<bool, AllocEr
 }
 
 /// Whether the new orders of each district are as many as numbers from the least to the greatest.
-fn have_new_orders_in_row(districts: &[District], news: &IndexMap<DistrictKey, Numbers>) -> bool
+fn have_new_orders_in_row(districts: &[District], news: &IndexMap<DistrictId, Numbers>) -> bool
     ensures { result
         ≡ list_all (λ row. are_in_row (numbers_at same_district news.now
         (key_of_district row))) districts.now }
@@ -146,8 +146,8 @@ pub fn meets_condition_4(alloc: Global, tables: &Tables) -> Result<bool, AllocEr
 /// Whether two sums are the same at each district.
 fn have_all_lines(
     districts: &[District],
-    counted: &IndexMap<DistrictKey, i128>,
-    lines: &IndexMap<DistrictKey, i128>,
+    counted: &IndexMap<DistrictId, i128>,
+    lines: &IndexMap<DistrictId, i128>,
 ) -> bool
     ensures { result ≡ list_all (λ row. int_eq (sum_at same_district counted.now (key_of_district row))
         (sum_at same_district lines.now (key_of_district row))) districts.now }
@@ -160,8 +160,8 @@ fn have_all_lines(
 /// Whether two sums are the same at a district.
 fn has_all_lines(
     row: &District,
-    counted: &IndexMap<DistrictKey, i128>,
-    lines: &IndexMap<DistrictKey, i128>,
+    counted: &IndexMap<DistrictId, i128>,
+    lines: &IndexMap<DistrictId, i128>,
 ) -> bool
     ensures { result ≡ int_eq (sum_at same_district counted.now (key_of_district row.now))
         (sum_at same_district lines.now (key_of_district row.now)) }
@@ -180,7 +180,7 @@ pub fn meets_condition_9(alloc: Global, tables: &Tables) -> Result<bool, AllocEr
 }
 
 /// Whether D_YTD of each district is the sum that stands with it.
-fn have_sums(districts: &[District], sums: &IndexMap<DistrictKey, i128>) -> bool
+fn have_sums(districts: &[District], sums: &IndexMap<DistrictId, i128>) -> bool
     ensures { result
         ≡ list_all (λ row. int_eq row.ytd
         (sum_at same_district sums.now (key_of_district row))) districts.now }
@@ -189,17 +189,17 @@ fn have_sums(districts: &[District], sums: &IndexMap<DistrictKey, i128>) -> bool
 }
 
 /// Whether D_YTD of a district is the sum that stands with it.
-fn has_sum(row: &District, sums: &IndexMap<DistrictKey, i128>) -> bool
+fn has_sum(row: &District, sums: &IndexMap<DistrictId, i128>) -> bool
     ensures { result ≡ int_eq row.now.ytd (sum_at same_district sums.now (key_of_district row.now)) }
 {
     i128::from(row.ytd) == sum_at(sums, key_of(row))
 }
 
 /// The key of a district.
-fn key_of(row: &District) -> DistrictKey
+fn key_of(row: &District) -> DistrictId
     ensures { result ≡ key_of_district row.now }
 {
-    DistrictKey {
+    DistrictId {
         warehouse: row.warehouse,
         district: row.id,
     }
@@ -209,8 +209,8 @@ fn key_of(row: &District) -> DistrictKey
 fn orders_by_district(
     alloc: Global,
     orders: &[Order],
-) -> Result<IndexMap<DistrictKey, Numbers>, AllocError>
-    ensures { IfOk result (λ groups. (key : DistrictKey) → numbers_at same_district groups key
+) -> Result<IndexMap<DistrictId, Numbers>, AllocError>
+    ensures { IfOk result (λ groups. (key : DistrictId) → numbers_at same_district groups key
         ≡ numbers_of (map (λ row. row.id) (orders_of key.warehouse key.district orders.now))) }
 {
     let entries = order_entries(alloc, orders)?;
@@ -218,13 +218,13 @@ fn orders_by_district(
 }
 
 /// O_ID of each order, with the key of its district.
-fn order_entries(alloc: Global, orders: &[Order]) -> Result<Vec<(DistrictKey, u32)>, AllocError>
+fn order_entries(alloc: Global, orders: &[Order]) -> Result<Vec<(DistrictId, u32)>, AllocError>
     ensures { IfOk result (λ entries. entries.items ≡ map (λ row.
         (record { warehouse = row.warehouse; district = row.district }, row.id)) orders.now) }
 {
     orders
         .iter()
-        .map(|row| (DistrictKey::new(row.warehouse, row.district), row.id))
+        .map(|row| (DistrictId::new(row.warehouse, row.district), row.id))
         .collect(alloc)
 }
 
@@ -232,8 +232,8 @@ fn order_entries(alloc: Global, orders: &[Order]) -> Result<Vec<(DistrictKey, u3
 fn new_orders_by_district(
     alloc: Global,
     news: &[NewOrder],
-) -> Result<IndexMap<DistrictKey, Numbers>, AllocError>
-    ensures { IfOk result (λ groups. (key : DistrictKey) → numbers_at same_district groups key
+) -> Result<IndexMap<DistrictId, Numbers>, AllocError>
+    ensures { IfOk result (λ groups. (key : DistrictId) → numbers_at same_district groups key
         ≡ numbers_of (map (λ row. row.order) (new_orders_of key.warehouse key.district news.now))) }
 {
     let entries = new_order_entries(alloc, news)?;
@@ -241,15 +241,12 @@ fn new_orders_by_district(
 }
 
 /// NO_O_ID of each undelivered order, with the key of its district.
-fn new_order_entries(
-    alloc: Global,
-    news: &[NewOrder],
-) -> Result<Vec<(DistrictKey, u32)>, AllocError>
+fn new_order_entries(alloc: Global, news: &[NewOrder]) -> Result<Vec<(DistrictId, u32)>, AllocError>
     ensures { IfOk result (λ entries. entries.items ≡ map (λ row.
         (record { warehouse = row.warehouse; district = row.district }, row.order)) news.now) }
 {
     news.iter()
-        .map(|row| (DistrictKey::new(row.warehouse, row.district), row.order))
+        .map(|row| (DistrictId::new(row.warehouse, row.district), row.order))
         .collect(alloc)
 }
 
@@ -257,8 +254,8 @@ fn new_order_entries(
 fn line_counts_by_district(
     alloc: Global,
     orders: &[Order],
-) -> Result<IndexMap<DistrictKey, i128>, AllocError>
-    ensures { IfOk result (λ sums. (key : DistrictKey) → sum_at same_district sums key
+) -> Result<IndexMap<DistrictId, i128>, AllocError>
+    ensures { IfOk result (λ sums. (key : DistrictId) → sum_at same_district sums key
         ≡ pos (sum (map (λ row. row.line_count) (orders_of key.warehouse key.district orders.now)))) }
 {
     let entries = line_count_entries(alloc, orders)?;
@@ -266,17 +263,14 @@ fn line_counts_by_district(
 }
 
 /// O_OL_CNT of each order, with the key of its district.
-fn line_count_entries(
-    alloc: Global,
-    orders: &[Order],
-) -> Result<Vec<(DistrictKey, i64)>, AllocError>
+fn line_count_entries(alloc: Global, orders: &[Order]) -> Result<Vec<(DistrictId, i64)>, AllocError>
     ensures { IfOk result (λ entries. entries.items ≡ map (λ row.
         (record { warehouse = row.warehouse; district = row.district }, pos row.line_count)) orders.now) }
 {
     orders
         .iter()
         .map(|row| (
-            DistrictKey::new(row.warehouse, row.district),
+            DistrictId::new(row.warehouse, row.district),
             i64::from(row.line_count),
         ))
         .collect(alloc)
@@ -286,8 +280,8 @@ fn line_count_entries(
 fn lines_by_district(
     alloc: Global,
     lines: &[OrderLine],
-) -> Result<IndexMap<DistrictKey, i128>, AllocError>
-    ensures { IfOk result (λ sums. (key : DistrictKey) → sum_at same_district sums key
+) -> Result<IndexMap<DistrictId, i128>, AllocError>
+    ensures { IfOk result (λ sums. (key : DistrictId) → sum_at same_district sums key
         ≡ pos (length (lines_of_district key.warehouse key.district lines.now))) }
 {
     let entries = line_entries(alloc, lines)?;
@@ -295,13 +289,13 @@ fn lines_by_district(
 }
 
 /// 1 for each order line, with the key of its district.
-fn line_entries(alloc: Global, lines: &[OrderLine]) -> Result<Vec<(DistrictKey, i64)>, AllocError>
+fn line_entries(alloc: Global, lines: &[OrderLine]) -> Result<Vec<(DistrictId, i64)>, AllocError>
     ensures { IfOk result (λ entries. entries.items ≡ map (λ row.
         (record { warehouse = row.warehouse; district = row.district }, pos 1)) lines.now) }
 {
     lines
         .iter()
-        .map(|row| (DistrictKey::new(row.warehouse, row.district), 1))
+        .map(|row| (DistrictId::new(row.warehouse, row.district), 1))
         .collect(alloc)
 }
 
@@ -309,8 +303,8 @@ fn line_entries(alloc: Global, lines: &[OrderLine]) -> Result<Vec<(DistrictKey, 
 fn paid_by_district(
     alloc: Global,
     history: &[History],
-) -> Result<IndexMap<DistrictKey, i128>, AllocError>
-    ensures { IfOk result (λ sums. (key : DistrictKey) → sum_at same_district sums key
+) -> Result<IndexMap<DistrictId, i128>, AllocError>
+    ensures { IfOk result (λ sums. (key : DistrictId) → sum_at same_district sums key
         ≡ paid_amount (payments_in_district key.warehouse key.district history.now)) }
 {
     let entries = paid_entries(alloc, history)?;
@@ -318,12 +312,12 @@ fn paid_by_district(
 }
 
 /// H_AMOUNT of each payment, with the key of the district that was paid.
-fn paid_entries(alloc: Global, history: &[History]) -> Result<Vec<(DistrictKey, i64)>, AllocError>
+fn paid_entries(alloc: Global, history: &[History]) -> Result<Vec<(DistrictId, i64)>, AllocError>
     ensures { IfOk result (λ entries. entries.items ≡ map (λ row.
         (record { warehouse = row.warehouse; district = row.district }, row.amount)) history.now) }
 {
     history
         .iter()
-        .map(|row| (DistrictKey::new(row.warehouse, row.district), row.amount))
+        .map(|row| (DistrictId::new(row.warehouse, row.district), row.amount))
         .collect(alloc)
 }

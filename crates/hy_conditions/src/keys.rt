@@ -4,17 +4,17 @@ ghost use Rattle.std.specs.Prelude.{◌≡◌};
 
 /// A district, by its warehouse's number and its own (D_W_ID, D_ID).
 #[derive(Clone, Copy, PartialEq, Eq, Hash)]
-pub struct DistrictKey {
+pub struct DistrictId {
     pub warehouse: u8,
     pub district: u8,
 }
 
-impl DistrictKey {
+impl DistrictId {
     /// The key of a district by its numbers.
-    pub fn new(warehouse: u8, district: u8) -> DistrictKey
+    pub fn new(warehouse: u8, district: u8) -> DistrictId
         ensures { result ≡ record { warehouse = warehouse; district = district } }
     {
-        DistrictKey {
+        DistrictId {
             warehouse,
             district,
         }
@@ -23,19 +23,19 @@ impl DistrictKey {
 
 /// An order, by its district and its own number (O_W_ID, O_D_ID, O_ID).
 #[derive(Clone, Copy, PartialEq, Eq, Hash)]
-pub struct OrderKey {
-    pub district: DistrictKey,
+pub struct OrderId {
+    pub district: DistrictId,
     pub order: u32,
 }
 
-impl OrderKey {
+impl OrderId {
     /// The key of an order by its numbers.
-    pub fn new(warehouse: u8, district: u8, order: u32) -> OrderKey
+    pub fn new(warehouse: u8, district: u8, order: u32) -> OrderId
         ensures { result
             ≡ record { district = record { warehouse = warehouse; district = district }; order = order } }
     {
-        OrderKey {
-            district: DistrictKey::new(warehouse, district),
+        OrderId {
+            district: DistrictId::new(warehouse, district),
             order,
         }
     }
@@ -43,19 +43,19 @@ impl OrderKey {
 
 /// A customer, by the customer's district and number (C_W_ID, C_D_ID, C_ID).
 #[derive(Clone, Copy, PartialEq, Eq, Hash)]
-pub struct CustomerKey {
-    pub district: DistrictKey,
+pub struct CustomerId {
+    pub district: DistrictId,
     pub customer: u16,
 }
 
-impl CustomerKey {
+impl CustomerId {
     /// The key of a customer by its numbers.
-    pub fn new(warehouse: u8, district: u8, customer: u16) -> CustomerKey
+    pub fn new(warehouse: u8, district: u8, customer: u16) -> CustomerId
         ensures { result
             ≡ record { district = record { warehouse = warehouse; district = district }; customer = customer } }
     {
-        CustomerKey {
-            district: DistrictKey::new(warehouse, district),
+        CustomerId {
+            district: DistrictId::new(warehouse, district),
             customer,
         }
     }

@@ -12,4 +12,4 @@ mod sums;
 mod warehouses;
 
 pub use conditions::first_broken;
-pub use keys::{CustomerKey, DistrictKey, OrderKey};
+pub use keys::{CustomerId, DistrictId, OrderId};

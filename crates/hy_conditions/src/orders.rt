@@ -16,7 +16,7 @@ ghost use Rattle.std.specs.Prelude.{
 ghost use Rattle.std.specs.List.{list_all};
 ghost use Rattle.std.proofs.Common.{int_eq};
 ghost use Rattle.hy_schema.specs.Conditions.{agree, condition_5, condition_6, condition_7};
-ghost use Rattle.hy_conditions.specs.declared.keys.OrderKey.{OrderKey};
+ghost use Rattle.hy_conditions.specs.declared.keys.OrderId.{OrderId};
 ghost use Rattle.hy_conditions.specs.Groups.{sum_at};
 ghost use Rattle.hy_conditions.specs.Keys.{
   key_of_line,
@@ -28,7 +28,7 @@ ghost use Rattle.hy_conditions.specs.Keys.{
 };
 ghost use Rattle.hy_conditions.specs.Lines.{disagreeing, is_other};
 
-use crate::keys::OrderKey;
+use crate::keys::OrderId;
 use crate::sums::{sum_at, sums_by_key};
 use hy_schema::{NewOrder, Order, OrderLine, Tables};
 use indexmap::IndexMap;
@@ -44,7 +44,7 @@ pub fn meets_condition_5(alloc: Global, tables: &Tables) -> Result<bool, AllocEr
 }
 
 /// Whether each order has no carrier exactly where it is undelivered.
-fn are_carried_or_new(orders: &[Order], news: &IndexMap<OrderKey, i128>) -> bool
+fn are_carried_or_new(orders: &[Order], news: &IndexMap<OrderId, i128>) -> bool
     ensures { result ≡ list_all (λ row. agree (row.carrier == 0)
         (not (int_eq (sum_at same_order news.now (key_of_order row)) (pos 0)))) orders.now }
 {
@@ -52,7 +52,7 @@ fn are_carried_or_new(orders: &[Order], news: &IndexMap<OrderKey, i128>) -> bool
 }
 
 /// Whether an order has no carrier exactly where it is undelivered.
-fn is_carried_or_new(row: &Order, news: &IndexMap<OrderKey, i128>) -> bool
+fn is_carried_or_new(row: &Order, news: &IndexMap<OrderId, i128>) -> bool
     ensures { result ≡ agree (row.now.carrier == 0)
         (not (int_eq (sum_at same_order news.now (key_of_order row.now)) (pos 0))) }
 {
@@ -64,8 +64,8 @@ fn is_carried_or_new(row: &Order, news: &IndexMap<OrderKey, i128>) -> bool
 fn new_orders_by_order(
     alloc: Global,
     news: &[NewOrder],
-) -> Result<IndexMap<OrderKey, i128>, AllocError>
-    ensures { IfOk result (λ sums. (key : OrderKey)
+) -> Result<IndexMap<OrderId, i128>, AllocError>
+    ensures { IfOk result (λ sums. (key : OrderId)
         → sum_at same_order sums key ≡ pos (length (new_orders_with key news.now))) }
 {
     let entries = new_order_entries(alloc, news)?;
@@ -73,11 +73,11 @@ fn new_orders_by_order(
 }
 
 /// 1 for each row of NEW-ORDER, with the key of its order.
-fn new_order_entries(alloc: Global, news: &[NewOrder]) -> Result<Vec<(OrderKey, i64)>, AllocError>
+fn new_order_entries(alloc: Global, news: &[NewOrder]) -> Result<Vec<(OrderId, i64)>, AllocError>
     ensures { IfOk result (λ entries. entries.items ≡ map (λ row. (key_of_new_order row, pos 1)) news.now) }
 {
     news.iter()
-        .map(|row| (OrderKey::new(row.warehouse, row.district, row.order), 1))
+        .map(|row| (OrderId::new(row.warehouse, row.district, row.order), 1))
         .collect(alloc)
 }
 
@@ -91,7 +91,7 @@ pub fn meets_condition_6(alloc: Global, tables: &Tables) -> Result<bool, AllocEr
 }
 
 /// Whether O_OL_CNT of each order is the count that stands with it.
-fn count_their_lines(orders: &[Order], lines: &IndexMap<OrderKey, i128>) -> bool
+fn count_their_lines(orders: &[Order], lines: &IndexMap<OrderId, i128>) -> bool
     ensures { result ≡ list_all (λ row. int_eq (pos row.line_count)
         (sum_at same_order lines.now (key_of_order row))) orders.now }
 {
@@ -99,18 +99,15 @@ fn count_their_lines(orders: &[Order], lines: &IndexMap<OrderKey, i128>) -> bool
 }
 
 /// Whether O_OL_CNT of an order is the count that stands with it.
-fn counts_its_lines(row: &Order, lines: &IndexMap<OrderKey, i128>) -> bool
+fn counts_its_lines(row: &Order, lines: &IndexMap<OrderId, i128>) -> bool
     ensures { result ≡ int_eq (pos row.now.line_count) (sum_at same_order lines.now (key_of_order row.now)) }
 {
     i128::from(row.line_count) == sum_at(lines, key_of(row))
 }
 
 /// For each order how many lines it has.
-fn lines_by_order(
-    alloc: Global,
-    lines: &[OrderLine],
-) -> Result<IndexMap<OrderKey, i128>, AllocError>
-    ensures { IfOk result (λ sums. (key : OrderKey)
+fn lines_by_order(alloc: Global, lines: &[OrderLine]) -> Result<IndexMap<OrderId, i128>, AllocError>
+    ensures { IfOk result (λ sums. (key : OrderId)
         → sum_at same_order sums key ≡ pos (length (lines_with key lines.now))) }
 {
     let entries = line_entries(alloc, lines)?;
@@ -118,12 +115,12 @@ fn lines_by_order(
 }
 
 /// 1 for each order line, with the key of its order.
-fn line_entries(alloc: Global, lines: &[OrderLine]) -> Result<Vec<(OrderKey, i64)>, AllocError>
+fn line_entries(alloc: Global, lines: &[OrderLine]) -> Result<Vec<(OrderId, i64)>, AllocError>
     ensures { IfOk result (λ entries. entries.items ≡ map (λ row. (key_of_line row, pos 1)) lines.now) }
 {
     lines
         .iter()
-        .map(|row| (OrderKey::new(row.warehouse, row.district, row.order), 1))
+        .map(|row| (OrderId::new(row.warehouse, row.district, row.order), 1))
         .collect(alloc)
 }
 
@@ -140,8 +137,8 @@ pub fn meets_condition_7(alloc: Global, tables: &Tables) -> Result<bool, AllocEr
 /// Whether no order without a carrier has a delivered line, and no other one an undelivered line.
 fn are_delivered_with_lines(
     orders: &[Order],
-    delivered: &IndexMap<OrderKey, i128>,
-    undelivered: &IndexMap<OrderKey, i128>,
+    delivered: &IndexMap<OrderId, i128>,
+    undelivered: &IndexMap<OrderId, i128>,
 ) -> bool
     ensures { result ≡ list_all (λ row. int_eq (if row.carrier == 0
         then sum_at same_order delivered.now (key_of_order row)
@@ -155,8 +152,8 @@ fn are_delivered_with_lines(
 /// Whether an order without a carrier has no delivered line, and another one no undelivered line.
 fn is_delivered_with_lines(
     row: &Order,
-    delivered: &IndexMap<OrderKey, i128>,
-    undelivered: &IndexMap<OrderKey, i128>,
+    delivered: &IndexMap<OrderId, i128>,
+    undelivered: &IndexMap<OrderId, i128>,
 ) -> bool
     ensures { result ≡ int_eq (if row.now.carrier == 0
         then sum_at same_order delivered.now (key_of_order row.now)
@@ -175,8 +172,8 @@ fn others_by_order(
     alloc: Global,
     lines: &[OrderLine],
     undelivered: bool,
-) -> Result<IndexMap<OrderKey, i128>, AllocError>
-    ensures { IfOk result (λ sums. (key : OrderKey)
+) -> Result<IndexMap<OrderId, i128>, AllocError>
+    ensures { IfOk result (λ sums. (key : OrderId)
         → sum_at same_order sums key ≡ disagreeing undelivered (lines_with key lines.now)) }
 {
     let entries = other_entries(alloc, lines, undelivered)?;
@@ -188,7 +185,7 @@ fn other_entries(
     alloc: Global,
     lines: &[OrderLine],
     undelivered: bool,
-) -> Result<Vec<(OrderKey, i64)>, AllocError>
+) -> Result<Vec<(OrderId, i64)>, AllocError>
     ensures { IfOk result (λ entries. entries.items ≡ map
         (λ row. (key_of_line row, is_other undelivered row)) lines.now) }
 {
@@ -196,7 +193,7 @@ fn other_entries(
         .iter()
         .map(|row| {
             (
-                OrderKey::new(row.warehouse, row.district, row.order),
+                OrderId::new(row.warehouse, row.district, row.order),
                 other(row, undelivered),
             )
         })
@@ -216,8 +213,8 @@ fn other(row: &OrderLine, undelivered: bool) -> i64
 }
 
 /// The key of an order.
-pub fn key_of(row: &Order) -> OrderKey
+pub fn key_of(row: &Order) -> OrderId
     ensures { result ≡ key_of_order row.now }
 {
-    OrderKey::new(row.warehouse, row.district, row.id)
+    OrderId::new(row.warehouse, row.district, row.id)
 }

@@ -1,5 +1,4 @@
 pub mod LineLaws
-pub mod NumberLaws
 pub mod PartLaws
 pub mod PurchaseLaws
 pub mod WhoLaws

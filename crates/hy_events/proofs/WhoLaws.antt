@@ -5,7 +5,7 @@ use Rattle.std.proofs.lemmas.Bool.{ne_eqb}
 use Rattle.hy_commands.specs.declared.command.Who.TheVariants as who
 use Rattle.hy_events.specs.Events.{who_of}
 use Rattle.hy_events.specs.Words.{number_of}
-use Rattle.hy_events.proofs.NumberLaws.{not_written}
+use Rattle.hy_decimal.proofs.NumberLaws.{not_written}
 
 no_number : number_of [] ≡ None
 no_number = sym (not_written [] (λ written. omega (arith, written.some)))

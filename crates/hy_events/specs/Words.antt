@@ -1,7 +1,7 @@
 -- The words of a line, and the numbers that words say.
-use Rattle.std.specs.Prelude.{ℕ, zero, suc, ◌^◌, ◌==◌, ◌&&◌, nat_lt, if◌then◌else◌, List, [], ◌∷◌, Option, None, Some, is_some, option_and_then, bytes_eq, decimal}
+use Rattle.std.specs.Prelude.{ℕ, zero, suc, ◌==◌, if◌then◌else◌, List, [], ◌∷◌, Option, None, Some, is_some, option_and_then}
 use Rattle.std.specs.List.{slice_split}
-use Rattle.std.specs.Str.Parse.{digits_value}
+use Rattle.hy_decimal.specs.Numbers.{number_of as number_in}
 
 -- a value, and then what follows from it
 infixl 10 ◌>>=◌
@@ -36,11 +36,9 @@ words_from (suc place) words = words_from place (later_words words)
 abbrev pub word_at : ℕ → List (List ℕ) → Option (List ℕ)
 word_at place words = first_word (words_from place words)
 
--- the number below 2^64 that is written so, if one is: decimal digits, the first of them no zero where others follow
-unfoldable pub number_of : List ℕ → Option ℕ
-number_of word =
-    let number = digits_value 10 word in
-    if nat_lt number (2 ^ 64) && bytes_eq word (decimal number) then Some number else None
+-- the number below 2^64 that a word says, if it says one
+abbrev pub number_of : List ℕ → Option ℕ
+number_of word = number_in 64 word
 
 abbrev pub number_at : ℕ → List (List ℕ) → Option ℕ
 number_at place words = word_at place words >>= number_of

@@ -7,6 +7,7 @@ use Rattle.hy_commands.specs.declared.command.Who.TheVariants as who
 use Rattle.hy_events.specs.declared.event.Event.TheVariants as events
 use Rattle.hy_events.specs.Events.{event_of}
 use Rattle.hy_events.specs.Lines.{lines, numbered}
+use Rattle.hy_decimal.specs.Numbers.{number_of as number_in}
 use Rattle.hy_events.specs.Words.{number_of, words}
 
 -- ---- words and numbers
@@ -19,14 +20,14 @@ words_around_spaces = refl
 
 numbers : map number_of (codes "0" ∷ codes "10" ∷ codes "18446744073709551615" ∷ [])
     ≡ Some 0 ∷ Some 10 ∷ Some 18_446_744_073_709_551_615 ∷ []
-unfolding number_of digits
+unfolding number_in digits
 numbers = refl
 
 -- nothing, a leading zero, signs, another byte, and 2^64
 no_numbers : map number_of
     ([] ∷ codes "01" ∷ codes "00" ∷ codes "+5" ∷ codes "-1" ∷ codes "5a" ∷ codes "18446744073709551616" ∷ [])
     ≡ replicate 7 None
-unfolding number_of digits
+unfolding number_in digits
 no_numbers = refl
 
 -- ---- commands
@@ -41,7 +42,7 @@ new_order : event_of (codes "neworder 1 2 3 4 5:6:7 8:9:10")
           record { item = 5; supply_warehouse = 6; quantity = 7 }
           ∷ record { item = 8; supply_warehouse = 9; quantity = 10 } ∷ [];
     })))
-unfolding number_of digits
+unfolding number_in digits
 new_order = refl
 
 payment_by_number : event_of (codes "payment 1 2 3 4 5 600 7")
@@ -54,7 +55,7 @@ payment_by_number : event_of (codes "payment 1 2 3 4 5 600 7")
       amount = 600;
       at = 7;
     })))
-unfolding number_of digits
+unfolding number_in digits
 payment_by_number = refl
 
 payment_by_name : event_of (codes "payment 1 2 3 4 =BARBARBAR 600 7")
@@ -67,12 +68,12 @@ payment_by_name : event_of (codes "payment 1 2 3 4 =BARBARBAR 600 7")
       amount = 600;
       at = 7;
     })))
-unfolding number_of digits
+unfolding number_in digits
 payment_by_name = refl
 
 order_status : event_of (codes "orderstatus 1 2 3")
     ≡ Some (events.Run (commands.OrderStatus (record { warehouse = 1; district = 2; who = who.Number 3 })))
-unfolding number_of digits
+unfolding number_in digits
 order_status = refl
 
 -- a name may be empty, and may have any byte but a space
@@ -83,22 +84,22 @@ odd_names : map event_of (codes "orderstatus 1 2 =" ∷ (codes "orderstatus 1 2 
       district = 2;
       who = who.Last (codes "=01" ++ 255 ∷ []);
     }))) ∷ []
-unfolding number_of digits
+unfolding number_in digits
 odd_names = refl
 
 delivery : event_of (codes "delivery 1 2 3")
     ≡ Some (events.Run (commands.Delivery (record { warehouse = 1; carrier = 2; at = 3 })))
-unfolding number_of digits
+unfolding number_in digits
 delivery = refl
 
 stock_level : event_of (codes "stocklevel 1 2 15")
     ≡ Some (events.Run (commands.StockLevel (record { warehouse = 1; district = 2; threshold = 15 })))
-unfolding number_of digits
+unfolding number_in digits
 stock_level = refl
 
 begun : event_of (codes "begin delivery 1 2 3")
     ≡ Some (events.Begin (commands.Delivery (record { warehouse = 1; carrier = 2; at = 3 })))
-unfolding number_of digits
+unfolding number_in digits
 begun = refl
 
 -- ---- other events
@@ -107,7 +108,7 @@ numbered_events : map event_of
     (codes "step 1" ∷ codes "done 2" ∷ codes "touched 3" ∷ codes "free 4" ∷ codes "shared 5" ∷ codes "limit 6 7" ∷ [])
     ≡ Some (events.Step 1) ∷ Some (events.Done 2) ∷ Some (events.Touched 3) ∷ Some (events.Free 4)
     ∷ Some (events.Shared 5) ∷ Some (events.Limit 6 7) ∷ []
-unfolding number_of digits
+unfolding number_in digits
 numbered_events = refl
 
 abbrev named_events : map event_of (codes "fork a" ∷ codes "fork from" ∷ codes "close x=1" ∷ [])
@@ -120,7 +121,7 @@ named_events = refl
 spaces : map event_of
     (codes " " ∷ codes " step 1" ∷ codes "step 1 " ∷ codes "step  1" ∷ codes "step\t1" ∷ codes "step 1\r" ∷ [])
     ≡ replicate 6 None
-unfolding number_of digits
+unfolding number_in digits
 spaces = refl
 
 -- a word too few
@@ -128,7 +129,7 @@ short_lines : map event_of
     (codes "step" ∷ codes "begin" ∷ codes "fork" ∷ codes "limit 1" ∷ codes "delivery 1 2" ∷ codes "stocklevel 1 2"
     ∷ codes "orderstatus 1 2" ∷ codes "payment 1 2 3 4 5 600" ∷ codes "neworder 1 2 3 4" ∷ [])
     ≡ replicate 9 None
-unfolding number_of digits
+unfolding number_in digits
 short_lines = refl
 
 -- a word too many
@@ -137,7 +138,7 @@ long_lines : map event_of
     ∷ codes "delivery 1 2 3 4" ∷ codes "stocklevel 1 2 15 4" ∷ codes "orderstatus 1 2 3 4"
     ∷ codes "payment 1 2 3 4 5 600 7 8" ∷ codes "neworder 1 2 3 4 5:6:7 8" ∷ [])
     ≡ replicate 10 None
-unfolding number_of digits
+unfolding number_in digits
 long_lines = refl
 
 -- an unknown word, capitals, what can't be begun, an empty name, a number that is none
@@ -146,7 +147,7 @@ odd_lines : map event_of
     ∷ codes "step 18446744073709551616" ∷ codes "orderstatus 1 2 BAR" ∷ codes "neworder 1 2 3 4 5:6"
     ∷ codes "neworder 1 2 3 4 5:6:7:8" ∷ codes "neworder 1 2 3 4 5::7" ∷ [])
     ≡ replicate 10 None
-unfolding number_of digits
+unfolding number_in digits
 odd_lines = refl
 
 -- ---- lines of a file

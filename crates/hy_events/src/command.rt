@@ -5,11 +5,12 @@ ghost use Rattle.hy_events.specs.Words.{later_words};
 ghost use Rattle.hy_events.specs.Events.{command_of, delivery_of, each_line, is_by_name, line_of, lines_of, order_status_of, payment_of, purchase_of, stock_level_of, takes_memory, who_at, who_of};
 ghost use Rattle.hy_events.specs.inside.Who.{who_written};
 
-use crate::parts::{Parts, number};
+use crate::parts::Parts;
 use hy_commands::{
     Command, Delivery, Name, OrderStatus, Payment, Purchase, PurchaseLine, PurchaseLines,
     StockLevel, Who,
 };
+use hy_decimal::number;
 use std::alloc::{AllocError, Global};
 
 /// A customer as a word says it: a number, or a last name, which is a part of the word.

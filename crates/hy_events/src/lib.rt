@@ -8,6 +8,6 @@ mod parts;
 mod reply;
 
 pub use event::{Event, EventFault, SnapshotName, read_event};
-pub use lines::{Line, Lines};
+pub use lines::{Lines, ScriptLine};
 pub use parts::Parts;
 pub use reply::write_reply;

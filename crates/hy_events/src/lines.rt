@@ -9,7 +9,7 @@ use std::marker::Model;
 
 /// A line of a file.
 #[derive(Clone, Copy, Debug)]
-pub struct Line<'a> {
+pub struct ScriptLine<'a> {
     /// Its number, counted from 1.
     pub number: u64,
     /// Its bytes, without the line feed at its end.
@@ -47,19 +47,19 @@ impl<'a> Lines<'a> {
 }
 
 impl<'a> Iterator for Lines<'a> {
-    type Item = Line<'a>;
+    type Item = ScriptLine<'a>;
 
     ghost next_gives = { YieldsFirstBy (λ line. (line.number, line.bytes.now)) (λ lines. lines) };
 
     ghost remaining = { item_count (λ lines. lines) };
 
-    fn next(&mut self) -> Option<Line<'a>> {
+    fn next(&mut self) -> Option<ScriptLine<'a>> {
         let bytes = self.parts.take_part()?;
         if bytes.is_empty() && !self.parts.has_more() {
             return None;
         }
         let number = self.number;
         self.number += 1;
-        Some(Line { number, bytes })
+        Some(ScriptLine { number, bytes })
     }
 }

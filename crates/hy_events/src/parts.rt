@@ -2,8 +2,9 @@
 
 ghost use Rattle.std.specs.Prelude.{◌≡◌, ◌==◌, is_some, option_map};
 ghost use Rattle.std.specs.List.{position_or_len};
-ghost use Rattle.hy_events.specs.Words.{first_word, later_words, number_at, number_of, parts};
+ghost use Rattle.hy_events.specs.Words.{first_word, later_words, number_at, parts};
 
+use hy_decimal::number;
 use std::marker::Model;
 
 /// The parts of a line that are still to come, in their order.
@@ -72,21 +73,4 @@ fn first_end(line: &[u8], separator: u8) -> usize
     line.iter()
         .position(|byte| *byte == separator)
         .unwrap_or(line.len())
-}
-
-/// The number that is written so: digits, the first of them no zero where others follow.
-pub fn number(word: &[u8]) -> Option<u64>
-    ensures { result ≡ number_of word.now }
-{
-    if word.is_empty() || (word.len() > 1 && word[0] == b'0') {
-        return None;
-    }
-    let mut number: u64 = 0;
-    for byte in word {
-        if !byte.is_ascii_digit() {
-            return None;
-        }
-        number = number.checked_mul(10)?.checked_add((*byte - b'0').into())?;
-    }
-    Some(number)
 }

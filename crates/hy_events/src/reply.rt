@@ -1,18 +1,20 @@
 //! The lines that stand for replies.
 
-ghost use Rattle.std.specs.Prelude.{◌≡◌, ◌++◌, List, ℕ, OnOk, codes, decimal};
+ghost use Rattle.std.specs.Prelude.{◌≡◌, ◌++◌, IsTrue, List, ℕ, OnErr, OnOk, codes, decimal};
 ghost use Rattle.std.specs.Fmt.{signed_decimal};
 ghost use Rattle.std.specs.List.{flat_map};
 ghost use Rattle.std.specs.Io.KnownBytes.{Appends};
 ghost use Rattle.hy_events.specs.Replies.{customer_text, line_text, order_text, reply_text};
 
 use hy_commands::{PlacedOrder, Reply};
+use hy_output::Output;
 use hy_rows::{OrderLine, Text};
 use std::io;
 
-/// Writes the line or lines that stand for a reply. Fails as the writer does.
-pub fn write_reply<O: io::Write>(out: &mut O, reply: &Reply) -> io::Result<()>
-    ensures { OnOk result (Appends (O.contents out.old) (O.contents out.new) (reply_text reply.now)) }
+/// Writes the line or lines that stand for a reply. Fails as the output does.
+pub fn write_reply<O: Output>(out: &mut O, reply: &Reply) -> io::Result<()>
+    ensures written { OnOk result (Appends (O.contents out.old) (O.contents out.new) (reply_text reply.now)) }
+    ensures failed { OnErr result (IsTrue (O.has_failed out.new)) }
 {
     match reply {
         Reply::NewOrder { order, total } => writeln!(out, "order {order} total {total}"),
@@ -36,31 +38,34 @@ pub fn write_reply<O: io::Write>(out: &mut O, reply: &Reply) -> io::Result<()>
 }
 
 /// Writes the number of the customer who paid, and the balance.
-fn write_paid<O: io::Write>(out: &mut O, customer: u16, balance: i64) -> io::Result<()>
-    ensures { OnOk result (Appends (O.contents out.old) (O.contents out.new)
+fn write_paid<O: Output>(out: &mut O, customer: u16, balance: i64) -> io::Result<()>
+    ensures written { OnOk result (Appends (O.contents out.old) (O.contents out.new)
         (codes "paid customer " ++ decimal customer ++ codes " balance " ++ signed_decimal balance ++ codes "\n")) }
+    ensures failed { OnErr result (IsTrue (O.has_failed out.new)) }
 {
     writeln!(out, "paid customer {customer} balance {balance}")
 }
 
 /// Writes the balance of a customer behind the names.
-fn write_balance<O: io::Write>(out: &mut O, balance: i64) -> io::Result<()>
-    ensures { OnOk result (Appends (O.contents out.old) (O.contents out.new)
+fn write_balance<O: Output>(out: &mut O, balance: i64) -> io::Result<()>
+    ensures written { OnOk result (Appends (O.contents out.old) (O.contents out.new)
         (codes " balance " ++ signed_decimal balance ++ codes "\n")) }
+    ensures failed { OnErr result (IsTrue (O.has_failed out.new)) }
 {
     writeln!(out, " balance {balance}")
 }
 
 /// Writes the number and the names of a customer.
-fn write_customer<O: io::Write>(
+fn write_customer<O: Output>(
     out: &mut O,
     customer: u16,
     first: &Text<16>,
     middle: &Text<2>,
     last: &Text<16>,
 ) -> io::Result<()>
-    ensures { OnOk result (Appends (O.contents out.old) (O.contents out.new)
+    ensures written { OnOk result (Appends (O.contents out.old) (O.contents out.new)
         (customer_text customer first.now middle.now last.now)) }
+    ensures failed { OnErr result (IsTrue (O.has_failed out.new)) }
 {
     write!(out, "status customer {customer} ")?;
     out.write_all(first.as_bytes())?;
@@ -71,8 +76,9 @@ fn write_customer<O: io::Write>(
 }
 
 /// Writes an order and its lines, or that there is none.
-fn write_order<O: io::Write>(out: &mut O, order: &Option<PlacedOrder>) -> io::Result<()>
-    ensures { OnOk result (Appends (O.contents out.old) (O.contents out.new) (order_text order.now)) }
+fn write_order<O: Output>(out: &mut O, order: &Option<PlacedOrder>) -> io::Result<()>
+    ensures written { OnOk result (Appends (O.contents out.old) (O.contents out.new) (order_text order.now)) }
+    ensures failed { OnErr result (IsTrue (O.has_failed out.new)) }
 {
     let Some(order) = order else {
         return out.write_all(b"no order\n");
@@ -85,8 +91,9 @@ fn write_order<O: io::Write>(out: &mut O, order: &Option<PlacedOrder>) -> io::Re
 }
 
 /// Writes the lines of an order.
-fn write_lines<O: io::Write>(out: &mut O, lines: &[OrderLine]) -> io::Result<()>
-    ensures { OnOk result (Appends (O.contents out.old) (O.contents out.new) (flat_map line_text lines.now)) }
+fn write_lines<O: Output>(out: &mut O, lines: &[OrderLine]) -> io::Result<()>
+    ensures written { OnOk result (Appends (O.contents out.old) (O.contents out.new) (flat_map line_text lines.now)) }
+    ensures failed { OnErr result (IsTrue (O.has_failed out.new)) }
 {
     for line in lines {
         write_line(out, line)?;
@@ -95,8 +102,9 @@ fn write_lines<O: io::Write>(out: &mut O, lines: &[OrderLine]) -> io::Result<()>
 }
 
 /// Writes a line of an order.
-fn write_line<O: io::Write>(out: &mut O, line: &OrderLine) -> io::Result<()>
-    ensures { OnOk result (Appends (O.contents out.old) (O.contents out.new) (line_text line.now)) }
+fn write_line<O: Output>(out: &mut O, line: &OrderLine) -> io::Result<()>
+    ensures written { OnOk result (Appends (O.contents out.old) (O.contents out.new) (line_text line.now)) }
+    ensures failed { OnErr result (IsTrue (O.has_failed out.new)) }
 {
     let number = line.number;
     let item = line.item;
@@ -112,9 +120,10 @@ fn write_line<O: io::Write>(out: &mut O, line: &OrderLine) -> io::Result<()>
 }
 
 /// Writes the orders of a delivery.
-fn write_delivered<O: io::Write>(out: &mut O, orders: &[u32]) -> io::Result<()>
-    ensures { OnOk result (Appends (O.contents out.old) (O.contents out.new)
+fn write_delivered<O: Output>(out: &mut O, orders: &[u32]) -> io::Result<()>
+    ensures written { OnOk result (Appends (O.contents out.old) (O.contents out.new)
         (codes "delivered" ++ flat_map (λ order. codes " " ++ decimal order) orders.now ++ codes "\n")) }
+    ensures failed { OnErr result (IsTrue (O.has_failed out.new)) }
 {
     out.write_all(b"delivered")?;
     for order in orders {

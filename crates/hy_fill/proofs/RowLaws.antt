@@ -5,6 +5,7 @@ use Rattle.std.proofs.lemmas.List.Elements.{filter-append}
 use Rattle.hy_rows.specs.declared.new_order.NewOrder.{NewOrder}
 use Rattle.hy_rows.specs.Tables.{Tables}
 use Rattle.hy_store.specs.Stored.{Stored}
+use Rattle.hy_fill.specs.inside.Filling.{with_more, with_new_orders}
 
 -- of one row more, those that pass
 pub passed-more : {Row : Type 0} (keep : Row → Bool) (rows : List Row) (index : ℕ) (row other : Row)
@@ -20,13 +21,12 @@ pub pushed-more : {Row : Type 0} (rows_in : Tables → List Row) (with_rows : Ta
     → ((tables : Tables) (rows : List Row) → rows_in (with_rows tables rows) ≡ rows)
     → ((tables : Tables) (rows others : List Row) → with_rows (with_rows tables rows) others ≡ with_rows tables others)
     → (s one other : Stored) (rows more : List Row)
-    → one ≡ record s { tables = with_rows s.tables (rows_in s.tables ++ rows) }
-    → other ≡ record one { tables = with_rows one.tables (rows_in one.tables ++ more) }
-    → other ≡ record s { tables = with_rows s.tables (rows_in s.tables ++ (rows ++ more)) }
+    → one ≡ with_more rows_in with_rows rows s → other ≡ with_more rows_in with_rows more one
+    → other ≡ with_more rows_in with_rows (rows ++ more) s
 pushed-more {Row = Row} rows_in with_rows own last s one other rows more first second =
     let before : List Row = rows_in s.tables in
     second
-    ∙ ap (λ (x : Stored). record x { tables = with_rows x.tables (rows_in x.tables ++ more) }) first
+    ∙ ap (with_more rows_in with_rows more) first
     ∙ ap (λ (tables : Tables). record s { tables = tables })
     (last s.tables (before ++ rows) (rows_in (with_rows s.tables (before ++ rows)) ++ more)
     ∙ ap (with_rows s.tables) (ap (λ (all : List Row). all ++ more) (own s.tables (before ++ rows))
@@ -34,24 +34,10 @@ pushed-more {Row = Row} rows_in with_rows own last s one other rows more first s
 
 -- the same in NEW-ORDER, with its slots
 pub new_orders-more : (s one other : Stored) (rows more : List NewOrder)
-    → one ≡ record s {
-      tables = record s.tables { new_orders = s.tables.new_orders ++ rows };
-      new_order_slots = s.new_order_slots ++ map Some rows;
-    }
-    → other ≡ record one {
-      tables = record one.tables { new_orders = one.tables.new_orders ++ more };
-      new_order_slots = one.new_order_slots ++ map Some more;
-    }
-    → other ≡ record s {
-      tables = record s.tables { new_orders = s.tables.new_orders ++ (rows ++ more) };
-      new_order_slots = s.new_order_slots ++ map Some (rows ++ more);
-    }
+    → one ≡ with_new_orders rows s → other ≡ with_new_orders more one → other ≡ with_new_orders (rows ++ more) s
 new_orders-more s one other rows more first second =
     second
-    ∙ ap (λ (x : Stored). record x {
-      tables = record x.tables { new_orders = x.tables.new_orders ++ more };
-      new_order_slots = x.new_order_slots ++ map Some more;
-    }) first
+    ∙ ap (with_new_orders more) first
     ∙ ap₂ (λ all slots. record s { tables = record s.tables { new_orders = all }; new_order_slots = slots })
     (append_assoc s.tables.new_orders rows more)
     (append_assoc s.new_order_slots (map Some rows) (map Some more)

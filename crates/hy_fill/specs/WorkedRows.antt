@@ -1,11 +1,10 @@
--- Indexes over the orders of a small load, which the checker computes.
-use Rattle.std.specs.Prelude.{◌≡◌, ℕ, ◌==◌, List, [], ◌∷◌, filter, fold, refl}
+-- Indexes over the orders of a small load, and frames for some rows, which the checker computes.
+use Rattle.std.specs.Prelude.{◌≡◌, ◌==◌, List, [], ◌∷◌, filter, fold, replicate, refl}
 use Rattle.hy_rows.specs.declared.order.Order.{Order}
-use Rattle.hy_index.specs.declared.key.Entry.{Entry}
-use Rattle.hy_store.specs.declared.keys.CustomerKey.{CustomerKey}
-use Rattle.hy_store.specs.declared.keys.OrderKey.{OrderKey}
+use Rattle.hy_rows.specs.Tables.{no_rows}
 use Rattle.hy_indexes.specs.Indexes.{order_key_at}
 use Rattle.hy_indexes.specs.WorkedIndexes.{of_customer, of_order, order}
+use Rattle.hy_fill.specs.Frames.{frames_for}
 use Rattle.hy_fill.specs.inside.Filling.{with_row}
 use Rattle.hy_fill.specs.inside.LastOrders.{with_order}
 
@@ -31,3 +30,16 @@ last_backward : fold (λ entries entry. with_order own entry entries) []
     (of_customer 3 31 3 ∷ of_customer 2 30 2 ∷ of_customer 2 30 1 ∷ of_customer 2 30 0 ∷ [])
     ≡ of_customer 2 30 1 ∷ of_customer 3 31 3 ∷ []
 last_backward = refl
+
+-- ---- frames
+
+-- 100 orders: with pages of 256 bytes twelve rows of ORDER fit a page, 19 entries of their index and 23 of last orders.
+-- So there are 8 + 2 pages of rows, 5 + 2 and 4 + 2 of entries, and two for each of nine other segments
+of_orders : frames_for 256 (record no_rows { orders = replicate 100 (order 1 2 7 30) }) ≡ 41
+unfolding frames_for
+of_orders = refl
+
+-- without rows two pages a segment
+of_none : frames_for 256 no_rows ≡ 24
+unfolding frames_for
+of_none = refl

@@ -1,11 +1,14 @@
 //! The entries of an index, from the rows of a load.
 
-ghost use Rattle.std.specs.Prelude.{◌≡◌, [], IfOk, OnOk, filter, slice_get};
+ghost use Rattle.std.specs.Prelude.{◌≡◌, ◌+◌, [], IfOk, OnOk, IsErrOf, filter, length, slice_get};
+ghost use Rattle.hy_frames.specs.FrameTable.{free_of};
+ghost use Rattle.hy_undo.specs.PrivatePages.{IsUndoLog};
 ghost use Rattle.hy_index.specs.Index.{with_entry};
-ghost use Rattle.hy_store.specs.Writes.{stored_in};
+ghost use Rattle.hy_store.specs.Pages.{KeepsPagesUpTo};
+ghost use Rattle.hy_store.specs.Writes.{ChangesStore, IsWritableStore, stored_in};
 ghost use Rattle.hy_layout.specs.Finds.{IsOrder};
 ghost use Rattle.hy_indexes.specs.Finds.{IsIndexOf};
-ghost use Rattle.hy_fill.specs.inside.Filling.{HasOneSlotEach, HasSameEntries, IsReady, StaysOpen, TellsApart, with_row};
+ghost use Rattle.hy_fill.specs.inside.Filling.{HasOneSlotEach, HasSameEntries, StaysOpen, TellsApart, with_row};
 
 use crate::keys::{Filled, Keyed};
 use hy_frames::Shortage;
@@ -23,16 +26,19 @@ pub(crate) fn fill_index<K: Filled, R: Keyed<K>, const N: usize>(
     rows: &[R],
     warehouse: u8,
 ) -> Result<(), Shortage>
-    requires ready { IsReady N space.old undo.old }
+    requires writable { IsWritableStore N space.old undo.old }
     requires order { IsOrder K.is_less }
     requires empty { K.entries_in (stored_in N space.old) ≡ [] }
     requires apart { TellsApart R.key_of (slice_get (filter (R.is_of warehouse) rows.now)) }
-    ensures ready { OnOk result (IsReady N space.new undo.new) }
     ensures index { OnOk result (IsIndexOf R.key_of (slice_get (filter (R.is_of warehouse) rows.now))
         (K.entries_in (stored_in N space.new))) }
-    ensures only { OnOk result (stored_in N space.new
-        ≡ K.with_entries (stored_in N space.old) (K.entries_in (stored_in N space.new))) }
-    ensures stays { OnOk result (StaysOpen space.old space.new) }
+    ensures only { OnOk result (ChangesStore N space.old space.new
+        (λ old. K.with_entries old (K.entries_in (stored_in N space.new)))) }
+    ensures undo_log { OnOk result (IsUndoLog N space.new undo.new) }
+    ensures stays { StaysOpen space.old space.new }
+    ensures pages { KeepsPagesUpTo N K.SEGMENT (length (filter (R.is_of warehouse) rows.now))
+        space.old space.new }
+    ensures no_frame { IsErrOf result Shortage.NoFrame → free_of space.new.frames ≡ 0 }
 {
     let entries = entries_of(alloc, rows, warehouse)?;
     insert_entries(space, undo, entries.as_slice())
@@ -44,8 +50,10 @@ pub(crate) fn entries_of<K: Filled, R: Keyed<K>>(
     rows: &[R],
     warehouse: u8,
 ) -> Result<Vec<Entry<K>>, AllocError>
-    ensures { IfOk result (λ entries. IsIndexOf R.key_of
+    ensures index { IfOk result (λ entries. IsIndexOf R.key_of
         (slice_get (filter (R.is_of warehouse) rows.now)) entries.items) }
+    ensures count { IfOk result (λ entries. length entries.items
+        ≡ length (filter (R.is_of warehouse) rows.now)) }
 {
     let mut entries = unsorted_entries(alloc, rows, warehouse)?;
     entries.sort_unstable_by(|one, other| one.key.compare(&other.key));
@@ -58,8 +66,10 @@ fn unsorted_entries<K: Filled, R: Keyed<K>>(
     rows: &[R],
     warehouse: u8,
 ) -> Result<Vec<Entry<K>>, AllocError>
-    ensures { IfOk result (λ entries. IsIndexOf R.key_of
+    ensures index { IfOk result (λ entries. IsIndexOf R.key_of
         (slice_get (filter (R.is_of warehouse) rows.now)) entries.items) }
+    ensures count { IfOk result (λ entries. length entries.items
+        ≡ length (filter (R.is_of warehouse) rows.now)) }
 {
     let mut entries = Vec::new(alloc);
     for row in rows {
@@ -94,15 +104,18 @@ fn insert_entries<K: Filled, const N: usize>(
     undo: &mut Undo<N>,
     entries: &[Entry<K>],
 ) -> Result<(), Shortage>
-    requires ready { IsReady N space.old undo.old }
+    requires writable { IsWritableStore N space.old undo.old }
     requires order { IsOrder K.is_less }
     requires empty { K.entries_in (stored_in N space.old) ≡ [] }
     requires apart { HasOneSlotEach entries.now }
-    ensures ready { OnOk result (IsReady N space.new undo.new) }
     ensures same { OnOk result (HasSameEntries entries.now (K.entries_in (stored_in N space.new))) }
-    ensures only { OnOk result (stored_in N space.new
-        ≡ K.with_entries (stored_in N space.old) (K.entries_in (stored_in N space.new))) }
-    ensures stays { OnOk result (StaysOpen space.old space.new) }
+    ensures only { OnOk result (ChangesStore N space.old space.new
+        (λ old. K.with_entries old (K.entries_in (stored_in N space.new)))) }
+    ensures undo_log { OnOk result (IsUndoLog N space.new undo.new) }
+    ensures stays { StaysOpen space.old space.new }
+    ensures pages { KeepsPagesUpTo N K.SEGMENT (length entries.now)
+        space.old space.new }
+    ensures no_frame { IsErrOf result Shortage.NoFrame → free_of space.new.frames ≡ 0 }
 {
     for entry in entries {
         insert_lasting(space, undo, entry)?;
@@ -116,11 +129,14 @@ pub(crate) fn insert_lasting<K: Filled, const N: usize>(
     undo: &mut Undo<N>,
     entry: &Entry<K>,
 ) -> Result<(), Shortage>
-    requires ready { IsReady N space.old undo.old }
-    ensures ready { OnOk result (IsReady N space.new undo.new) }
-    ensures inserted { OnOk result (stored_in N space.new ≡ K.with_entries (stored_in N space.old)
-        (with_entry K.is_less entry.now.key entry.now.slot (K.entries_in (stored_in N space.old)))) }
-    ensures stays { OnOk result (StaysOpen space.old space.new) }
+    requires { IsWritableStore N space.old undo.old }
+    ensures inserted { OnOk result (ChangesStore N space.old space.new
+        (λ old. K.with_entries old (with_entry K.is_less entry.now.key entry.now.slot (K.entries_in old)))) }
+    ensures undo_log { OnOk result (IsUndoLog N space.new undo.new) }
+    ensures stays { StaysOpen space.old space.new }
+    ensures pages { KeepsPagesUpTo N K.SEGMENT (length (K.entries_in (stored_in N space.old)) + 1)
+        space.old space.new }
+    ensures no_frame { IsErrOf result Shortage.NoFrame → free_of space.new.frames ≡ 0 }
 {
     insert_entry(space, undo, &entry.key, entry.slot)?;
     undo.commit(space);

@@ -1,13 +1,14 @@
 //! The pages that a warehouse begins with.
 
-ghost use Rattle.std.specs.Prelude.{◌≡◌, ◌≤◌, [], IfOk, OnOk, slice_get};
-ghost use Rattle.hy_frames.specs.FrameTable.{IsPageSize, max_frames as most_frames};
+ghost use Rattle.std.specs.Prelude.{◌≡◌, ◌≤◌, [], IfOk, OnOk, IsErrOf, slice_get};
+ghost use Rattle.hy_frames.specs.FrameTable.{IsPageSize, free_of, max_frames as most_frames};
 ghost use Rattle.hy_space.specs.Space.{owner_bytes};
 ghost use Rattle.hy_layout.specs.Layout.{own_rows};
 ghost use Rattle.hy_store.specs.Stored.{HasStore, nothing_stored};
-ghost use Rattle.hy_store.specs.Writes.{stored_in};
+ghost use Rattle.hy_store.specs.Writes.{IsWritableStore, stored_in};
 ghost use Rattle.hy_indexes.specs.Indexes.{HasIndexes, line_key_at, order_key_at, waiting_key_at};
-ghost use Rattle.hy_fill.specs.inside.Filling.{IsReady, StaysOpen, TellsApart, without_indexes};
+ghost use Rattle.hy_fill.specs.Frames.{frames_for};
+ghost use Rattle.hy_fill.specs.inside.Filling.{StaysOpen, StaysWithin, TellsApart, without_indexes};
 
 use crate::entries::fill_index;
 use crate::last_orders::fill_last_orders;
@@ -22,7 +23,8 @@ use hy_undo::Undo;
 use std::alloc::Global;
 
 /// Pages with the loaded rows of a warehouse and their entries in the indexes. Takes n log n time for n rows, however
-/// the load orders them. E2 where `max_frames` is too small for the rows.
+/// the load orders them. `NoFrame` only where `max_frames` is no more than the frames that the rows and their entries
+/// take at most.
 pub fn filled_store<const N: usize>(
     alloc: Global,
     layout: &Layout,
@@ -36,12 +38,34 @@ pub fn filled_store<const N: usize>(
     ensures indexes { IfOk result (λ space. HasIndexes (stored_in N space)) }
     ensures children { IfOk result (λ space. space.children ≡ []) }
     ensures limit { IfOk result (λ space. space.frames.max ≡ max_frames) }
+    ensures no_frame { IsErrOf result Shortage.NoFrame → max_frames ≤ frames_for N (own_rows layout.now) }
 {
     let mut space = empty_store(alloc, max_frames)?;
     let mut undo = Undo::new(alloc, &space)?;
-    fill_rows(&mut space, &mut undo, layout)?;
-    fill_indexes(alloc, &mut space, &mut undo, layout)?;
+    let filled = fill(alloc, &mut space, &mut undo, layout);
+    space.sound();
+    filled?;
     Ok(space)
+}
+
+/// Gives an empty store the rows of a warehouse and its indexes.
+fn fill<const N: usize>(
+    alloc: Global,
+    space: &mut Space<N>,
+    undo: &mut Undo<N>,
+    layout: &Layout,
+) -> Result<(), Shortage>
+    requires writable { IsWritableStore N space.old undo.old }
+    requires empty { stored_in N space.old ≡ nothing_stored }
+    ensures store { OnOk result (HasStore N (owner_bytes space.new)) }
+    ensures rows { OnOk result ((stored_in N space.new).tables ≡ own_rows layout.now) }
+    ensures indexes { OnOk result (HasIndexes (stored_in N space.new)) }
+    ensures stays { StaysOpen space.old space.new }
+    ensures pages { StaysWithin N (own_rows layout.now) space.old space.new }
+    ensures no_frame { IsErrOf result Shortage.NoFrame → free_of space.new.frames ≡ 0 }
+{
+    fill_rows(space, undo, layout)?;
+    fill_indexes(alloc, space, undo, layout)
 }
 
 /// Gives an empty store the rows of a warehouse.
@@ -50,11 +74,13 @@ fn fill_rows<const N: usize>(
     undo: &mut Undo<N>,
     layout: &Layout,
 ) -> Result<(), Shortage>
-    requires ready { IsReady N space.old undo.old }
+    requires writable { IsWritableStore N space.old undo.old }
     requires empty { stored_in N space.old ≡ nothing_stored }
-    ensures ready { OnOk result (IsReady N space.new undo.new) }
+    ensures writable { OnOk result (IsWritableStore N space.new undo.new) }
     ensures rows { OnOk result (stored_in N space.new ≡ without_indexes (own_rows layout.now)) }
-    ensures stays { OnOk result (StaysOpen space.old space.new) }
+    ensures stays { StaysOpen space.old space.new }
+    ensures pages { StaysWithin N (own_rows layout.now) space.old space.new }
+    ensures no_frame { IsErrOf result Shortage.NoFrame → free_of space.new.frames ≡ 0 }
 {
     let warehouse = layout.warehouse();
     let tables = layout.load().tables();
@@ -76,12 +102,14 @@ fn fill_indexes<const N: usize>(
     undo: &mut Undo<N>,
     layout: &Layout,
 ) -> Result<(), Shortage>
-    requires ready { IsReady N space.old undo.old }
+    requires writable { IsWritableStore N space.old undo.old }
     requires rows { stored_in N space.old ≡ without_indexes (own_rows layout.now) }
-    ensures ready { OnOk result (IsReady N space.new undo.new) }
+    ensures store { OnOk result (HasStore N (owner_bytes space.new)) }
     ensures rows { OnOk result ((stored_in N space.new).tables ≡ own_rows layout.now) }
     ensures indexes { OnOk result (HasIndexes (stored_in N space.new)) }
-    ensures stays { OnOk result (StaysOpen space.old space.new) }
+    ensures stays { StaysOpen space.old space.new }
+    ensures pages { StaysWithin N (own_rows layout.now) space.old space.new }
+    ensures no_frame { IsErrOf result Shortage.NoFrame → free_of space.new.frames ≡ 0 }
 {
     know_keys(layout);
     let warehouse = layout.warehouse();

@@ -1,15 +1,18 @@
 //! The last order of each customer.
 
-ghost use Rattle.std.specs.Prelude.{◌≡◌, ◌==◌, ℕ, ◌<◌, [], Some, OnOk, length, slice_get, filter};
+ghost use Rattle.std.specs.Prelude.{◌≡◌, ◌==◌, ℕ, ◌+◌, ◌<◌, [], Some, OnOk, IsErrOf, length, slice_get, filter};
+ghost use Rattle.hy_frames.specs.FrameTable.{free_of};
 ghost use Rattle.hy_index.specs.Index.{found};
 ghost use Rattle.hy_space.specs.Space.{owner_bytes};
 ghost use Rattle.hy_store.specs.Keys.{is_lesser_customer};
-ghost use Rattle.hy_store.specs.Stored.{HasStore};
-ghost use Rattle.hy_store.specs.Writes.{stored_in};
+ghost use Rattle.hy_undo.specs.PrivatePages.{IsUndoLog};
+ghost use Rattle.hy_store.specs.Pages.{KeepsPagesUpTo};
+ghost use Rattle.hy_store.specs.Stored.{HasStore, last_order_index};
+ghost use Rattle.hy_store.specs.Writes.{ChangesStore, IsWritableStore, stored_in};
 ghost use Rattle.hy_indexes.specs.Finds.{IsIndexOf};
 ghost use Rattle.hy_indexes.specs.Indexes.{AreLastOrders, buyer_key_at};
-ghost use Rattle.hy_fill.specs.inside.Filling.{IsReady, StaysOpen};
-ghost use Rattle.hy_fill.specs.inside.LastOrders.{is_later, with_order};
+ghost use Rattle.hy_fill.specs.inside.Filling.{StaysOpen};
+ghost use Rattle.hy_fill.specs.inside.LastOrders.{is_later, with_last_order};
 
 use crate::entries::{entries_of, insert_lasting};
 use hy_frames::Shortage;
@@ -29,17 +32,19 @@ pub(crate) fn fill_last_orders<const N: usize>(
     orders: &[Order],
     warehouse: u8,
 ) -> Result<(), Shortage>
-    requires ready { IsReady N space.old undo.old }
+    requires writable { IsWritableStore N space.old undo.old }
     requires orders { (stored_in N space.old).tables.orders
         ≡ filter (λ row. row.warehouse == warehouse) orders.now }
     requires empty { (stored_in N space.old).last_orders ≡ [] }
-    ensures ready { OnOk result (IsReady N space.new undo.new) }
     ensures last_orders { OnOk result (AreLastOrders (stored_in N space.new).tables.orders
         (stored_in N space.new).last_orders) }
-    ensures only { OnOk result (stored_in N space.new ≡ record (stored_in N space.old) {
-      last_orders = (stored_in N space.new).last_orders;
-    }) }
-    ensures stays { OnOk result (StaysOpen space.old space.new) }
+    ensures only { OnOk result (ChangesStore N space.old space.new
+        (λ old. record old { last_orders = (stored_in N space.new).last_orders })) }
+    ensures undo_log { OnOk result (IsUndoLog N space.new undo.new) }
+    ensures stays { StaysOpen space.old space.new }
+    ensures pages { KeepsPagesUpTo N last_order_index (length (stored_in N space.old).tables.orders)
+        space.old space.new }
+    ensures no_frame { IsErrOf result Shortage.NoFrame → free_of space.new.frames ≡ 0 }
 {
     let entries = entries_of::<CustomerKey, Order>(alloc, orders, warehouse)?;
     give_orders(space, undo, entries.as_slice())
@@ -51,16 +56,18 @@ fn give_orders<const N: usize>(
     undo: &mut Undo<N>,
     entries: &[Entry<CustomerKey>],
 ) -> Result<(), Shortage>
-    requires ready { IsReady N space.old undo.old }
+    requires writable { IsWritableStore N space.old undo.old }
     requires orders { IsIndexOf buyer_key_at (slice_get (stored_in N space.old).tables.orders) entries.now }
     requires empty { (stored_in N space.old).last_orders ≡ [] }
-    ensures ready { OnOk result (IsReady N space.new undo.new) }
     ensures last_orders { OnOk result (AreLastOrders (stored_in N space.new).tables.orders
         (stored_in N space.new).last_orders) }
-    ensures only { OnOk result (stored_in N space.new ≡ record (stored_in N space.old) {
-      last_orders = (stored_in N space.new).last_orders;
-    }) }
-    ensures stays { OnOk result (StaysOpen space.old space.new) }
+    ensures only { OnOk result (ChangesStore N space.old space.new
+        (λ old. record old { last_orders = (stored_in N space.new).last_orders })) }
+    ensures undo_log { OnOk result (IsUndoLog N space.new undo.new) }
+    ensures stays { StaysOpen space.old space.new }
+    ensures pages { KeepsPagesUpTo N last_order_index (length entries.now)
+        space.old space.new }
+    ensures no_frame { IsErrOf result Shortage.NoFrame → free_of space.new.frames ≡ 0 }
 {
     for entry in entries {
         give_order(space, undo, entry)?;
@@ -74,17 +81,17 @@ fn give_order<const N: usize>(
     undo: &mut Undo<N>,
     entry: &Entry<CustomerKey>,
 ) -> Result<(), Shortage>
-    requires ready { IsReady N space.old undo.old }
+    requires writable { IsWritableStore N space.old undo.old }
     requires there { entry.now.slot < length (stored_in N space.old).tables.orders }
     requires had { (slot : ℕ)
         → found is_lesser_customer entry.now.key (stored_in N space.old).last_orders ≡ Some slot
         → slot < length (stored_in N space.old).tables.orders }
-    ensures ready { OnOk result (IsReady N space.new undo.new) }
-    ensures given { OnOk result (stored_in N space.new ≡ record (stored_in N space.old) {
-      last_orders = with_order (stored_in N space.old).tables.orders entry.now
-          (stored_in N space.old).last_orders;
-    }) }
-    ensures stays { OnOk result (StaysOpen space.old space.new) }
+    ensures given { OnOk result (ChangesStore N space.old space.new (with_last_order entry.now)) }
+    ensures undo_log { OnOk result (IsUndoLog N space.new undo.new) }
+    ensures stays { StaysOpen space.old space.new }
+    ensures pages { KeepsPagesUpTo N last_order_index (length (stored_in N space.old).last_orders + 1)
+        space.old space.new }
+    ensures no_frame { IsErrOf result Shortage.NoFrame → free_of space.new.frames ≡ 0 }
 {
     if has_later(space, entry) {
         return Ok(());

@@ -1,8 +1,12 @@
 //! The rows of a warehouse, of those of a load.
 
-ghost use Rattle.std.specs.Prelude.{◌≡◌, ◌==◌, ◌++◌, ◌∷◌, [], Some, OnOk, filter, map};
-ghost use Rattle.hy_store.specs.Writes.{stored_in};
-ghost use Rattle.hy_fill.specs.inside.Filling.{IsReady, StaysOpen};
+ghost use Rattle.std.specs.Prelude.{◌≡◌, ◌==◌, ◌+◌, ◌∷◌, [], OnOk, IsErrOf, filter, length};
+ghost use Rattle.hy_frames.specs.FrameTable.{free_of};
+ghost use Rattle.hy_rows.specs.Spelling.{new_order_segment};
+ghost use Rattle.hy_undo.specs.PrivatePages.{IsUndoLog};
+ghost use Rattle.hy_store.specs.Pages.{KeepsPagesUpTo};
+ghost use Rattle.hy_store.specs.Writes.{ChangesStore, IsWritableStore, stored_in};
+ghost use Rattle.hy_fill.specs.inside.Filling.{StaysOpen, with_more, with_new_orders};
 
 use hy_frames::Shortage;
 use hy_rows::{NewOrder, Row};
@@ -17,13 +21,14 @@ pub(crate) fn push_rows<R: Lasting, const N: usize>(
     rows: &[R],
     warehouse: u8,
 ) -> Result<(), Shortage>
-    requires ready { IsReady N space.old undo.old }
-    ensures ready { OnOk result (IsReady N space.new undo.new) }
-    ensures rows { OnOk result (stored_in N space.new ≡ record (stored_in N space.old) {
-      tables = R.with_rows (stored_in N space.old).tables
-          (R.rows_in (stored_in N space.old).tables ++ filter (R.is_of warehouse) rows.now);
-    }) }
-    ensures stays { OnOk result (StaysOpen space.old space.new) }
+    requires { IsWritableStore N space.old undo.old }
+    ensures pushed { OnOk result (ChangesStore N space.old space.new
+        (with_more R.rows_in R.with_rows (filter (R.is_of warehouse) rows.now))) }
+    ensures undo_log { OnOk result (IsUndoLog N space.new undo.new) }
+    ensures stays { StaysOpen space.old space.new }
+    ensures pages { KeepsPagesUpTo N R.SEGMENT (length (R.rows_in (stored_in N space.old).tables)
+        + length (filter (R.is_of warehouse) rows.now)) space.old space.new }
+    ensures no_frame { IsErrOf result Shortage.NoFrame → free_of space.new.frames ≡ 0 }
 {
     for row in rows {
         push_own_row(space, undo, row, warehouse)?;
@@ -38,13 +43,14 @@ fn push_own_row<R: Lasting, const N: usize>(
     row: &R,
     warehouse: u8,
 ) -> Result<(), Shortage>
-    requires ready { IsReady N space.old undo.old }
-    ensures ready { OnOk result (IsReady N space.new undo.new) }
-    ensures rows { OnOk result (stored_in N space.new ≡ record (stored_in N space.old) {
-      tables = R.with_rows (stored_in N space.old).tables
-          (R.rows_in (stored_in N space.old).tables ++ filter (R.is_of warehouse) (row.now ∷ []));
-    }) }
-    ensures stays { OnOk result (StaysOpen space.old space.new) }
+    requires { IsWritableStore N space.old undo.old }
+    ensures pushed { OnOk result (ChangesStore N space.old space.new
+        (with_more R.rows_in R.with_rows (filter (R.is_of warehouse) (row.now ∷ [])))) }
+    ensures undo_log { OnOk result (IsUndoLog N space.new undo.new) }
+    ensures stays { StaysOpen space.old space.new }
+    ensures pages { KeepsPagesUpTo N R.SEGMENT (length (R.rows_in (stored_in N space.old).tables)
+        + length (filter (R.is_of warehouse) (row.now ∷ []))) space.old space.new }
+    ensures no_frame { IsErrOf result Shortage.NoFrame → free_of space.new.frames ≡ 0 }
 {
     if !row.belongs_to(warehouse) {
         return Ok(());
@@ -61,17 +67,14 @@ pub(crate) fn push_new_orders<const N: usize>(
     rows: &[NewOrder],
     warehouse: u8,
 ) -> Result<(), Shortage>
-    requires ready { IsReady N space.old undo.old }
-    ensures ready { OnOk result (IsReady N space.new undo.new) }
-    ensures rows { OnOk result (stored_in N space.new ≡ record (stored_in N space.old) {
-      tables = record (stored_in N space.old).tables {
-        new_orders = (stored_in N space.old).tables.new_orders
-            ++ filter (λ row. row.warehouse == warehouse) rows.now;
-      };
-      new_order_slots = (stored_in N space.old).new_order_slots
-          ++ map Some (filter (λ row. row.warehouse == warehouse) rows.now);
-    }) }
-    ensures stays { OnOk result (StaysOpen space.old space.new) }
+    requires { IsWritableStore N space.old undo.old }
+    ensures pushed { OnOk result (ChangesStore N space.old space.new
+        (with_new_orders (filter (λ row. row.warehouse == warehouse) rows.now))) }
+    ensures undo_log { OnOk result (IsUndoLog N space.new undo.new) }
+    ensures stays { StaysOpen space.old space.new }
+    ensures pages { KeepsPagesUpTo N new_order_segment (length (stored_in N space.old).new_order_slots
+        + length (filter (λ row. row.warehouse == warehouse) rows.now)) space.old space.new }
+    ensures no_frame { IsErrOf result Shortage.NoFrame → free_of space.new.frames ≡ 0 }
 {
     for row in rows {
         push_own_new_order(space, undo, row, warehouse)?;
@@ -86,17 +89,14 @@ fn push_own_new_order<const N: usize>(
     row: &NewOrder,
     warehouse: u8,
 ) -> Result<(), Shortage>
-    requires ready { IsReady N space.old undo.old }
-    ensures ready { OnOk result (IsReady N space.new undo.new) }
-    ensures rows { OnOk result (stored_in N space.new ≡ record (stored_in N space.old) {
-      tables = record (stored_in N space.old).tables {
-        new_orders = (stored_in N space.old).tables.new_orders
-            ++ filter (λ row. row.warehouse == warehouse) (row.now ∷ []);
-      };
-      new_order_slots = (stored_in N space.old).new_order_slots
-          ++ map Some (filter (λ row. row.warehouse == warehouse) (row.now ∷ []));
-    }) }
-    ensures stays { OnOk result (StaysOpen space.old space.new) }
+    requires { IsWritableStore N space.old undo.old }
+    ensures pushed { OnOk result (ChangesStore N space.old space.new
+        (with_new_orders (filter (λ row. row.warehouse == warehouse) (row.now ∷ [])))) }
+    ensures undo_log { OnOk result (IsUndoLog N space.new undo.new) }
+    ensures stays { StaysOpen space.old space.new }
+    ensures pages { KeepsPagesUpTo N new_order_segment (length (stored_in N space.old).new_order_slots
+        + length (filter (λ row. row.warehouse == warehouse) (row.now ∷ []))) space.old space.new }
+    ensures no_frame { IsErrOf result Shortage.NoFrame → free_of space.new.frames ≡ 0 }
 {
     if !row.belongs_to(warehouse) {
         return Ok(());

@@ -4,7 +4,8 @@ ghost use Rattle.std.specs.Prelude.{None};
 
 use hy_commands::Reply;
 use hy_events::write_reply;
-use hy_place::{FileFault, Place, Shelf, read_load, write_load};
+use hy_files::{FileFault, FileSystem, MemoryFiles, read_load, write_load};
+use hy_output::{Spare, Stream};
 use hy_program::{Ending, run_words};
 use hy_schema::{Refusal, Table};
 use hy_tables::generate;
@@ -45,13 +46,19 @@ impl io::Write for Short {
     }
 }
 
+impl Spare for Short {
+    fn spare(&self) -> Short {
+        Short::new(0)
+    }
+}
+
 /// A place where one file can't be written, and none is kept.
 #[derive(Drop)]
 struct Locked {
     path: &'static str,
 }
 
-impl Place for Locked {
+impl FileSystem for Locked {
     ghost files = { λ _. None };
 
     fn read(&mut self, _alloc: Global, _path: &str) -> io::Result<Vec<u8>> {
@@ -72,7 +79,8 @@ impl Place for Locked {
 
 /// Whether a reply of six bytes is written by a writer that takes so many.
 fn is_written(bytes: usize) -> bool {
-    write_reply(&mut Short::new(bytes), &Reply::StockLevel { low: 1 }).is_ok()
+    let mut out = Stream::new(Short::new(bytes));
+    write_reply(&mut out, &Reply::StockLevel { low: 1 }).is_ok()
 }
 
 #[test]
@@ -83,30 +91,38 @@ fn a_reply_fails_as_the_writer_does(rt: HostRuntime) {
 }
 
 /// How a run of the program ends whose writers take so many bytes, and whether each is left without a text.
-fn run(shelf: &mut Shelf, alloc: Global, words: &[&str], sizes: [usize; 2]) -> (Ending, [bool; 2]) {
-    let mut out = Short::new(sizes[0]);
-    let mut err = Short::new(sizes[1]);
-    let ending = run_words(alloc, words, shelf, &mut out, &mut err);
-    (ending, [out.is_empty, err.is_empty])
+fn run(
+    stored: &mut MemoryFiles,
+    alloc: Global,
+    words: &[&str],
+    sizes: [usize; 2],
+) -> (Ending, [bool; 2]) {
+    let mut out = Stream::new(Short::new(sizes[0]));
+    let mut err = Stream::new(Short::new(sizes[1]));
+    let ending = run_words(alloc, words, stored, &mut out, &mut err);
+    (
+        ending,
+        [out.into_writer().is_empty, err.into_writer().is_empty],
+    )
 }
 
 #[test]
 fn answers_1_where_a_writer_fails(rt: HostRuntime) {
-    let mut shelf = Shelf::new(rt.alloc());
+    let mut stored = MemoryFiles::new(rt.alloc());
     let failed = Ending::WriterFailed;
-    assert!(rt; run(&mut shelf, rt.alloc(), &["first"], [0, 999]) == (failed, [true, false]));
-    assert!(rt; run(&mut shelf, rt.alloc(), &["--help"], [999, 0]) == (failed, [true, true]));
+    assert!(rt; run(&mut stored, rt.alloc(), &["first"], [0, 999]) == (failed, [true, false]));
+    assert!(rt; run(&mut stored, rt.alloc(), &["--help"], [999, 0]) == (failed, [true, true]));
     let words = ["first", "--amount", "99"];
-    assert!(rt; run(&mut shelf, rt.alloc(), &words, [999, 0]) == (failed, [true, true]));
+    assert!(rt; run(&mut stored, rt.alloc(), &words, [999, 0]) == (failed, [true, true]));
     assert!(rt; failed.status() == 1);
 }
 
 #[test]
 fn first_leaves_a_shelf(rt: HostRuntime) {
-    let mut shelf = Shelf::new(rt.alloc());
-    let (ending, _) = run(&mut shelf, rt.alloc(), &["first"], [999, 999]);
+    let mut stored = MemoryFiles::new(rt.alloc());
+    let (ending, _) = run(&mut stored, rt.alloc(), &["first"], [999, 999]);
     assert!(rt; ending == Ending::Done);
-    assert!(rt; shelf.read(rt.alloc(), "ytd").is_err());
+    assert!(rt; stored.read(rt.alloc(), "ytd").is_err());
 }
 
 /// Why a load isn't written where one file is locked.

@@ -5,8 +5,8 @@ ghost use Rattle.std.specs.Prelude.{◌≡◌, length};
 use hy_commands::{
     Command, Name, Payment, PlacedOrder, Purchase, PurchaseLine, PurchaseLines, StatusLines, Who,
 };
+use hy_csv::{CsvRow, Reading, read, write};
 use hy_layout::Layout;
-use hy_records::{CsvRow, Reading, read, write};
 use hy_rows::{
     Customer, District, Item, Lists, NewOrder, Order, OrderLine, Row, SlotBytes, Stock, Tables,
     Text, Warehouse,

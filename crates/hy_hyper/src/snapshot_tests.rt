@@ -5,7 +5,7 @@ ghost use Rattle.hy_frames.specs.FrameTable.{IsPageSize};
 
 use hy_commands::{Command, Payment, Purchase, PurchaseLine, PurchaseLines, Reply, Who};
 use hy_partition::{Job, Partition, Progress, Snapshot};
-use hy_rows::{District, NewOrder, Order, Stock, Warehouse};
+use hy_rows::{District, Item, NewOrder, Order, Stock, Warehouse};
 use hy_schema::Refusal;
 use hy_tables::generate;
 use std::marker::Model;
@@ -23,14 +23,14 @@ struct Forked<const N: usize> {
 // Each snapshot is open, with a child of its own. Clauses see the partition.
 impl<const N: usize> Model for Forked<N> {
     ghost use Rattle.hy_partition.specs.Partition.{PartitionState};
-    ghost use Rattle.hy_script.specs.inside.Open.{AreOpen};
+    ghost use Rattle.hy_script.specs.inside.Open.{AreOpen, IsOpenIn};
 
     ghost Value = { PartitionState };
 
     ghost view = { λ forked. forked.partition };
 
     ghost invariant = { λ forked.
-        AreOpen forked.partition.warehouse forked.partition.snapshots forked.snapshots.items };
+        AreOpen (IsOpenIn forked.partition.warehouse forked.partition.snapshots) forked.snapshots.items };
 }
 
 impl<const N: usize> Forked<N> {
@@ -432,7 +432,8 @@ fn slices_one_by_one(rt: HostRuntime) {
     forked.end(&rt);
 }
 
-/// Whether these orders, this next number in district 1 and this stock of item 1 are in the snapshot at a place.
+/// Whether these orders, this next number in district 1 and this stock of item 1 are in the snapshot at a place, with
+/// as many items as it has rows of STOCK, the first of which costs 1.37.
 fn has_orders<const N: usize>(
     rt: &(impl Abort + AllocGlobal),
     forked: &Forked<N>,
@@ -446,12 +447,15 @@ fn has_orders<const N: usize>(
         .expect(rt, "the undelivered orders");
     let districts = snapshot.list::<District>().expect(rt, "the districts");
     let stock = snapshot.list::<Stock>().expect(rt, "the stock");
-    match (districts.as_slice(), stock.as_slice()) {
-        ([district, ..], [item, ..]) => {
+    let items = snapshot.list::<Item>().expect(rt, "the items");
+    match (districts.as_slice(), stock.as_slice(), items.as_slice()) {
+        ([district, ..], [supply, ..], [item, ..]) => {
             orders.len() == count
                 && undelivered.len() == count
+                && items.len() == stock.len()
                 && district.next_order == next
-                && item.quantity == quantity
+                && supply.quantity == quantity
+                && item.price == 137
         }
         _ => false,
     }

@@ -38,13 +38,13 @@ const FRAMES: u64 = 2000;
 
 /// The primary key of NEW-ORDER (TPC-C clause 1.3.1).
 #[derive(Clone, Copy, Debug, PartialEq, Eq)]
-struct OrderKey {
+struct NewOrderKey {
     warehouse: u8,
     district: u8,
     order: u32,
 }
 
-impl Key for OrderKey {
+impl Key for NewOrderKey {
     ghost use Rattle.std.specs.Prelude.{◌≡◌, ℕ, ◌<◌, ◌^◌, ◌++◌};
     ghost use Rattle.std.proofs.Common.{refl, ap, ap₂, ◌∙◌, rules, sym};
     ghost use Rattle.std.specs.Ordering.{is_lt, nat_cmp, ordering_then};
@@ -76,8 +76,8 @@ impl Key for OrderKey {
         push_number(bytes, self.order.into(), 4);
     }
 
-    fn decode(bytes: &[u8]) -> OrderKey {
-        OrderKey {
+    fn decode(bytes: &[u8]) -> NewOrderKey {
+        NewOrderKey {
             warehouse: read_number(bytes, 0, 1) as u8,
             district: read_number(bytes, 1, 1) as u8,
             order: read_number(bytes, 2, 4) as u32,
@@ -119,8 +119,8 @@ fn row_of(number: u64) -> NewOrder {
 }
 
 /// The key of a row.
-fn key_of(row: &NewOrder) -> OrderKey {
-    OrderKey {
+fn key_of(row: &NewOrder) -> NewOrderKey {
+    NewOrderKey {
         warehouse: row.warehouse,
         district: row.district,
         order: row.order,
@@ -128,13 +128,13 @@ fn key_of(row: &NewOrder) -> OrderKey {
 }
 
 /// The key of the row of a number.
-fn key_at(number: u64) -> OrderKey {
+fn key_at(number: u64) -> NewOrderKey {
     key_of(&row_of(number))
 }
 
 /// The least key of a district.
-fn first_key_of(district: u8) -> OrderKey {
-    OrderKey {
+fn first_key_of(district: u8) -> NewOrderKey {
+    NewOrderKey {
         warehouse: 1,
         district,
         order: 1,
@@ -142,7 +142,7 @@ fn first_key_of(district: u8) -> OrderKey {
 }
 
 /// A key and its slot.
-fn pair_of(entry: Entry<OrderKey>) -> (OrderKey, u64) {
+fn pair_of(entry: Entry<NewOrderKey>) -> (NewOrderKey, u64) {
     (entry.key, entry.slot)
 }
 
@@ -162,8 +162,8 @@ impl<const N: usize> Model for Store<N> {
 
     ghost view = { λ store. store.space };
 
-    ghost invariant = { λ store. IsStore ⟦<OrderKey as Key>⟧.BYTES ⟦<OrderKey as Key>⟧.bytes_of_key
-        ⟦<OrderKey as Key>⟧.key_of_bytes ⟦<OrderKey as Key>⟧.IsKey N store.space store.undo };
+    ghost invariant = { λ store. IsStore ⟦<NewOrderKey as Key>⟧.BYTES ⟦<NewOrderKey as Key>⟧.bytes_of_key
+        ⟦<NewOrderKey as Key>⟧.key_of_bytes ⟦<NewOrderKey as Key>⟧.IsKey N store.space store.undo };
 }
 
 /// The table.
@@ -172,7 +172,7 @@ fn relation() -> Relation<NewOrder> {
 }
 
 /// The index.
-fn index() -> Index<OrderKey>
+fn index() -> Index<NewOrderKey>
     ensures { result ≡ 8 }
 {
     Index::new(INDEX_SEGMENT)
@@ -201,7 +201,7 @@ impl<const N: usize> Store<N> {
     }
 
     /// Gives a key a slot.
-    fn insert(&mut self, rt: &impl Abort, key: &OrderKey, slot: u64) {
+    fn insert(&mut self, rt: &impl Abort, key: &NewOrderKey, slot: u64) {
         index()
             .insert(&mut self.space, &mut self.undo, key, slot)
             .expect(rt, "an entry");
@@ -228,7 +228,7 @@ impl<const N: usize> Store<N> {
     }
 
     /// Takes a key's entry away.
-    fn remove(&mut self, rt: &impl Abort, key: &OrderKey) {
+    fn remove(&mut self, rt: &impl Abort, key: &NewOrderKey) {
         index()
             .remove(&mut self.space, &mut self.undo, key)
             .expect(rt, "a write");
@@ -262,12 +262,12 @@ impl<const N: usize> Store<N> {
     }
 
     /// The slot of a key.
-    fn find(&self, key: &OrderKey) -> Option<u64> {
+    fn find(&self, key: &NewOrderKey) -> Option<u64> {
         index().find(&self.space, key)
     }
 
     /// The first entry whose key isn't below this one.
-    fn first_from(&self, key: &OrderKey) -> Option<(OrderKey, u64)> {
+    fn first_from(&self, key: &NewOrderKey) -> Option<(NewOrderKey, u64)> {
         index().first_from(&self.space, key).map(pair_of)
     }
 
@@ -275,9 +275,9 @@ impl<const N: usize> Store<N> {
     fn range(
         &self,
         rt: &(impl Abort + AllocGlobal),
-        low: &OrderKey,
-        high: &OrderKey,
-    ) -> Vec<Entry<OrderKey>> {
+        low: &NewOrderKey,
+        high: &NewOrderKey,
+    ) -> Vec<Entry<NewOrderKey>> {
         index()
             .range(rt.alloc(), &self.space, low, high)
             .expect(rt, "the entries")
@@ -287,9 +287,9 @@ impl<const N: usize> Store<N> {
     fn range_into(
         &self,
         rt: &impl Abort,
-        low: &OrderKey,
-        high: &OrderKey,
-        entries: &mut Vec<Entry<OrderKey>>,
+        low: &NewOrderKey,
+        high: &NewOrderKey,
+        entries: &mut Vec<Entry<NewOrderKey>>,
     ) {
         index()
             .range_into(&self.space, low, high, entries)
@@ -361,7 +361,7 @@ impl Lists {
     }
 
     /// The keys that are there and their slots, in the order of the keys.
-    fn entries(&self, rt: &(impl Abort + AllocGlobal)) -> Vec<(OrderKey, u64)> {
+    fn entries(&self, rt: &(impl Abort + AllocGlobal)) -> Vec<(NewOrderKey, u64)> {
         let mut entries = Vec::new(rt.alloc());
         for (number, place) in self.slots.iter().enumerate() {
             if let Some(slot) = place {
@@ -379,7 +379,7 @@ impl Lists {
     }
 
     /// The first entry from a number on.
-    fn first_from(&self, number: usize) -> Option<(OrderKey, u64)> {
+    fn first_from(&self, number: usize) -> Option<(NewOrderKey, u64)> {
         for (later, place) in self.slots.iter().enumerate().skip(number) {
             if let Some(slot) = place {
                 return Some((key_at(later as u64), *slot));
@@ -400,7 +400,7 @@ fn rows_agree<const N: usize>(rt: &(impl Abort + AllocGlobal), store: &Store<N>,
 }
 
 /// Both lists have the same entries.
-fn entries_agree(rt: &impl Abort, found: &[Entry<OrderKey>], all: &[(OrderKey, u64)]) {
+fn entries_agree(rt: &impl Abort, found: &[Entry<NewOrderKey>], all: &[(NewOrderKey, u64)]) {
     assert!(rt; found.len() == all.len());
     for (entry, pair) in found.iter().zip(all) {
         assert!(rt; pair_of(*entry) == *pair);

@@ -1,6 +1,7 @@
 //! The program on the system that it runs on.
 
-use hy_place::Files;
+use hy_files::SystemFiles;
+use hy_output::Stream;
 use hy_program::{Ending, run_words};
 use hy_schema::Refusal;
 use std::io::{self, Write};
@@ -25,13 +26,13 @@ fn run_arguments(rt: &HostRuntime) -> io::Result<Ending> {
     let alloc = rt.alloc();
     let words: Vec<String> = std::env::args(rt)?.skip(1).collect(alloc)?;
     let texts: Vec<&str> = words.iter().map(|word| word.as_str()).collect(alloc)?;
-    let mut files = Files::new(rt);
+    let mut files = SystemFiles::new(rt);
     let ending = run_words(
         alloc,
         texts.as_slice(),
         &mut files,
-        &mut rt.stdout(),
-        &mut rt.stderr(),
+        &mut Stream::new(rt.stdout()),
+        &mut Stream::new(rt.stderr()),
     );
     Ok(ending)
 }

@@ -6,21 +6,21 @@ use Rattle.hy_index.specs.declared.key.Entry.{Entry}
 use Rattle.hy_index.specs.Index.{between, first_from, found, is_less_bytes, with_entry, without}
 use Rattle.hy_index.specs.KeyBytes.{high_bytes_of, high_number_of}
 
-record OrderKey : Type 0 where
+record ExampleKey : Type 0 where
   pub district : ℕ
   pub order : ℕ
 
 -- by district, and within one by order
-abbrev is_less : OrderKey → OrderKey → Bool
+abbrev is_less : ExampleKey → ExampleKey → Bool
 is_less one other = is_lt (ordering_then (nat_cmp one.district other.district) (nat_cmp one.order other.order))
 
-abbrev at : ℕ → ℕ → OrderKey
+abbrev at : ℕ → ℕ → ExampleKey
 at district order = record { district = district; order = order }
 
-abbrev entry : ℕ → ℕ → ℕ → Entry OrderKey
+abbrev entry : ℕ → ℕ → ℕ → Entry ExampleKey
 entry district order slot = record { key = at district order; slot = slot }
 
-abbrev three : List (Entry OrderKey)
+abbrev three : List (Entry ExampleKey)
 three = entry 1 5 70 ∷ entry 1 9 71 ∷ entry 2 3 72 ∷ []
 
 -- a new key stands between the others

@@ -1,6 +1,6 @@
 -- What never changes of a warehouse: the load that it began from, and the places of the rows of CUSTOMER and STOCK, which
 -- no transaction adds, takes away or moves.
-use Rattle.std.specs.Prelude.{◌≡◌, ℕ, List, pos, map, Some, slice_get}
+use Rattle.std.specs.Prelude.{◌≡◌, ℕ, List, MatchOption, None, Option, pos, map, Some, slice_get}
 use Rattle.hy_rows.specs.declared.customer.Customer.{Customer}
 use Rattle.hy_rows.specs.declared.stock.Stock.{Stock}
 use Rattle.hy_rows.specs.Tables.{Lists, Tables, of_warehouse}
@@ -33,6 +33,13 @@ pub record IsMeantAt (warehouse district : ℕ) (who : Who) (customers : List Cu
   pub here : slice_get customers place ≡ Some row
   pub meant : customer_meant warehouse district who customers ≡ Some row
   pub key : customer_key row ≡ (warehouse, district, row.id)
+
+-- in rows that keep the places of a layout, the customer of a district who is meant stands at this place; with none,
+-- there is no such customer
+abbrev pub IsPlaceOf : LayoutState → ℕ → Who → Option ℕ → Type 0
+IsPlaceOf layout district who place = (tables : Tables) → KeepsPlaces (own_rows layout) tables
+    → MatchOption place (customer_meant layout.warehouse district who tables.customers ≡ None)
+    (IsMeantAt layout.warehouse district who tables.customers)
 
 -- the stock of an item stands at a place
 pub record IsStockAt (warehouse item : ℕ) (stock : List Stock) (place : ℕ) : Type 0 where

@@ -6,8 +6,7 @@ ghost use Rattle.hy_rows.specs.Ranges.{IsBetween};
 ghost use Rattle.hy_rows.specs.Tables.{Tables};
 ghost use Rattle.hy_schema.specs.Related.{is_item};
 ghost use Rattle.hy_commands.specs.declared.command.Who.{Who};
-ghost use Rattle.hy_commands.specs.Customers.{customer_meant};
-ghost use Rattle.hy_layout.specs.Layout.{IsMeantAt, IsStockAt, KeepsPlaces, own_rows};
+ghost use Rattle.hy_layout.specs.Layout.{IsPlaceOf, IsStockAt, KeepsPlaces, own_rows};
 
 use crate::names::{NamedCustomer, middle_named, names_of};
 use crate::numbers::{own_customers, place_of, starts_of};
@@ -78,9 +77,7 @@ impl Layout {
     /// all customers of the warehouse; none where there is no such customer. It stays that place as long as each
     /// customer stands where it stood. Takes no memory; a number is found at once, a name by a binary search.
     pub fn place_of_customer(&self, district: u64, who: &Who) -> Option<u64>
-        ensures { (tables : Tables) → KeepsPlaces (own_rows self.now) tables → MatchOption result
-            (customer_meant self.now.warehouse district who.now tables.customers ≡ None)
-            (IsMeantAt self.now.warehouse district who.now tables.customers) }
+        ensures { IsPlaceOf self.now district who.now result }
     {
         match who {
             Who::Number(number) => place_of(&self.starts, district, *number),
@@ -93,9 +90,7 @@ impl Layout {
 
     /// The place of the customer of a district with a number, as of one who is meant by it. Takes no memory.
     pub fn place_of_number(&self, district: u64, number: u64) -> Option<u64>
-        ensures { (tables : Tables) → KeepsPlaces (own_rows self.now) tables → MatchOption result
-            (customer_meant self.now.warehouse district (Who.Number number) tables.customers ≡ None)
-            (IsMeantAt self.now.warehouse district (Who.Number number) tables.customers) }
+        ensures { IsPlaceOf self.now district (Who.Number number) result }
     {
         place_of(&self.starts, district, number)
     }

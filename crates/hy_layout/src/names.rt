@@ -1,9 +1,9 @@
 //! The customers of a warehouse, by last name.
 
-ghost use Rattle.std.specs.Prelude.{◌≡◌, ◌+◌, ◌-◌, ◌/◌, ◌≤◌, true, false, IfOk, MatchOption, Some, None, filter, length, map, slice_get};
+ghost use Rattle.std.specs.Prelude.{◌≡◌, ◌≤◌, true, false, IfOk, MatchOption, Some, None, filter, length, map};
 ghost use Rattle.std.specs.List.Sorted.{IsPartitionPoint, IsSortedBy};
 ghost use Rattle.std.specs.Ordering.{is_le, is_lt};
-ghost use Rattle.hy_layout.specs.inside.Places.{AreNames, compare_name, compare_named, is_called, is_lesser, named};
+ghost use Rattle.hy_layout.specs.inside.Places.{AreNames, compare_name, compare_named, is_called, is_lesser, middle_of, named};
 
 use hy_rows::{Customer, Text};
 use std::alloc::{AllocError, Global};
@@ -80,11 +80,8 @@ pub fn middle_named<'a>(
     name: &[u8],
 ) -> Option<&'a NamedCustomer>
     requires { IsSortedBy is_lesser names.now }
-    ensures { MatchOption result
-        (slice_get (filter (is_called district name.now) names.now)
-        ((length (filter (is_called district name.now) names.now) + 1) / 2 - 1) ≡ None)
-        (λ customer. slice_get (filter (is_called district name.now) names.now)
-        ((length (filter (is_called district name.now) names.now) + 1) / 2 - 1) ≡ Some customer.now) }
+    ensures { MatchOption result (middle_of (filter (is_called district name.now) names.now) ≡ None)
+        (λ customer. middle_of (filter (is_called district name.now) names.now) ≡ Some customer.now) }
 {
     let first = first_named(names, district, name);
     let behind = behind_named(names, district, name);

@@ -8,7 +8,7 @@ ghost use Rattle.hy_conditions.specs.Keys.{same_customer};
 ghost use Rattle.hy_loads.specs.There.{HasKeys, is_customer_by};
 
 use crate::list::Rule;
-use hy_conditions::CustomerKey;
+use hy_conditions::CustomerId;
 use hy_rows::{Customer, DISTRICTS_PER_WAREHOUSE, District, Item, Stock, Warehouse};
 use indexmap::IndexSet;
 use std::alloc::AllocError;
@@ -92,7 +92,7 @@ pub(crate) struct CustomerRule<'a> {
     pub rows: &'a [Customer],
 }
 
-impl Rule<Customer, IndexSet<CustomerKey>> for CustomerRule<'_> {
+impl Rule<Customer, IndexSet<CustomerId>> for CustomerRule<'_> {
     ghost use Rattle.std.specs.Prelude.{⊤};
 
     ghost rows = { λ rule. rule.rows.now };
@@ -111,14 +111,14 @@ impl Rule<Customer, IndexSet<CustomerKey>> for CustomerRule<'_> {
 
     fn is_right(
         &self,
-        seen: &mut IndexSet<CustomerKey>,
+        seen: &mut IndexSet<CustomerId>,
         place: usize,
         row: &Customer,
     ) -> Result<bool, AllocError> {
         if !is_customer_at(self.warehouses, self.rows, place, row) {
             return Ok(false);
         }
-        seen.insert(CustomerKey::new(row.warehouse, row.district, row.id))?;
+        seen.insert(CustomerId::new(row.warehouse, row.district, row.id))?;
         Ok(true)
     }
 

@@ -10,7 +10,7 @@ ghost use Rattle.hy_loads.specs.There.{HasCustomers, HasKeys, is_customer_by};
 use crate::base::{CustomerRule, DistrictRule, ItemRule, StockRule, WarehouseRule};
 use crate::list::check_list;
 use crate::orders::{Customers, HistoryRule, NewOrderRule, OrderLineRule, OrderRule, Orders};
-use hy_conditions::{CustomerKey, first_broken};
+use hy_conditions::{CustomerId, first_broken};
 use hy_rows::{Listed, Lists, Tables, Warehouse};
 use hy_schema::{FileEnd, FileEnds, LoadFault, Refusal, Table};
 use indexmap::IndexSet;
@@ -130,7 +130,7 @@ fn check(alloc: Global, lists: &Lists, ends: FileEnds) -> Result<(), Refusal>
 fn check_base(
     lists: &Lists,
     ends: FileEnds,
-    customers: &mut IndexSet<CustomerKey>,
+    customers: &mut IndexSet<CustomerId>,
 ) -> Result<(), Refusal>
     requires { IsEmpty customers.old }
     ensures right { OnOk result (AreBaseRight ends lists.now) }

@@ -9,11 +9,11 @@ ghost use Rattle.hy_schema.specs.Related.{is_item, is_order};
 ghost use Rattle.hy_schema.specs.Loads.{IsHistoryAt, IsNewOrderAt, IsOrderAt, IsOrderLineAt};
 ghost use Rattle.hy_conditions.specs.Keys.{same_customer, same_order};
 ghost use Rattle.hy_loads.specs.Keys.{same_line};
-ghost use Rattle.hy_loads.specs.There.{HasCustomers, HasKeys, HasOrders, KnowsLines, is_customer_by, is_line_with, is_new_order_with, is_order_with};
+ghost use Rattle.hy_loads.specs.There.{HasCustomers, HasKeys, HasOrders, IsLineOf, IsOrderOf, KnowsLines, is_customer_by, is_line_with, is_new_order_with, is_order_with};
 
-use crate::keys::LineKey;
+use crate::keys::LineId;
 use crate::list::Rule;
-use hy_conditions::{CustomerKey, OrderKey};
+use hy_conditions::{CustomerId, OrderId};
 use hy_rows::{Customer, District, History, Item, NewOrder, Order, OrderLine, Warehouse};
 use indexmap::IndexSet;
 use std::alloc::AllocError;
@@ -26,7 +26,7 @@ pub(crate) struct Customers<'a> {
     pub districts: &'a [District],
     pub rows: &'a [Customer],
     /// The keys of the customers.
-    pub keys: &'a IndexSet<CustomerKey>,
+    pub keys: &'a IndexSet<CustomerId>,
 }
 
 impl Customers<'_> {
@@ -47,7 +47,7 @@ impl Customers<'_> {
         ensures { result ≡ list_any (is_customer warehouse district customer) self.now.rows.now }
     {
         self.keys
-            .contains(&CustomerKey::new(warehouse, district, customer))
+            .contains(&CustomerId::new(warehouse, district, customer))
     }
 }
 
@@ -56,7 +56,7 @@ impl Customers<'_> {
 pub(crate) struct Orders<'a> {
     pub rows: &'a [Order],
     /// The keys of the orders.
-    pub keys: &'a IndexSet<OrderKey>,
+    pub keys: &'a IndexSet<OrderId>,
 }
 
 impl Orders<'_> {
@@ -66,7 +66,7 @@ impl Orders<'_> {
         ensures { result ≡ list_any (is_order warehouse district order) self.now.rows.now }
     {
         self.keys
-            .contains(&OrderKey::new(warehouse, district, order))
+            .contains(&OrderId::new(warehouse, district, order))
     }
 }
 
@@ -77,7 +77,7 @@ pub(crate) struct OrderRule<'a> {
     pub rows: &'a [Order],
 }
 
-impl Rule<Order, IndexSet<OrderKey>> for OrderRule<'_> {
+impl Rule<Order, IndexSet<OrderId>> for OrderRule<'_> {
     ghost rows = { λ rule. rule.rows.now };
 
     ghost right = { λ rule.
@@ -95,14 +95,14 @@ impl Rule<Order, IndexSet<OrderKey>> for OrderRule<'_> {
 
     fn is_right(
         &self,
-        seen: &mut IndexSet<OrderKey>,
+        seen: &mut IndexSet<OrderId>,
         _place: usize,
         row: &Order,
     ) -> Result<bool, AllocError> {
         if !is_order_of(&self.customers, row) {
             return Ok(false);
         }
-        let is_new = seen.insert(OrderKey::new(row.warehouse, row.district, row.id))?;
+        let is_new = seen.insert(OrderId::new(row.warehouse, row.district, row.id))?;
         Ok(is_new)
     }
 
@@ -114,10 +114,7 @@ impl Rule<Order, IndexSet<OrderKey>> for OrderRule<'_> {
 /// Whether a row of ORDER is in range, and its district and customer are there.
 fn is_order_of(customers: &Customers<'_>, row: &Order) -> bool
     requires { HasCustomers customers.now }
-    ensures { IsTrue result ↔ (IsOrderInRange row.now
-        × IsTrue (list_any (is_district row.now.warehouse row.now.district) customers.now.districts.now)
-        × IsTrue (list_any (is_customer row.now.warehouse row.now.district row.now.customer)
-        customers.now.rows.now)) }
+    ensures { IsTrue result ↔ IsOrderOf customers.now row.now }
 {
     row.is_in_range()
         && customers.has_district(row.warehouse, row.district)
@@ -131,7 +128,7 @@ pub(crate) struct NewOrderRule<'a> {
     pub rows: &'a [NewOrder],
 }
 
-impl Rule<NewOrder, IndexSet<OrderKey>> for NewOrderRule<'_> {
+impl Rule<NewOrder, IndexSet<OrderId>> for NewOrderRule<'_> {
     ghost rows = { λ rule. rule.rows.now };
 
     ghost right = { λ rule. IsNewOrderAt rule.orders.rows.now rule.rows.now };
@@ -148,14 +145,14 @@ impl Rule<NewOrder, IndexSet<OrderKey>> for NewOrderRule<'_> {
 
     fn is_right(
         &self,
-        seen: &mut IndexSet<OrderKey>,
+        seen: &mut IndexSet<OrderId>,
         _place: usize,
         row: &NewOrder,
     ) -> Result<bool, AllocError> {
         if !is_new_order_of(&self.orders, row) {
             return Ok(false);
         }
-        let is_new = seen.insert(OrderKey::new(row.warehouse, row.district, row.order))?;
+        let is_new = seen.insert(OrderId::new(row.warehouse, row.district, row.order))?;
         Ok(is_new)
     }
 
@@ -182,7 +179,7 @@ pub(crate) struct OrderLineRule<'a> {
     pub rows: &'a [OrderLine],
 }
 
-impl Rule<OrderLine, IndexSet<LineKey>> for OrderLineRule<'_> {
+impl Rule<OrderLine, IndexSet<LineId>> for OrderLineRule<'_> {
     ghost rows = { λ rule. rule.rows.now };
 
     ghost right = { λ rule.
@@ -200,16 +197,16 @@ impl Rule<OrderLine, IndexSet<LineKey>> for OrderLineRule<'_> {
 
     fn is_right(
         &self,
-        seen: &mut IndexSet<LineKey>,
+        seen: &mut IndexSet<LineId>,
         _place: usize,
         row: &OrderLine,
     ) -> Result<bool, AllocError> {
         if !self.is_line(row) {
             return Ok(false);
         }
-        let order = OrderKey::new(row.warehouse, row.district, row.order);
+        let order = OrderId::new(row.warehouse, row.district, row.order);
         let number = row.number;
-        let is_new = seen.insert(LineKey { order, number })?;
+        let is_new = seen.insert(LineId { order, number })?;
         Ok(is_new)
     }
 
@@ -222,11 +219,7 @@ impl OrderLineRule<'_> {
     /// Whether a row of ORDER-LINE is in range, and its order, item and supplying warehouse are there.
     fn is_line(&self, row: &OrderLine) -> bool
         requires { KnowsLines self.now }
-        ensures { IsTrue result ↔ (IsOrderLineInRange row.now
-            × IsTrue (list_any (is_order row.now.warehouse row.now.district row.now.order)
-            self.now.orders.rows.now)
-            × IsTrue (list_any (is_item row.now.item) self.now.items.now)
-            × IsTrue (list_any (is_warehouse row.now.supply_warehouse) self.now.warehouses.now)) }
+        ensures { IsTrue result ↔ IsLineOf self.now row.now }
     {
         row.is_in_range()
             && self.orders.has(row.warehouse, row.district, row.order)

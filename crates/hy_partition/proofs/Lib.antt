@@ -7,3 +7,4 @@ pub mod StepsToLaws
 pub mod FinishLaws
 pub mod ForkLaws
 pub mod ScheduleLaws
+pub mod MadeLaws

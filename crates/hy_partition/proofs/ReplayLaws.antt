@@ -26,7 +26,7 @@ use Rattle.hy_slices.specs.Slices.{after_slices, has_item_at, has_items_before, 
 use Rattle.hy_slices.proofs.GrowingSlices.{grown-between}
 use Rattle.hy_slices.proofs.SliceLaws.{slices-act, slices-refused}
 use Rattle.hy_layout.specs.Layout.{KeepsPlaces}
-use Rattle.hy_writers.specs.Limits.{AreInBounds, most_commits}
+use Rattle.hy_writers.specs.Limits.{AreInBounds, most_applied}
 use Rattle.hy_tpcc.specs.Executor.{StaysInBounds}
 use Rattle.hy_tpcc.proofs.KeepsLaws.{keeps-slices}
 
@@ -169,12 +169,12 @@ module _ (lists : Lists) (number : ℕ) (kept : List Commit) (is_load : IsLoad l
       keeps-replay (of_warehouse number lists.tables) lists.items number (of_warehouse number lists.tables) kept
       (record { customers = refl; stock = refl })
 
-  pub bounds-rows : length kept < most_commits → AreInBounds rows
+  pub bounds-rows : length kept < most_applied → AreInBounds rows
   bounds-rows few =
-      grown-within (length kept) most_commits rows (omega (arith, few)) (grown-commits lists is_load number kept between)
+      grown-within (length kept) most_applied rows (omega (arith, few)) (grown-commits lists is_load number kept between)
 
-  pub stays_in_bounds : (command : Command) → length kept < most_commits → begin_refusal_of number command rows ≡ None
+  pub stays_in_bounds : (command : Command) → length kept < most_applied → begin_refusal_of number command rows ≡ None
       → StaysInBounds (record { load = lists; warehouse = number }) command rows
   stays_in_bounds command few begins = λ done within known.
-      grown-within (length kept + 1) most_commits (after_slices lists.items number command done rows)
+      grown-within (length kept + 1) most_applied (after_slices lists.items number command done rows)
       (omega (arith, few)) (grown-between lists is_load number kept command done between begins within known)

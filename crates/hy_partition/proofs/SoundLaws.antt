@@ -24,7 +24,7 @@ use Rattle.hy_undo.specs.PrivatePages.{IsUndoLog}
 use Rattle.hy_undo.proofs.RollBackLaws.{undone-empty_log}
 use Rattle.hy_layout.specs.Layout.{LayoutState, own_rows}
 use Rattle.hy_store.specs.Stored.{HasStore, stored}
-use Rattle.hy_writers.specs.Limits.{most_commits}
+use Rattle.hy_writers.specs.Limits.{most_applied}
 use Rattle.hy_writers.specs.Waiting.{IsSoundStore}
 use Rattle.hy_tpcc.specs.Executor.{ExecutorState, IsUnderWay, StaysInBounds}
 use Rattle.hy_partition.specs.Headline.{SpellsBeginning}
@@ -89,7 +89,7 @@ module _ (n places : ℕ) (executor : ExecutorState) (p : PartitionState) (sound
   pub few_slices : ForSome p.running (λ job. job.slices < slice_count job.command)
   few_slices job running = (runs job running).slices
 
-  few : length p.kept < most_commits
+  few : length p.kept < most_applied
   few = omega (arith, sound.within, sound.limit)
 
   -- the rows are those of one warehouse, and meet the consistency conditions

@@ -39,6 +39,15 @@ begin_refusal p command =
     else option_or (begin_refusal_of p.warehouse command (rows_now p))
     (if not (is_reader command) && is_full p then Some refusals.HistoryFull else None)
 
+-- why a command isn't begun: the first that holds of these, or there is no memory for its commit
+abbrev pub IsUnbegun : PartitionState → Command → Refusal → Type 0
+IsUnbegun p command why = (begin_refusal p command ≡ Some why)
+    ⊎ ((begin_refusal p command ≡ None) × (is_reader command ≡ false) × (why ≡ refusals.NoMemory))
+
+-- the partition with a job more, of which no slice is done
+abbrev pub with_job : PartitionState → Command → PartitionState
+with_job p command = record p { running = Some (record { command = command; slices = 0 }) }
+
 -- what no job changes: the load, the warehouse, the limits, and every snapshot with its bytes
 pub record KeepsRest (old new : PartitionState) : Type 0 where
   pub load : new.load ≡ old.load

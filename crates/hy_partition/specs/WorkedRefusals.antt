@@ -8,7 +8,7 @@ use Rattle.hy_commands.specs.declared.command.Command.{Command}
 use Rattle.hy_commands.specs.declared.reply.Reply.TheVariants as replies
 use Rattle.hy_commands.specs.Commands.{is_reader}
 use Rattle.hy_slices.specs.Slices.{has_item_at}
-use Rattle.hy_tpcc.specs.Shortages.{only_puts_rows}
+use Rattle.hy_tpcc.specs.Shortages.{adds_no_page}
 use Rattle.hy_space.specs.Space.{child_table}
 use Rattle.hy_partition.specs.Jobs.{DoneState, RunningJob}
 use Rattle.hy_partition.specs.Partition.{PartitionState}
@@ -71,9 +71,10 @@ no_frame_for_a_reader job old new reads refuses is = elim refuses.refused.reason
   ]
 ]
 
--- where no snapshot is open, the second slice of a payment lacks none either
+-- where no snapshot is open, a slice that adds no page lacks none either: the second one of a payment, and those of a
+-- delivery
 no_frame_without_a_snapshot : (command : Command) (done : ℕ) (old new : PartitionState)
-    → only_puts_rows command done ≡ true → ((child : ℕ) → child_table old.space child ≡ None)
+    → adds_no_page command done ≡ true → ((child : ℕ) → child_table old.space child ≡ None)
     → RefusesAt command done old new → IsTold refusals.NoFrame new → ⊥
 no_frame_without_a_snapshot command done old new only closed refuses is = elim refuses.reason [
   | inl item ↦ absurd (not_frame-item (one_answer new _ _ is item.2.finished))

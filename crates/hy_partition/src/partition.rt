@@ -7,13 +7,13 @@ ghost use Rattle.hy_commands.specs.Commands.{is_reader, kept_of};
 ghost use Rattle.hy_space.specs.Space.{SameForChildren};
 ghost use Rattle.hy_partition.specs.Headline.{Headline};
 ghost use Rattle.hy_partition.specs.Partition.{PartitionState, commits_of, rows_after, rows_now};
-ghost use Rattle.hy_partition.specs.Limits.{most_kept};
-ghost use Rattle.hy_partition.specs.inside.Room.{room_refusal};
+ghost use Rattle.hy_partition.specs.Limits.{IsWhyUnmade, most_kept};
+ghost use Rattle.hy_partition.specs.inside.Room.{LacksRoom, room_refusal};
 ghost use Rattle.hy_partition.specs.Jobs.{is_last};
 ghost use Rattle.hy_undo.specs.Touched.{touched};
 ghost use Rattle.hy_undo.specs.PrivatePages.{IsUndoLog};
 ghost use Rattle.hy_rows.specs.Spelling.{Spells};
-ghost use Rattle.hy_partition.specs.Steps.{begin_refusal, Accepts, Begins, Closes, Forks, IsOpen, KeepsJob, Refuses, StaysUnforked, StepsTo};
+ghost use Rattle.hy_partition.specs.Steps.{begin_refusal, Accepts, Begins, Closes, Forks, IsOpen, IsUnbegun, KeepsJob, Refuses, StaysUnforked, StepsTo};
 
 use crate::job::{Done, Job, Progress, Running};
 use crate::snapshot::Snapshot;
@@ -58,7 +58,7 @@ impl<const N: usize> Model for Partition<N> {
 
 impl<const N: usize> Partition<N> {
     /// The warehouse's rows of the load, with nothing kept and no snapshot; at most `max_kept` commits will be kept. E2
-    /// where `max_frames` is too small for the rows. E1.
+    /// only where `max_frames` is no more than the frames that the rows and their entries take at most. E1.
     pub fn new(
         alloc: Global,
         load: &Load,
@@ -74,8 +74,7 @@ impl<const N: usize> Partition<N> {
         requires first { 1 ≤ warehouse }
         requires last { warehouse ≤ length load.now.tables.warehouses }
         ensures begins { IfOk result (Begins load.now warehouse max_frames max_kept) }
-        ensures refused { IfErr result
-            (λ refusal. (refusal ≡ Refusal.NoMemory) ⊎ (refusal ≡ Refusal.NoFrame)) }
+        ensures refused { IfErr result (IsWhyUnmade N load.now warehouse max_frames) }
     {
         load.sound();
         let layout = Layout::new(alloc, load, warehouse)?;
@@ -111,10 +110,7 @@ impl<const N: usize> Partition<N> {
         ensures begun { OnOk result (self.new
             ≡ record self.old { running = Some (record { command = job.command; slices = 0 }) }) }
         ensures accepted { OnOk result (begin_refusal self.old job.command ≡ None) }
-        ensures refused { IfErr result
-            (λ refused. (begin_refusal self.old job.command ≡ Some refused.1)
-            ⊎ ((begin_refusal self.old job.command ≡ None) × (is_reader job.command ≡ false)
-            × (refused.1 ≡ Refusal.NoMemory))) }
+        ensures refused { IfErr result (λ refused. IsUnbegun self.old job.command refused.1) }
         ensures back { IfErr result (λ refused. refused.0 ≡ job) }
         ensures err { OnErr result (self.new ≡ self.old) }
     {
@@ -320,9 +316,7 @@ fn make_room(kept: &mut Vec<Commit>, max_kept: u64, command: &Command) -> Result
     ensures accepted { OnOk result
         (room_refusal command.now (length kept.old.items) max_kept ≡ None) }
     ensures refused { IfErr result
-        (λ refusal. (room_refusal command.now (length kept.old.items) max_kept ≡ Some refusal)
-        ⊎ ((room_refusal command.now (length kept.old.items) max_kept ≡ None)
-        × (is_reader command.now ≡ false) × (refusal ≡ Refusal.NoMemory))) }
+        (λ refusal. LacksRoom command.now (length kept.old.items) max_kept refusal) }
 {
     if command.is_reader() {
         return Ok(());

@@ -1,13 +1,13 @@
 //! Snapshots: the committed rows of a warehouse at one moment.
 
 ghost use Rattle.std.specs.Prelude.{◌≡◌, ◌<◌, map, IfOk};
-ghost use Rattle.hy_rows.specs.Spelling.{list_at, segments, tables_of};
-ghost use Rattle.hy_partition.specs.Snapshots.{IsWhole};
+ghost use Rattle.hy_rows.specs.Spelling.{list_at, segments};
+ghost use Rattle.hy_partition.specs.Snapshots.{IsWhole, lists_in};
 
 use hy_frames::Hold;
 use hy_loads::Load;
 use hy_relation::Relation;
-use hy_rows::{Item, Row};
+use hy_rows::{Item, Listed, Row, Source};
 use std::alloc::{AllocError, Global};
 use std::marker::Model;
 
@@ -95,18 +95,11 @@ impl<const N: usize> Snapshot<N> {
         self.commits
     }
 
-    /// The items of the load.
-    pub fn items(&self) -> &[Item]
-        ensures { result.now ≡ self.now.items }
+    /// The rows of one table: those on its pages, or of ITEM those of the load. Only memory can lack.
+    pub fn list<R: Listed>(&self) -> Result<Vec<R>, AllocError>
+        ensures { IfOk result (λ rows. rows.items ≡ R.list_in (lists_in N self.now)) }
     {
-        self.load.list()
-    }
-
-    /// The rows of one table. Only memory can lack.
-    pub fn list<R: Row>(&self) -> Result<Vec<R>, AllocError>
-        ensures { IfOk result (λ rows. rows.items ≡ R.rows_in (tables_of N self.now.bytes)) }
-    {
-        Relation::<R>::new().scan_pages(*self.pages.allocator(), self.segment(R::SEGMENT))
+        R::copy_from(self)
     }
 
     /// The pages of a segment.
@@ -116,5 +109,20 @@ impl<const N: usize> Snapshot<N> {
         ensures whole { IsWhole N self.now.bytes }
     {
         self.pages[number as usize].as_slice()
+    }
+}
+
+// The tables on pages are scanned, and the items copied.
+impl<const N: usize> Source for Snapshot<N> {
+    ghost lists_of = { λ snapshot. lists_in N snapshot };
+
+    fn copy_rows<R: Row>(&self) -> Result<Vec<R>, AllocError> {
+        Relation::<R>::new().scan_pages(*self.pages.allocator(), self.segment(R::SEGMENT))
+    }
+
+    fn copy_items(&self) -> Result<Vec<Item>, AllocError> {
+        let mut items = Vec::new(*self.pages.allocator());
+        items.extend_from_slice(self.load.list())?;
+        Ok(items)
     }
 }

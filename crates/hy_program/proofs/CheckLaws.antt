@@ -2,10 +2,10 @@
 use Rattle.std.proofs.Common.{◌≡◌, ◌+◌, ◌<◌, ◌∙◌, ◌++◌, ℕ, List, Option, length, drop, get_or, ap, append_assoc, subst, sym}
 use Rattle.std.specs.List.{flat_map}
 use Rattle.std.proofs.lemmas.List.{drop_more}
-use Rattle.hy_place.specs.declared.directory.FileFault.{FileFault}
-use Rattle.hy_place.specs.declared.directory.FileFault.TheVariants as files
-use Rattle.hy_place.specs.Files.{FilesByPath}
-use Rattle.hy_place.specs.Loads.{IsReadFault}
+use Rattle.hy_files.specs.declared.directory.FileFault.{FileFault}
+use Rattle.hy_files.specs.declared.directory.FileFault.TheVariants as files
+use Rattle.hy_files.specs.Files.{FilesByPath}
+use Rattle.hy_files.specs.Loads.{IsReadFault}
 use Rattle.hy_schema.specs.declared.refusal.Table.{Table}
 use Rattle.hy_program.specs.declared.fault.RunFault.{RunFault}
 use Rattle.hy_program.specs.declared.fault.RunFault.TheVariants as fault

@@ -1,11 +1,11 @@
 -- Why `gen` isn't done.
 use Rattle.std.proofs.Common.{rules, ◌≡◌, ℕ, List, Option, Bool, true, false, Ok, refl, inl, subst, sym}
 use Rattle.std.specs.Result.{IsErrOf}
-use Rattle.hy_place.specs.declared.directory.FileFault.{FileFault}
-use Rattle.hy_place.specs.declared.directory.FileFault.TheVariants as files
+use Rattle.hy_files.specs.declared.directory.FileFault.{FileFault}
+use Rattle.hy_files.specs.declared.directory.FileFault.TheVariants as files
 use Rattle.hy_schema.specs.declared.refusal.Table.{Table}
-use Rattle.hy_place.specs.Faults.{IsOfPlace, IsUnwritten}
-use Rattle.hy_place.specs.Files.{FilesByPath, KnownPaths}
+use Rattle.hy_files.specs.Faults.{IsOfSystem, IsUnwritten}
+use Rattle.hy_files.specs.Files.{FilesByPath, KnownPaths}
 use Rattle.hy_program.specs.declared.fault.RunFault.{RunFault}
 use Rattle.hy_program.specs.declared.fault.RunFault.TheVariants as fault
 use Rattle.hy_program.specs.declared.generate.Size.{Size}
@@ -24,7 +24,7 @@ module _ (directory : List ℕ) (size : Size) (old new : Option FilesByPath) (un
     (Unprinted : Type 0) where
   -- a fault of the files of the folder is one of `gen`
   pub generate_fault : (found : FileFault) (made : RunFault) → IsAboutFiles directory found made
-      → IsUnwritten old new directory (generated_texts size) found → IsOfPlace unwritten.0 unwritten.1 directory found
+      → IsUnwritten old new directory (generated_texts size) found → IsOfSystem unwritten.0 unwritten.1 directory found
       → IsSize size → Unprinted → IsGenerateFault directory size (old, new) unwritten Unprinted made
   generate_fault (files.Refused refusal) made is memory said sized unprinted =
       subst (λ (it : RunFault). IsGenerateFault directory size (old, new) unwritten Unprinted it) (sym is)

@@ -1,7 +1,7 @@
 -- Why a command line isn't done, and what was printed then.
 use Rattle.std.proofs.Common.{◌⊎◌, ℕ, List, inl, inr}
-use Rattle.hy_words.specs.declared.words.Line.{Line}
-use Rattle.hy_words.specs.declared.words.Line.TheVariants as line
+use Rattle.hy_cli.specs.declared.words.Line.{Line}
+use Rattle.hy_cli.specs.declared.words.Line.TheVariants as line
 use Rattle.hy_program.specs.declared.fault.RunFault.{RunFault}
 use Rattle.hy_program.specs.declared.fault.RunFault.TheVariants as fault
 use Rattle.hy_program.specs.Runs.{AreRefused, AreUndone, BothPaths, IsFaultOf, KnownBytes, KnownFiles}

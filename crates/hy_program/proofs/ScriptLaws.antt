@@ -1,10 +1,10 @@
 -- Why a script isn't run.
-use Rattle.std.proofs.Common.{◌≡◌, ℕ, List, Option, Result, Ok, Err, IfErr, IsErrAnd, inl, inr, subst, sym}
+use Rattle.std.proofs.Common.{◌≡◌, ℕ, Bool, List, Option, Result, Ok, Err, IfErr, IsErrAnd, IsTrue, inl, inr, subst, sym}
 use Rattle.hy_rows.specs.Tables.{Lists}
-use Rattle.hy_place.specs.declared.directory.FileFault.{FileFault}
-use Rattle.hy_place.specs.declared.directory.FileFault.TheVariants as files
-use Rattle.hy_place.specs.Files.{FilesByPath}
-use Rattle.hy_place.specs.Loads.{AreRefused, HaveTexts, IsReadFault}
+use Rattle.hy_files.specs.declared.directory.FileFault.{FileFault}
+use Rattle.hy_files.specs.declared.directory.FileFault.TheVariants as files
+use Rattle.hy_files.specs.Files.{FilesByPath}
+use Rattle.hy_files.specs.Loads.{AreRefused, HaveTexts, IsReadFault}
 use Rattle.hy_schema.specs.declared.refusal.LoadFault.{LoadFault}
 use Rattle.hy_schema.specs.declared.refusal.Refusal.TheVariants as refusals
 use Rattle.hy_script.specs.Ends.{IsScriptFault}
@@ -13,7 +13,7 @@ use Rattle.hy_script.specs.declared.script.ScriptFault.TheVariants as scripts
 use Rattle.hy_program.specs.declared.fault.RunFault.{RunFault}
 use Rattle.hy_program.specs.declared.fault.RunFault.TheVariants as fault
 use Rattle.hy_program.specs.declared.script.Limits.{Limits}
-use Rattle.hy_program.specs.Faults.{IsOfScript}
+use Rattle.hy_program.specs.Faults.{IsBlamedRightly, IsOfScript}
 use Rattle.hy_program.specs.Script.{HasScript, IsScriptFaultOf}
 
 pub if_err : {T E : Type 0} {P Q : E → Type 0} (r : Result T E) → ((error : E) → P error → Q error) → IsErrAnd r P → IfErr r Q
@@ -31,21 +31,33 @@ broken_nine directory known found broken is why =
     ]
 
 module _ (directory file : List ℕ) (known : Option FilesByPath) where
-  pub script_fault : (limits : Limits) (lists : Lists) (script : List ℕ) (old new : Option (List ℕ)) (Unprinted : Type 0)
+  pub script_fault : (limits : Limits) (lists : Lists) (script : List ℕ) (old new : Option (List ℕ)) (Unprinted Failed : Type 0)
       → HasScript directory file known lists script → (found : ScriptFault)
-      → IsScriptFault 4_096 lists limits.frames limits.kept script old new Unprinted found
+      → IsScriptFault 4_096 lists limits.frames limits.kept script old new Unprinted Failed found
       → (made : RunFault) → IsOfScript found made → IsScriptFaultOf directory file limits known old new Unprinted made
-  script_fault limits lists script old new Unprinted has (scripts.Refused refusal) why made is =
+  script_fault limits lists script old new Unprinted Failed has (scripts.Refused refusal) why made is =
       subst (λ (it : RunFault). IsScriptFaultOf directory file limits known old new Unprinted it) (sym is) (
         elim why.0 [
-          | inl frame ↦ inr (frame, lists, script, has)
+          | inl frame ↦ inr (frame.0, lists, script, has, frame.1)
           | inr memory ↦ inl (inl memory)
         ],
         why.1,
       )
-  script_fault limits lists script old new Unprinted has (scripts.BadEvent number) why made is =
+  script_fault limits lists script old new Unprinted Failed has (scripts.BadEvent number) why made is =
       subst (λ (it : RunFault). IsScriptFaultOf directory file limits known old new Unprinted it) (sym is)
       (lists, script, has, why)
-  script_fault limits lists script old new Unprinted has (scripts.Output error) why made is =
+  script_fault limits lists script old new Unprinted Failed has (scripts.Output error) why made is =
       subst (λ (it : RunFault). IsScriptFaultOf directory file limits known old new Unprinted it) (sym is)
       (lists, script, has)
+
+-- the output is blamed for a script only where a write to it has failed
+pub blamed_rightly : (page_size : ℕ) (lists : Lists) (frames kept : ℕ) (script : List ℕ) (old new : Option (List ℕ))
+    (Unprinted : Type 0) (has_failed : Bool) (found : ScriptFault)
+    → IsScriptFault page_size lists frames kept script old new Unprinted (IsTrue has_failed) found
+    → (made : RunFault) → IsOfScript found made → IsBlamedRightly has_failed made
+blamed_rightly page_size lists frames kept script old new Unprinted has_failed (scripts.Refused refusal) why made is =
+    subst (IsBlamedRightly has_failed) (sym is) tt
+blamed_rightly page_size lists frames kept script old new Unprinted has_failed (scripts.BadEvent number) why made is =
+    subst (IsBlamedRightly has_failed) (sym is) tt
+blamed_rightly page_size lists frames kept script old new Unprinted has_failed (scripts.Output error) why made is =
+    subst (IsBlamedRightly has_failed) (sym is) why

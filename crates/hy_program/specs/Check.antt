@@ -5,8 +5,8 @@ use Rattle.std.specs.Fmt.{decimal, signed_decimal}
 use Rattle.std.specs.Io.KnownBytes.{Appends}
 use Rattle.hy_rows.specs.declared.warehouse.Warehouse.{Warehouse}
 use Rattle.hy_rows.specs.Tables.{Lists, Tables, of_warehouse}
-use Rattle.hy_place.specs.Files.{FilesByPath}
-use Rattle.hy_place.specs.Loads.{HaveTexts, IsReadFault, SayLoad}
+use Rattle.hy_files.specs.Files.{FilesByPath}
+use Rattle.hy_files.specs.Loads.{HaveTexts, IsReadFault, SayLoad}
 use Rattle.hy_program.specs.declared.fault.RunFault.{RunFault}
 use Rattle.hy_program.specs.declared.fault.RunFault.TheVariants as fault
 use Rattle.hy_program.specs.Faults.{IsOfFiles}
@@ -35,7 +35,7 @@ abbrev pub IsChecked : List ℕ → Option FilesByPath → Option (List ℕ) →
 IsChecked directory files old new =
     (lists : Lists) × HasLoad files directory lists × Appends old new (report lists.tables)
 
--- why it isn't done: the files can't be read or are no load, before anything was printed; or the writer failed
+-- why it isn't done: the files can't be read or are no load, before anything was printed; or the output failed
 abbrev pub IsCheckFault : List ℕ → Option FilesByPath → Type 0 → RunFault → Type 0
 IsCheckFault directory files unprinted (fault.Writer error) = (lists : Lists) × HasLoad files directory lists
 IsCheckFault directory files unprinted why = IsOfFiles directory (IsReadFault files directory) why × unprinted

@@ -1,11 +1,11 @@
 -- Why a command line isn't done: the texts, and what is behind them.
-use Rattle.std.specs.Prelude.{◌≡◌, ℕ, List, ◌++◌, Option, None, Some, IsSomeAnd, codes}
+use Rattle.std.specs.Prelude.{◌≡◌, ⊤, ℕ, Bool, List, ◌++◌, Option, None, Some, IsSomeAnd, IsTrue, codes}
 use Rattle.std.specs.Fmt.{decimal}
 use Rattle.std.specs.Io.KnownBytes.{Appends}
 use Rattle.hy_schema.specs.Refusals.{refusal_text}
-use Rattle.hy_place.specs.declared.directory.FileFault.{FileFault}
-use Rattle.hy_place.specs.declared.directory.FileFault.TheVariants as files
-use Rattle.hy_place.specs.Directory.{path_of}
+use Rattle.hy_files.specs.declared.directory.FileFault.{FileFault}
+use Rattle.hy_files.specs.declared.directory.FileFault.TheVariants as files
+use Rattle.hy_files.specs.Directory.{path_of}
 use Rattle.hy_script.specs.declared.script.ScriptFault.{ScriptFault}
 use Rattle.hy_script.specs.declared.script.ScriptFault.TheVariants as scripts
 use Rattle.hy_program.specs.declared.fault.FilePath.{FilePath}
@@ -15,7 +15,7 @@ use Rattle.hy_program.specs.declared.fault.RunFault.TheVariants as fault
 abbrev pub path_text : FilePath → List ℕ
 path_text path = path_of path.directory.now path.table
 
--- the text of a fault; that of a writer's error isn't known to a clause
+-- the text of a fault; that of an output's error isn't known to a clause
 abbrev pub fault_text : RunFault → Option (List ℕ)
 fault_text (fault.Refused refusal) = Some (codes "refused " ++ refusal_text refusal)
 fault_text (fault.CannotRead path) = Some (codes "cannot read " ++ path_text path)
@@ -23,6 +23,15 @@ fault_text (fault.CannotWrite path) = Some (codes "cannot write " ++ path_text p
 fault_text (fault.CannotReadFile path) = Some (codes "cannot read " ++ path.now)
 fault_text (fault.BadEvent number) = Some (codes "bad event on line " ++ decimal number)
 fault_text (fault.Writer error) = None
+
+-- the first output is blamed only where a write to it has failed
+abbrev pub IsBlamedRightly : Bool → RunFault → Type 0
+IsBlamedRightly has_failed (fault.Writer error) = IsTrue has_failed
+IsBlamedRightly has_failed (fault.Refused refusal) = ⊤
+IsBlamedRightly has_failed (fault.CannotRead path) = ⊤
+IsBlamedRightly has_failed (fault.CannotReadFile path) = ⊤
+IsBlamedRightly has_failed (fault.BadEvent number) = ⊤
+IsBlamedRightly has_failed (fault.CannotWrite path) = ⊤
 
 -- the line of the fault stands behind the bytes that were there
 abbrev pub Explains : RunFault → Option (List ℕ) → Option (List ℕ) → Type 0

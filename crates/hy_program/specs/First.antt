@@ -88,7 +88,7 @@ abbrev pub IsFirstPrinted : ℕ → Option (List ℕ) → Option (List ℕ) → 
 IsFirstPrinted amount old new =
     (ytd : ℤ) × IsYtdAfter amount ytd × Appends old new (codes "ytd " ++ signed_decimal ytd ++ codes "\n")
 
--- why it isn't done: it is refused, before anything was printed; or the writer failed
+-- why it isn't done: it is refused, before anything was printed; or the output failed
 abbrev pub IsFirstFault : ℕ → Type 0 → RunFault → Type 0
 IsFirstFault amount unprinted (fault.Refused refusal) = IsFirstRefusal amount refusal × unprinted
 IsFirstFault amount unprinted (fault.Writer error) = first_refusal_of amount ≡ None

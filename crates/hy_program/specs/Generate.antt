@@ -4,10 +4,10 @@ use Rattle.std.specs.Io.KnownBytes.{Appends}
 use Rattle.hy_schema.specs.declared.refusal.Refusal.TheVariants as refusals
 use Rattle.hy_tables.specs.Files.{texts_of}
 use Rattle.hy_tables.specs.Generated.{generated_lists, is_size}
-use Rattle.hy_place.specs.Directory.{AreFiles, tables}
-use Rattle.hy_place.specs.declared.directory.FileFault.{FileFault}
-use Rattle.hy_place.specs.Faults.{EndsSomewhere, IsOfPlace, IsUnwritten}
-use Rattle.hy_place.specs.Files.{FilesByPath, KnownPaths}
+use Rattle.hy_files.specs.Directory.{AreFiles, tables}
+use Rattle.hy_files.specs.declared.directory.FileFault.{FileFault}
+use Rattle.hy_files.specs.Faults.{EndsSomewhere, IsOfSystem, IsUnwritten}
+use Rattle.hy_files.specs.Files.{FilesByPath, KnownPaths}
 use Rattle.hy_program.specs.declared.fault.RunFault.{RunFault}
 use Rattle.hy_program.specs.declared.fault.RunFault.TheVariants as fault
 use Rattle.hy_program.specs.declared.generate.Size.{Size}
@@ -26,13 +26,13 @@ abbrev pub IsGenerated : List ℕ → Size → Option FilesByPath → Option (Li
 IsGenerated directory size files old new =
     AreFiles files directory tables (generated_texts size) × Appends old new (codes "wrote 9 tables\n")
 
--- a file of the folder can't be written, as the place said
+-- a file of the folder can't be written, as the file system said
 abbrev pub IsUnwrittenAt : List ℕ → Size → Option FilesByPath × Option FilesByPath → KnownPaths × KnownPaths → FileFault → Type 0
 IsUnwrittenAt directory size files unwritten found =
-    IsUnwritten files.0 files.1 directory (generated_texts size) found × IsOfPlace unwritten.0 unwritten.1 directory found
+    IsUnwritten files.0 files.1 directory (generated_texts size) found × IsOfSystem unwritten.0 unwritten.1 directory found
 
 -- why it isn't done: the size is out of range, and no file changed; memory is refused or a file can't be written, with
--- the files before it written and those behind it as they were, before anything was printed; or the writer failed. The
+-- the files before it written and those behind it as they were, before anything was printed; or the output failed. The
 -- files, and the paths that couldn't be written, are those before and those after
 abbrev pub IsGenerateFault : List ℕ → Size → Option FilesByPath × Option FilesByPath → KnownPaths × KnownPaths → Type 0 → RunFault → Type 0
 IsGenerateFault directory size files unwritten unprinted (fault.Writer error) =

@@ -2,11 +2,11 @@
 -- what was there before, and what is there after it, as far as they are known.
 use Rattle.std.specs.Prelude.{◌≡◌, ◌⊎◌, ℕ, List, Option}
 use Rattle.hy_schema.specs.declared.refusal.Refusal.TheVariants as refusals
-use Rattle.hy_place.specs.Directory.{KeepsOtherFiles, tables}
-use Rattle.hy_place.specs.Files.{AddsPath, FilesByPath, KnownPaths}
-use Rattle.hy_words.specs.CommandLine.{Says}
-use Rattle.hy_words.specs.declared.words.Line.{Line}
-use Rattle.hy_words.specs.declared.words.Line.TheVariants as line
+use Rattle.hy_files.specs.Directory.{KeepsOtherFiles, tables}
+use Rattle.hy_files.specs.Files.{AddsPath, FilesByPath, KnownPaths}
+use Rattle.hy_cli.specs.CommandLine.{Says}
+use Rattle.hy_cli.specs.declared.words.Line.{Line}
+use Rattle.hy_cli.specs.declared.words.Line.TheVariants as line
 use Rattle.hy_program.specs.declared.ending.Ending.{Ending}
 use Rattle.hy_program.specs.declared.ending.Ending.TheVariants as ending
 use Rattle.hy_program.specs.declared.fault.RunFault.{RunFault}
@@ -93,7 +93,7 @@ abbrev pub Completes : List (List ℕ) → KnownFiles → KnownBytes → Type 0
 Completes words files bytes = (line : Line) × Says words line × IsDone line files bytes
 
 -- this is why the words aren't done, and this is what there is then: memory was refused while they were read, and nothing
--- was done or printed; or their command line isn't done, and the files and the first writer have what it leaves for that
+-- was done or printed; or their command line isn't done, and the files and the first output have what it leaves for that
 -- reason
 abbrev pub AreUndone : List (List ℕ) → KnownFiles → BothPaths → KnownBytes → Type 0 → RunFault → Type 0
 AreUndone words files unwritten bytes unprinted why =
@@ -101,12 +101,12 @@ AreUndone words files unwritten bytes unprinted why =
     ⊎ ((line : Line) × Says words line × ((files.1 ≡ files.0) ⊎ MayWrite line files)
     × IsFaultOf line files unwritten bytes unprinted why)
 
--- the words aren't done for one reason, and the line that says it stands behind the bytes of the second writer
+-- the words aren't done for one reason, and the line that says it stands behind the bytes of the second output
 abbrev pub AreRefused : List (List ℕ) → KnownFiles → BothPaths → KnownBytes → Type 0 → KnownBytes → Type 0
 AreRefused words files unwritten bytes unprinted second =
     (why : RunFault) × AreUndone words files unwritten bytes unprinted why × Explains why second.0 second.1
 
--- the same, and what the second writer has isn't known
+-- the same, and what the second output has isn't known
 abbrev pub AreUndoneSilently : List (List ℕ) → KnownFiles → BothPaths → KnownBytes → Type 0 → Type 0
 AreUndoneSilently words files unwritten bytes unprinted =
     (why : RunFault) × AreUndone words files unwritten bytes unprinted why

@@ -3,10 +3,11 @@ use Rattle.std.specs.Prelude.{◌≡◌, ◌⊎◌, ℕ, List, Option, None, Som
 use Rattle.std.specs.declared.io.Error.{Error}
 use Rattle.hy_schema.specs.declared.refusal.Refusal.TheVariants as refusals
 use Rattle.hy_rows.specs.Tables.{Lists}
-use Rattle.hy_place.specs.Directory.{AreFiles, IsFirstMissing, tables}
-use Rattle.hy_place.specs.Files.{FilesByPath, HasFile, IsMissing, IsOutOfMemory}
-use Rattle.hy_place.specs.Loads.{AreRefused, HaveTexts}
+use Rattle.hy_files.specs.Directory.{AreFiles, IsFirstMissing, tables}
+use Rattle.hy_files.specs.Files.{FilesByPath, HasFile, IsMissing, IsOutOfMemory}
+use Rattle.hy_files.specs.Loads.{AreRefused, HaveTexts}
 use Rattle.hy_script.specs.Scripts.{IsPrinted}
+use Rattle.hy_script.specs.Steps.{SomeIsShort}
 use Rattle.hy_program.specs.declared.fault.RunFault.{RunFault}
 use Rattle.hy_program.specs.declared.fault.RunFault.TheVariants as fault
 use Rattle.hy_program.specs.declared.script.Limits.{Limits}
@@ -50,8 +51,8 @@ IsReadAllFault directory file files (fault.Refused refusal) =
     ⊎ (((script : List ℕ) × HasFile files file script) × HaveTexts files directory (AreRefused refusal))
 IsReadAllFault directory file files why = ⊥
 
--- why it isn't done: the files can't be read or are no load, or the partitions can't be made, before anything was
--- printed; an event is bad, behind the answers to those before it; or the writer failed
+-- why it isn't done: the files can't be read or are no load, or a warehouse lacks frames for its rows, before anything
+-- was printed; an event is bad, behind the answers to those before it; or the output failed
 abbrev pub IsScriptFaultOf : List ℕ → List ℕ → Limits → Option FilesByPath → Option (List ℕ) → Option (List ℕ) → Type 0
     → RunFault → Type 0
 IsScriptFaultOf directory file limits files old new unprinted (fault.BadEvent number) =
@@ -61,6 +62,7 @@ IsScriptFaultOf directory file limits files old new unprinted (fault.Writer erro
     (lists : Lists) × (script : List ℕ) × HasScript directory file files lists script
 IsScriptFaultOf directory file limits files old new unprinted (fault.Refused refusal) =
     (IsReadAllFault directory file files (fault.Refused refusal)
-    ⊎ ((refusal ≡ refusals.NoFrame) × (lists : Lists) × (script : List ℕ) × HasScript directory file files lists script))
+    ⊎ ((refusal ≡ refusals.NoFrame) × (lists : Lists) × (script : List ℕ) × HasScript directory file files lists script
+    × SomeIsShort 4_096 lists limits.frames))
     × unprinted
 IsScriptFaultOf directory file limits files old new unprinted why = IsReadAllFault directory file files why × unprinted

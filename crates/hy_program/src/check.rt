@@ -2,29 +2,31 @@
 
 ghost use Rattle.std.specs.Prelude.{◌≡◌, IfErr, IfOk, OnOk, length, string_bytes};
 ghost use Rattle.hy_rows.specs.Tables.{of_warehouse};
+ghost use Rattle.hy_program.specs.Faults.{IsBlamedRightly};
 ghost use Rattle.hy_program.specs.Check.{IsCheckFault, IsChecked, line_of, report, warehouse_line};
 
 use crate::fault::RunFault;
-use hy_place::{Place, read_load};
+use hy_files::{FileSystem, read_load};
+use hy_output::Output;
 use hy_rows::{Tables, Warehouse};
 use std::alloc::{AllocError, Global};
-use std::io;
 
 /// Tests the load in the files of a folder, and writes a line for each warehouse and one for the consistency
 /// conditions.
-pub fn run_check<'a, F: Place, O: io::Write>(
+pub fn run_check<'a, F: FileSystem, O: Output>(
     alloc: Global,
     directory: &'a str,
-    place: &mut F,
+    system: &mut F,
     out: &mut O,
 ) -> Result<(), RunFault<'a>>
-    ensures files { F.files place.new ≡ F.files place.old }
-    ensures folders { F.folders place.new ≡ F.folders place.old }
+    ensures files { F.files system.new ≡ F.files system.old }
+    ensures folders { F.folders system.new ≡ F.folders system.old }
     ensures done { OnOk result
-        (IsChecked directory.entry.now (F.files place.old) (O.contents out.old) (O.contents out.new)) }
-    ensures fault { IfErr result (IsCheckFault directory.entry.now (F.files place.old) (out.new ≡ out.old)) }
+        (IsChecked directory.entry.now (F.files system.old) (O.contents out.old) (O.contents out.new)) }
+    ensures fault { IfErr result (IsCheckFault directory.entry.now (F.files system.old) (out.new ≡ out.old)) }
+    ensures failed { IfErr result (IsBlamedRightly (O.has_failed out.new)) }
 {
-    let load = match read_load(alloc, place, directory) {
+    let load = match read_load(alloc, system, directory) {
         Ok(load) => load,
         Err(found) => return Err(RunFault::of_files(directory, found)),
     };

@@ -11,11 +11,11 @@ use std::process::ExitCode;
 pub enum Ending {
     /// What the words say was done.
     Done,
-    /// It was refused, and the second writer has the refusal.
+    /// It was refused, and the second output has the refusal.
     Refused,
-    /// A writer failed.
+    /// A write to one of the outputs failed.
     WriterFailed,
-    /// The words are no command line, or ask for help, and the second writer has the parser's text.
+    /// The words are no command line, or ask for help, and the second output has the parser's text.
     NoLine,
 }
 

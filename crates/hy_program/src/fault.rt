@@ -1,11 +1,11 @@
 //! Why a command line isn't done.
 
-ghost use Rattle.std.specs.Prelude.{◌≡◌, Some};
+ghost use Rattle.std.specs.Prelude.{◌≡◌, Bool, Some};
 ghost use Rattle.hy_schema.specs.declared.refusal.Refusal.TheVariants as refusals;
 ghost use Rattle.hy_program.specs.declared.fault.RunFault.TheVariants as fault;
-ghost use Rattle.hy_program.specs.Faults.{IsAboutFiles, IsOfScript, fault_text, path_text};
+ghost use Rattle.hy_program.specs.Faults.{IsAboutFiles, IsBlamedRightly, IsOfScript, fault_text, path_text};
 
-use hy_place::{FileFault, file_name};
+use hy_files::{FileFault, file_name};
 use hy_schema::{Refusal, Table};
 use hy_script::ScriptFault;
 use std::alloc::AllocError;
@@ -43,14 +43,15 @@ pub enum RunFault<'a> {
     BadEvent(u64),
     /// A file can't be written.
     CannotWrite(FilePath<'a>),
-    /// The writer of what is found failed.
+    /// The output for what is found failed.
     Writer(io::Error),
 }
 
 impl<'a> RunFault<'a> {
     /// What a fault of the files of a folder is for a command line.
     pub fn of_files(directory: &'a str, found: FileFault) -> RunFault<'a>
-        ensures { IsAboutFiles directory.entry.now found result }
+        ensures about { IsAboutFiles directory.entry.now found result }
+        ensures unblamed { (has_failed : Bool) → IsBlamedRightly has_failed result }
     {
         match found {
             FileFault::Refused(refusal) => RunFault::Refused(refusal),

@@ -3,6 +3,7 @@
 ghost use Rattle.std.specs.Prelude.{◌≡◌, ◌⊎◌, ◌∷◌, [], length, IfErr, IfOk, IsSomeAnd, OnOk};
 ghost use Rattle.hy_schema.specs.declared.refusal.Refusal.{Refusal};
 ghost use Rattle.hy_partition.specs.Steps.{Accepts, Refuses};
+ghost use Rattle.hy_program.specs.Faults.{IsBlamedRightly};
 ghost use Rattle.hy_program.specs.First.{HasTwoSlices, IsFirstFault, IsFirstPrinted, IsFirstRefusal, IsPaid, IsPayRefusal, IsYtdAfter, first_payment, ytds, ytds_of};
 ghost use Rattle.hy_partition.specs.Partition.{rows_now};
 ghost use Rattle.hy_undo.specs.UndoLog.{empty_log};
@@ -10,12 +11,12 @@ ghost use Rattle.hy_undo.specs.UndoLog.{empty_log};
 use crate::PAGE_BYTES;
 use crate::fault::RunFault;
 use hy_commands::{Command, Payment, Reply, Who};
+use hy_output::Output;
 use hy_partition::{Job, Partition, Progress, Snapshot};
 use hy_rows::Warehouse;
 use hy_schema::Refusal;
 use hy_tables::generate;
 use std::alloc::Global;
-use std::io;
 
 /// How many frames the partition may have.
 const MAX_FRAMES: u64 = 100_000;
@@ -30,13 +31,10 @@ const WAREHOUSE: u8 = 1;
 const CUSTOMERS: u64 = 3;
 
 /// Runs one payment on a generated warehouse, and writes W_YTD after it.
-pub fn run_first<'a, O: io::Write>(
-    alloc: Global,
-    amount: u64,
-    out: &mut O,
-) -> Result<(), RunFault<'a>>
+pub fn run_first<'a, O: Output>(alloc: Global, amount: u64, out: &mut O) -> Result<(), RunFault<'a>>
     ensures done { OnOk result (IsFirstPrinted amount (O.contents out.old) (O.contents out.new)) }
     ensures fault { IfErr result (IsFirstFault amount (out.new ≡ out.old)) }
+    ensures failed { IfErr result (IsBlamedRightly (O.has_failed out.new)) }
 {
     let ytd = first(alloc, amount)?;
     writeln!(out, "ytd {ytd}")?;

@@ -1,4 +1,4 @@
-//! The program `hyper` over any place of files and any two writers: what its command lines do and print, and how a run
+//! The program `hyper` over any file system and any two outputs: what its command lines do and print, and how a run
 //! ends.
 #![tactic(auto)]
 

@@ -1,10 +1,10 @@
 //! The program, from its words to the way in which it ended.
 
-ghost use Rattle.std.specs.Prelude.{◌≡◌, ◌⊎◌, IfErr, OnOk};
-ghost use Rattle.hy_words.specs.CommandLine.{AreTaken, HasLimits, texts_of};
-ghost use Rattle.hy_words.specs.declared.words.Line.TheVariants as line;
+ghost use Rattle.std.specs.Prelude.{◌≡◌, ◌⊎◌, Bool, IfErr, IsTrue, OnOk};
+ghost use Rattle.hy_cli.specs.CommandLine.{AreTaken, HasLimits, texts_of};
+ghost use Rattle.hy_cli.specs.declared.words.Line.TheVariants as line;
 ghost use Rattle.hy_program.specs.declared.ending.Ending.{Ending};
-ghost use Rattle.hy_program.specs.Faults.{Explains};
+ghost use Rattle.hy_program.specs.Faults.{Explains, IsBlamedRightly};
 ghost use Rattle.hy_program.specs.Runs.{AreRefused, AreUndoneSilently, Completes, HasMade, HaveMade, IsDone, IsFaultOf, KeepsFiles, KeepsFolders, MayMake, MayWrite};
 
 use crate::check::run_check;
@@ -13,51 +13,55 @@ use crate::fault::RunFault;
 use crate::first::run_first;
 use crate::generate::{Size, run_generate};
 use crate::script::{Limits, run_script_file};
-use hy_place::Place;
+use hy_cli::{Line, LineFault, read_words};
+use hy_files::FileSystem;
+use hy_output::{Output, Take};
 use hy_schema::Refusal;
-use hy_words::{Line, LineFault, read_words};
 use std::alloc::Global;
-use std::io;
 
-/// The program: does what the words after its name say. Files are read and written at `place`. What is found is
+/// The program: does what the words after its name say. Files are read and written in `system`. What is found is
 /// written to `out`, and why it isn't done to `err`.
-pub fn run_words<F: Place, O: io::Write, X: io::Write>(
+pub fn run_words<F: FileSystem, O: Output + Take + Drop, X: Output>(
     alloc: Global,
     words: &[&str],
-    place: &mut F,
+    system: &mut F,
     out: &mut O,
     err: &mut X,
 ) -> Ending
-    ensures files { KeepsFiles (texts_of words.entry.now) (F.files place.old, F.files place.new) }
+    ensures files { KeepsFiles (texts_of words.entry.now) (F.files system.old, F.files system.new) }
 
-    ensures folders { KeepsFolders (texts_of words.entry.now) (F.folders place.old, F.folders place.new) }
+    ensures folders { KeepsFolders (texts_of words.entry.now) (F.folders system.old, F.folders system.new) }
 
     ensures done { result ≡ Ending.Done →
-        Completes (texts_of words.entry.now) (F.files place.old, F.files place.new)
+        Completes (texts_of words.entry.now) (F.files system.old, F.files system.new)
         (O.contents out.old, O.contents out.new) }
     ensures made { result ≡ Ending.Done →
-        HaveMade (texts_of words.entry.now) (F.folders place.old, F.folders place.new) }
+        HaveMade (texts_of words.entry.now) (F.folders system.old, F.folders system.new) }
     ensures done_without_words { result ≡ Ending.Done → err.new ≡ err.old }
 
-    // One reason says what stands on both writers, and what the files are.
+    // One reason says what stands on both outputs, and what the files are.
     ensures refused { result ≡ Ending.Refused →
-        AreRefused (texts_of words.entry.now) (F.files place.old, F.files place.new)
-        (F.unwritten place.old, F.unwritten place.new) (O.contents out.old, O.contents out.new) (out.new ≡ out.old)
+        AreRefused (texts_of words.entry.now) (F.files system.old, F.files system.new)
+        (F.unwritten system.old, F.unwritten system.new) (O.contents out.old, O.contents out.new) (out.new ≡ out.old)
         (X.contents err.old, X.contents err.new) }
 
-    // The parser's text couldn't be written, or there is such a reason: a writer's failure, or one that couldn't be explained.
+    // The parser's text couldn't be written, or there is such a reason: an output's failure, or one that couldn't be explained.
     ensures writer_failed { result ≡ Ending.WriterFailed →
-        ((¬ (AreTaken (texts_of words.entry.now))) × (place.new ≡ place.old) × (out.new ≡ out.old))
-        ⊎ AreUndoneSilently (texts_of words.entry.now) (F.files place.old, F.files place.new)
-        (F.unwritten place.old, F.unwritten place.new) (O.contents out.old, O.contents out.new) (out.new ≡ out.old) }
+        ((¬ (AreTaken (texts_of words.entry.now))) × (system.new ≡ system.old) × (out.new ≡ out.old))
+        ⊎ AreUndoneSilently (texts_of words.entry.now) (F.files system.old, F.files system.new)
+        (F.unwritten system.old, F.unwritten system.new) (O.contents out.old, O.contents out.new) (out.new ≡ out.old) }
+
+    // A write to one of the two has failed.
+    ensures failed { result ≡ Ending.WriterFailed →
+        IsTrue (O.has_failed out.new) ⊎ IsTrue (X.has_failed err.new) }
 
     ensures at_fault { result ≡ Ending.NoLine → ¬ (AreTaken (texts_of words.entry.now)) }
-    ensures no_line { result ≡ Ending.NoLine → (place.new ≡ place.old) × (out.new ≡ out.old) }
+    ensures no_line { result ≡ Ending.NoLine → (system.new ≡ system.old) × (out.new ≡ out.old) }
     ensures untaken { ¬ (AreTaken (texts_of words.entry.now)) →
-        (place.new ≡ place.old) × (out.new ≡ out.old) }
+        (system.new ≡ system.old) × (out.new ≡ out.old) }
 {
     match read_words(alloc, words) {
-        Ok(line) => match run_line(alloc, line, place, out) {
+        Ok(line) => match run_line(alloc, line, system, out) {
             Ok(()) => Ending::Done,
             Err(fault) => explain(fault, err),
         },
@@ -70,10 +74,12 @@ pub fn run_words<F: Place, O: io::Write, X: io::Write>(
 }
 
 /// Writes the line that says why a command line isn't done.
-fn explain<X: io::Write>(fault: RunFault<'_>, err: &mut X) -> Ending
+fn explain<X: Output>(fault: RunFault<'_>, err: &mut X) -> Ending
     ensures refused { result ≡ Ending.Refused →
         Explains fault.entry (X.contents err.old) (X.contents err.new) }
     ensures otherwise { (result ≡ Ending.Refused) ⊎ (result ≡ Ending.WriterFailed) }
+    ensures failed { (has_failed : Bool) → IsBlamedRightly has_failed fault.entry → result ≡ Ending.WriterFailed →
+        IsTrue has_failed ⊎ IsTrue (X.has_failed err.new) }
 {
     let ending = match fault {
         RunFault::Writer(_) => Ending::WriterFailed,
@@ -86,23 +92,24 @@ fn explain<X: io::Write>(fault: RunFault<'_>, err: &mut X) -> Ending
 }
 
 /// Does what a command line says.
-fn run_line<'a, F: Place, O: io::Write>(
+fn run_line<'a, F: FileSystem, O: Output + Take + Drop>(
     alloc: Global,
     line: Line<'a>,
-    place: &mut F,
+    system: &mut F,
     out: &mut O,
 ) -> Result<(), RunFault<'a>>
     requires { HasLimits line }
-    ensures files { (F.files place.new ≡ F.files place.old)
-        ⊎ MayWrite line.entry (F.files place.old, F.files place.new) }
-    ensures folders { (F.folders place.new ≡ F.folders place.old)
-        ⊎ MayMake line.entry (F.folders place.old, F.folders place.new) }
-    ensures made { OnOk result (HasMade line.entry (F.folders place.old, F.folders place.new)) }
+    ensures files { (F.files system.new ≡ F.files system.old)
+        ⊎ MayWrite line.entry (F.files system.old, F.files system.new) }
+    ensures folders { (F.folders system.new ≡ F.folders system.old)
+        ⊎ MayMake line.entry (F.folders system.old, F.folders system.new) }
+    ensures made { OnOk result (HasMade line.entry (F.folders system.old, F.folders system.new)) }
     ensures done { OnOk result
-        (IsDone line.entry (F.files place.old, F.files place.new) (O.contents out.old, O.contents out.new)) }
+        (IsDone line.entry (F.files system.old, F.files system.new) (O.contents out.old, O.contents out.new)) }
     ensures fault { IfErr result
-        (IsFaultOf line.entry (F.files place.old, F.files place.new) (F.unwritten place.old, F.unwritten place.new)
+        (IsFaultOf line.entry (F.files system.old, F.files system.new) (F.unwritten system.old, F.unwritten system.new)
         (O.contents out.old, O.contents out.new) (out.new ≡ out.old)) }
+    ensures failed { IfErr result (IsBlamedRightly (O.has_failed out.new)) }
 {
     match line {
         Line::First { amount } => run_first(alloc, amount, out),
@@ -117,9 +124,9 @@ fn run_line<'a, F: Place, O: io::Write>(
                 customers,
                 items,
             };
-            run_generate(alloc, directory, size, place, out)
+            run_generate(alloc, directory, size, system, out)
         }
-        Line::Check { directory } => run_check(alloc, directory, place, out),
+        Line::Check { directory } => run_check(alloc, directory, system, out),
         Line::Script {
             directory,
             file,
@@ -127,7 +134,7 @@ fn run_line<'a, F: Place, O: io::Write>(
             kept,
         } => {
             let limits = Limits { frames, kept };
-            run_script_file(alloc, directory, file, limits, place, out)
+            run_script_file(alloc, directory, file, limits, system, out)
         }
     }
 }

@@ -4,7 +4,7 @@ use Rattle.std.proofs.Math.Nat.{div-mul-le_self}
 use Rattle.std.proofs.lemmas.Nat.{le-div}
 use Rattle.hy_rows.specs.Spelling.{slot_width, slots_per_page, used_slots}
 use Rattle.hy_relation.specs.Relation.{HasFewPages}
-use Rattle.hy_relation.specs.inside.Places.{slot_page}
+use Rattle.hy_relation.specs.inside.Addresses.{slot_page}
 use Rattle.hy_relation.proofs.SlotLaws.{some_slots}
 
 -- where no page comes and no slot goes

@@ -9,7 +9,7 @@ use Rattle.hy_page.specs.Bytes.{bytes_at, bytes_of, overwritten}
 use Rattle.hy_page.proofs.ByteLaws.{field_written}
 use Rattle.hy_rows.specs.Rows.{number_at}
 use Rattle.hy_rows.specs.Spelling.{list_at, slot_at, slot_bytes, slot_width, slots_per_page, used_slots}
-use Rattle.hy_relation.specs.inside.Places.{CountsSlots, GrowsSlots, WritesSlot, slot_offset, slot_page}
+use Rattle.hy_relation.specs.inside.Addresses.{CountsSlots, GrowsSlots, WritesSlot, slot_offset, slot_page}
 
 -- each page has so many bytes
 abbrev pub Sized : ℕ → List (List ℕ) → Type 0

@@ -11,7 +11,7 @@ use Rattle.hy_page.proofs.ByteLaws.{field_of_zeros}
 use Rattle.hy_rows.proofs.FirstItems.{get_or-first_items, length-first_items}
 use Rattle.hy_rows.specs.Spelling.{HasSlots, live_rows, row_of_slot, slot_at, slot_bytes, slot_start, slot_width, slots_of, slots_per_page, used_slots}
 use Rattle.hy_relation.specs.Relation.{HasAllSlotsUsed, IsLive, pages_after_push}
-use Rattle.hy_relation.specs.inside.Places.{CountsSlots, GrowsSlots, WritesSlot, slot_page}
+use Rattle.hy_relation.specs.inside.Addresses.{CountsSlots, GrowsSlots, WritesSlot, slot_page}
 use Rattle.hy_relation.proofs.SlotLaws.{slots_in, slots_in-behind, slots_in-erased, slots_in-filled, slots_in-grown, slots_in-pushed, some_slots, start-within}
 use Rattle.hy_relation.proofs.PageLaws.{Sized, length-slot_bytes}
 

@@ -9,7 +9,7 @@ use Rattle.hy_rows.specs.Spelling.{HasSlots, list_at, slot_width, slots_per_page
 use Rattle.hy_space.specs.Space.{SpaceState, HasPage, IsSound, owner_bytes}
 use Rattle.hy_undo.proofs.PrivatePageLaws.{length-segment-owner_bytes}
 use Rattle.hy_relation.specs.Relation.{ChangesSegment, owner_pages}
-use Rattle.hy_relation.specs.inside.Places.{slot_page}
+use Rattle.hy_relation.specs.inside.Addresses.{slot_page}
 use Rattle.hy_relation.proofs.PageLaws.{Sized}
 use Rattle.hy_relation.proofs.SlotLaws.{some_slots}
 

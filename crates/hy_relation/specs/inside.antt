@@ -1,2 +1,2 @@
 -- What the private functions and the proofs of this crate speak of, and no public contract.
-pub mod Places
+pub mod Addresses

@@ -4,7 +4,7 @@ ghost use Rattle.std.specs.Prelude.{◌≡◌, ◌+◌, ◌^◌, ◌<◌, ◌≤
 ghost use Rattle.hy_rows.specs.Spelling.{HasSlots, slots_of, used_slots};
 ghost use Rattle.hy_relation.specs.Relation.{row_in};
 
-use crate::place::place_of;
+use crate::address::address_of;
 use crate::slots::row_at;
 use hy_frames::Hold;
 use hy_rows::Row;
@@ -39,6 +39,6 @@ pub(crate) fn row_on<R: Row, const N: usize>(pages: &[Hold<N>], slot: u64) -> Op
     requires small { N ≤ 65536 }
     ensures { result ≡ row_in (slots_of N R.BYTES R.row_of_bytes pages.now) slot }
 {
-    let place = place_of(N, R::BYTES, slot);
-    row_at(pages[place.page as usize].page(), place.offset)
+    let address = address_of(N, R::BYTES, slot);
+    row_at(pages[address.page as usize].page(), address.offset)
 }

@@ -1,8 +1,8 @@
 //! The rows of one table on the pages of its segment.
 #![tactic(auto)]
 
+mod address;
 mod lent;
-mod place;
 mod relation;
 mod slots;
 

@@ -8,9 +8,9 @@ ghost use Rattle.hy_space.specs.Space.{HasPage, IsOwn, owner_bytes};
 ghost use Rattle.hy_undo.specs.PrivatePages.{IsUndoLog};
 ghost use Rattle.hy_undo.specs.Writes.{CanUndo, CanUndoGrowth, IsOutOfFrames};
 ghost use Rattle.hy_relation.specs.Relation.{ChangesSegment, HasAllSlotsUsed, HasFewPages, HasRelation, owner_pages, pages_after_push};
-ghost use Rattle.hy_relation.specs.inside.Places.{CountsSlots, GrowsSlots, WritesSlot, slot_offset, slot_page};
+ghost use Rattle.hy_relation.specs.inside.Addresses.{CountsSlots, GrowsSlots, WritesSlot, slot_offset, slot_page};
 
-use crate::place::{Place, place_of};
+use crate::address::{Address, address_of};
 use hy_frames::Shortage;
 use hy_page::Page;
 use hy_rows::{Row, SlotBytes};
@@ -36,7 +36,7 @@ pub(crate) fn know_few<R: Row, const N: usize>(space: &Space<N>)
 }
 
 /// Where a used slot lies.
-fn place_in<R: Row, const N: usize>(space: &Space<N>, slot: u64) -> Place
+fn address_in<R: Row, const N: usize>(space: &Space<N>, slot: u64) -> Address
     requires slots { HasRelation N R.SEGMENT R.BYTES space.now }
     requires used { slot < used_slots (owner_pages space.now R.SEGMENT) }
     ensures page { result.page ≡ slot_page N R.BYTES slot }
@@ -46,10 +46,10 @@ fn place_in<R: Row, const N: usize>(space: &Space<N>, slot: u64) -> Place
     ensures small { result.page < 2 ^ 32 }
 {
     space.sound();
-    place_of(N, R::BYTES, slot)
+    address_of(N, R::BYTES, slot)
 }
 
-/// The row of the slot at a place of a page, if the slot is live.
+/// The row of the slot at an offset of a page, if the slot is live.
 pub(crate) fn row_at<R: Row, const N: usize>(page: &Page<N>, offset: usize) -> Option<R>
     requires { offset + slot_width R.BYTES ≤ N }
     ensures { result ≡ row_of_slot R.row_of_bytes (bytes_at page.now offset (slot_width R.BYTES)) }
@@ -69,8 +69,8 @@ pub(crate) fn row_in<R: Row, const N: usize>(space: &Space<N>, slot: u64) -> Opt
     ensures { result ≡ row_of_slot R.row_of_bytes (slot_at N R.BYTES (owner_pages space.now R.SEGMENT) slot) }
 {
     space.sound();
-    let place = place_in::<R, N>(space, slot);
-    row_at(space.page(R::SEGMENT, place.page as u32), place.offset)
+    let address = address_in::<R, N>(space, slot);
+    row_at(space.page(R::SEGMENT, address.page as u32), address.offset)
 }
 
 /// The bytes of a live slot.
@@ -108,8 +108,8 @@ pub(crate) fn write_slot<R: Row, const N: usize>(
     ensures err { OnErr result ((undo.new ≡ undo.old) × (space.new ≡ space.old)) }
 {
     space.sound();
-    let place = place_of(N, R::BYTES, slot);
-    undo.write(space, R::SEGMENT, place.page as u32, place.offset, bytes)
+    let at = address_of(N, R::BYTES, slot);
+    undo.write(space, R::SEGMENT, at.page as u32, at.offset, bytes)
 }
 
 /// Writes how many slots are used.
@@ -158,8 +158,8 @@ pub(crate) fn make_room<R: Row, const N: usize>(
 {
     space.sound();
     let used = used_of::<R, N>(space);
-    let place = place_of(N, R::BYTES, used);
-    if place.page == u64::from(space.pages(R::SEGMENT)) {
+    let address = address_of(N, R::BYTES, used);
+    if address.page == u64::from(space.pages(R::SEGMENT)) {
         undo.grow(space, R::SEGMENT)?;
     }
     Ok(())

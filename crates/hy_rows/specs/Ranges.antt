@@ -68,6 +68,12 @@ pub record IsCustomerInRange (row : Customer) : Type 0 where
   pub payment_count : row.payment_count ≤ max_count
   pub delivery_count : row.delivery_count ≤ max_count
 
+-- the numbers of the customer, of the district and of their warehouses are in range
+abbrev pub HasHistoryKey : History → Type 0
+HasHistoryKey row = IsBetween 1 max_customers row.customer × IsBetween 1 districts_per_warehouse row.customer_district
+    × IsBetween 1 max_warehouses row.customer_warehouse × IsBetween 1 districts_per_warehouse row.district
+    × IsBetween 1 max_warehouses row.warehouse
+
 pub record IsHistoryInRange (row : History) : Type 0 where
   pub customer : IsBetween 1 max_customers row.customer
   pub customer_district : IsBetween 1 districts_per_warehouse row.customer_district

@@ -1,6 +1,7 @@
 //! Rows of HISTORY.
 
 ghost use Rattle.std.specs.Prelude.{◌↔◌, IsTrue};
+ghost use Rattle.hy_rows.specs.Ranges.{HasHistoryKey};
 
 use crate::codec::{
     SlotBytes, push_number, push_signed, push_text, read_number, read_signed, read_text,
@@ -125,12 +126,7 @@ impl History {
 
     /// Whether the numbers of the customer, of the district and of their warehouses are in range.
     fn has_key_in_range(&self) -> bool
-        ensures { IsTrue result
-            ↔ (IsBetween 1 max_customers self.now.customer
-            × IsBetween 1 districts_per_warehouse self.now.customer_district
-            × IsBetween 1 max_warehouses self.now.customer_warehouse
-            × IsBetween 1 districts_per_warehouse self.now.district
-            × IsBetween 1 max_warehouses self.now.warehouse) }
+        ensures { IsTrue result ↔ HasHistoryKey self.now }
     {
         (1..=MAX_CUSTOMERS).contains(&self.customer)
             && (1..=DISTRICTS_PER_WAREHOUSE).contains(&self.customer_district)

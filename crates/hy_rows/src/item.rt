@@ -3,8 +3,9 @@
 ghost use Rattle.std.specs.Prelude.{◌↔◌, IsTrue};
 
 use crate::lists::Lists;
-use crate::row::Listed;
+use crate::row::{Listed, Source};
 use crate::text::Text;
+use std::alloc::AllocError;
 
 /// The greatest I_ID (TPC-C clause 1.2.1).
 pub const MAX_ITEMS: u32 = 100_000;
@@ -33,6 +34,10 @@ impl Listed for Item {
 
     fn list_of(lists: &Lists) -> &[Item] {
         lists.items.as_slice()
+    }
+
+    fn copy_from<S: Source>(source: &S) -> Result<Vec<Item>, AllocError> {
+        source.copy_items()
     }
 }
 

@@ -25,7 +25,7 @@ pub use lists::Lists;
 pub use new_order::NewOrder;
 pub use order::{MAX_CARRIERS, MAX_LINES, MIN_LINES, Order};
 pub use order_line::{MAX_LINE_CENTS, MAX_QUANTITY, OrderLine};
-pub use row::{Listed, Row, SEGMENTS};
+pub use row::{Listed, Row, SEGMENTS, Source};
 pub use stock::{MAX_STOCK, Stock};
 pub use tables::Tables;
 pub use text::Text;

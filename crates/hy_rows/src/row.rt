@@ -1,14 +1,16 @@
 //! What the rows of all tables have in common.
 
-ghost use Rattle.std.specs.Prelude.{◌≡◌, ℕ, ◌+◌, ◌<◌, ◌≤◌, ◌++◌, Bool, List, length, slice_set};
+ghost use Rattle.std.specs.Prelude.{◌≡◌, ℕ, ◌+◌, ◌<◌, ◌≤◌, ◌++◌, Bool, List, length, slice_set, IfOk};
 ghost use Rattle.arrayvec.specs.ArrayVec.{array_vec_len};
 ghost use Rattle.hy_rows.specs.Tables.{Lists, Tables};
 ghost use Rattle.hy_rows.specs.Spelling.{IsTable, list_at, rows_of as rows_of_pages, segments, tables_of};
 ghost use Rattle.hy_rows.specs.declared.codec.TheConstants.{MAX_SLOT_BYTES};
 
 use crate::codec::SlotBytes;
+use crate::item::Item;
 use crate::lists::Lists;
 use crate::tables::Tables;
+use std::alloc::AllocError;
 
 /// How many segments hold the tables, one each; others may follow them.
 pub const SEGMENTS: u32 = 8;
@@ -94,6 +96,24 @@ pub trait Listed: Copy {
     /// The rows of this table.
     fn list_of(lists: &Lists) -> &[Self]
         ensures { result.now ≡ list_in lists.now };
+
+    /// A copy of the rows of this table. Only memory can lack.
+    fn copy_from<S: Source>(source: &S) -> Result<Vec<Self>, AllocError>
+        ensures { IfOk result (λ rows. rows.items ≡ list_in (S.lists_of source.now)) };
+}
+
+/// What has the rows of all tables: those of tables that lie on pages, and the items beside them.
+pub trait Source {
+    /// The rows of all tables.
+    ghost lists_of: { Self → Lists };
+
+    /// A copy of the rows of a table that lies on pages. Only memory can lack.
+    fn copy_rows<R: Row>(&self) -> Result<Vec<R>, AllocError>
+        ensures { IfOk result (λ rows. rows.items ≡ R.rows_in (lists_of self.now).tables) };
+
+    /// A copy of the rows of ITEM. Only memory can lack.
+    fn copy_items(&self) -> Result<Vec<Item>, AllocError>
+        ensures { IfOk result (λ items. items.items ≡ (lists_of self.now).items) };
 }
 
 // The rows of a table in a segment are those of its list.
@@ -102,5 +122,9 @@ impl<R: Row> Listed for R {
 
     fn list_of(lists: &Lists) -> &[R] {
         R::rows_of(&lists.tables)
+    }
+
+    fn copy_from<S: Source>(source: &S) -> Result<Vec<R>, AllocError> {
+        source.copy_rows()
     }
 }

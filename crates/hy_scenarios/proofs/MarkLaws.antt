@@ -4,7 +4,7 @@ use Rattle.std.proofs.Math.Seq.{take-suc}
 use Rattle.std.proofs.lemmas.Grind.{common_steps}
 use Rattle.std.proofs.lemmas.List.{take_all}
 use Rattle.std.specs.List.{filter_map, starts_with}
-use Rattle.hy_words.specs.CommandLine.{texts_of}
+use Rattle.hy_cli.specs.CommandLine.{texts_of}
 use Rattle.hy_events.specs.Lines.{numbered}
 use Rattle.hy_scenarios.specs.Changes.{replaced}
 use Rattle.hy_scenarios.specs.Marks.{body_of, is_head, step_in}

@@ -1,7 +1,7 @@
 -- Laws on what the blocks of a scenario do.
 use Rattle.std.proofs.Common.{rules, arith, ◌≡◌, ◌∙◌, ◌+◌, ◌<◌, ◌++◌, ℕ, zero, suc, Bool, true, false, List, [], ◌∷◌, Option, None, Some, Bor, ap, sym, refl, subst, All, IsUtf8, MatchOption, add-one, drop, drop-cons, get_or, inl, inr, length}
-use Rattle.hy_words.specs.CommandLine.{texts_of}
-use Rattle.hy_place.specs.Files.{FilesByPath}
+use Rattle.hy_cli.specs.CommandLine.{texts_of}
+use Rattle.hy_files.specs.Files.{FilesByPath}
 use Rattle.hy_scenarios.specs.Changes.{replaced}
 use Rattle.hy_program.specs.declared.ending.Ending.{Ending}
 use Rattle.hy_scenarios.specs.Commands.{Printed, Prints, given_words, wanted_by, words_of}

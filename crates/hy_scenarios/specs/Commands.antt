@@ -1,8 +1,8 @@
 -- The commands of a scenario: their words, and what they print.
 use Rattle.std.specs.Prelude.{◌≡◌, ◌≢◌, ℕ, not, ◌==◌, List, [], ◌∷◌, ◌++◌, Option, None, Some, if◌then◌else◌, bytes_eq, codes, filter, length}
 use Rattle.hy_events.specs.Words.{parts}
-use Rattle.hy_place.specs.Files.{FilesByPath}
-use Rattle.hy_words.specs.CommandLine.{AreTaken}
+use Rattle.hy_files.specs.Files.{FilesByPath}
+use Rattle.hy_cli.specs.CommandLine.{AreTaken}
 use Rattle.hy_program.specs.declared.ending.Ending.{Ending}
 use Rattle.hy_program.specs.declared.ending.Ending.TheVariants as ending
 use Rattle.hy_program.specs.Runs.{AreRefused, Completes, KeepsFiles, status_of}

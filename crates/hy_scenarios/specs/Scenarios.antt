@@ -1,7 +1,7 @@
 -- When a scenario holds.
 use Rattle.std.specs.Prelude.{◌≡◌, ◌≢◌, ◌⊎◌, ℕ, All, Bool, true, false, IsUtf8, MatchBool, MatchOption, List, [], ◌∷◌, Some, codes, is_some, option_and_then}
 use Rattle.std.specs.List.{list_any}
-use Rattle.hy_place.specs.Files.{FilesByPath, HasFile, KeepsOthers, no_files}
+use Rattle.hy_files.specs.Files.{FilesByPath, HasFile, KeepsOthers, no_files}
 use Rattle.hy_program.specs.declared.ending.Ending.{Ending}
 use Rattle.hy_scenarios.specs.Marks.{Block, behind, blocks_of, body_of, is_head, steps_of, text_behind}
 use Rattle.hy_scenarios.specs.Changes.{bytes_of, replaced}

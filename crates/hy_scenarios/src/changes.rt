@@ -1,7 +1,7 @@
 //! The files that a scenario makes and changes.
 
 ghost use Rattle.std.specs.Prelude.{◌≡◌, ◌++◌, IfOk, OnErr, drop, option_map, take};
-ghost use Rattle.hy_words.specs.CommandLine.{texts_of};
+ghost use Rattle.hy_cli.specs.CommandLine.{texts_of};
 ghost use Rattle.hy_scenarios.specs.Changes.{bytes_in, bytes_of, replaced};
 
 use crate::marks::behind;

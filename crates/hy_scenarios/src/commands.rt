@@ -1,14 +1,17 @@
 //! The commands of a scenario: their words, and what they print.
 
-ghost use Rattle.std.specs.Prelude.{◌≡◌, ◌++◌, ◌↔◌, All, IfOk, IsTrue, IsUtf8, MatchOption, OnOk, option_map};
-ghost use Rattle.hy_place.specs.Shelves.{files_on};
-ghost use Rattle.hy_words.specs.CommandLine.{texts_of};
+ghost use Rattle.std.specs.Prelude.{◌≡◌, ◌++◌, [], ◌↔◌, All, IfOk, IsTrue, IsUtf8, MatchOption, OnOk, option_map};
+ghost use Rattle.hy_files.specs.MemoryFiles.{files_on};
+ghost use Rattle.hy_cli.specs.CommandLine.{texts_of};
+ghost use Rattle.hy_output.specs.Streams.{writer_of};
 ghost use Rattle.hy_program.specs.declared.ending.Ending.{Ending};
+ghost use Rattle.hy_program.specs.Runs.{status_of};
 ghost use Rattle.hy_scenarios.specs.Commands.{Prints, given_words, printed_in, unquoted_words, wanted_by, words_of};
 
 use crate::marks::{output_of, status_in, text_behind};
 use hy_events::Parts;
-use hy_place::Shelf;
+use hy_files::MemoryFiles;
+use hy_output::Stream;
 use hy_program::{Ending, run_words};
 use std::alloc::{AllocError, Global};
 
@@ -89,20 +92,38 @@ pub fn as_texts<'a>(alloc: Global, words: &[&'a [u8]]) -> Result<Option<Vec<&'a 
     Ok(Some(texts))
 }
 
-/// Runs the program on the files of a shelf.
-pub fn run(alloc: Global, words: &[&str], shelf: &mut Shelf) -> Result<Output, AllocError>
+/// Runs the program on files in memory.
+pub fn run(alloc: Global, words: &[&str], stored: &mut MemoryFiles) -> Result<Output, AllocError>
     ensures { IfOk result (λ output. (end : Ending)
-        × Prints (texts_of words.entry.now) (files_on shelf.old) (files_on shelf.new) (printed_in output) end) }
+        × Prints (texts_of words.entry.now) (files_on stored.old) (files_on stored.new) (printed_in output) end) }
 {
-    let mut out = Vec::new(alloc);
-    let mut err = Vec::new(alloc);
-    match run_words(alloc, words, shelf, &mut out, &mut err) {
+    let mut out = nothing(alloc);
+    let mut err = nothing(alloc);
+    match run_words(alloc, words, stored, &mut out, &mut err) {
         Ending::WriterFailed => Err(AllocError),
-        ending => Ok(Output {
-            out,
-            err,
-            status: ending.status(),
-        }),
+        ending => Ok(printed(out, err, ending)),
+    }
+}
+
+/// An output in memory on which nothing stands.
+fn nothing(alloc: Global) -> Stream<Vec<u8>>
+    ensures { (writer_of result).items ≡ [] }
+{
+    Stream::new(Vec::new(alloc))
+}
+
+/// What stands on two outputs in memory behind a run that ended so.
+fn printed(out: Stream<Vec<u8>>, err: Stream<Vec<u8>>, ending: Ending) -> Output
+    ensures { printed_in result ≡ record {
+      out = (writer_of out).items;
+      err = (writer_of err).items;
+      status = status_of ending;
+    } }
+{
+    Output {
+        out: out.into_writer(),
+        err: err.into_writer(),
+        status: ending.status(),
     }
 }
 

@@ -2,7 +2,7 @@
 
 ghost use Rattle.std.specs.Prelude.{◌≡◌, ◌++◌, IfOk, OnOk, bytes_eq, is_some, option_map};
 ghost use Rattle.std.specs.List.{list_any};
-ghost use Rattle.hy_words.specs.CommandLine.{texts_of};
+ghost use Rattle.hy_cli.specs.CommandLine.{texts_of};
 ghost use Rattle.hy_scenarios.specs.Marks.{behind, body_of, is_head, is_status, line_of, output_in, output_of, status_in, step_in, steps_of, text_behind};
 
 use hy_events::Lines;

@@ -1,9 +1,9 @@
 //! Runs a scenario.
 
 ghost use Rattle.std.specs.Prelude.{◌≡◌, IfOk, MatchOption, OnOk, false, is_none, option_map};
-ghost use Rattle.hy_place.specs.Shelves.{files_on};
-ghost use Rattle.hy_words.specs.CommandLine.{texts_of};
-ghost use Rattle.hy_place.specs.Files.{no_files};
+ghost use Rattle.hy_files.specs.MemoryFiles.{files_on};
+ghost use Rattle.hy_cli.specs.CommandLine.{texts_of};
+ghost use Rattle.hy_files.specs.Files.{no_files};
 ghost use Rattle.hy_scenarios.specs.Commands.{given_words, words_of};
 ghost use Rattle.hy_scenarios.specs.Marks.{blocks_of};
 ghost use Rattle.hy_scenarios.specs.Scenarios.{AreDone, IsChanged, IsCommand, IsDone, IsFile, IsMade, IsRun, IsVerdict, Puts, PutsEvents};
@@ -11,7 +11,7 @@ ghost use Rattle.hy_scenarios.specs.Scenarios.{AreDone, IsChanged, IsCommand, Is
 use crate::changes::{bytes_of, replaced};
 use crate::commands::{Output, as_texts, given_words, is_same, run, wanted_by};
 use crate::marks::{behind, body_of, has_mark, is_head, steps_of, text_behind};
-use hy_place::{Place, Shelf};
+use hy_files::{FileSystem, MemoryFiles};
 use std::alloc::{AllocError, Global};
 use std::io;
 
@@ -25,41 +25,41 @@ pub enum Failure {
     Printed { printed: Output, wanted: Output },
 }
 
-/// Puts a file on a shelf.
-fn put(shelf: &mut Shelf, path: &str, bytes: &[u8]) -> Result<(), AllocError>
-    ensures { OnOk result (Puts (files_on shelf.old) (files_on shelf.new) path.now bytes.now) }
+/// Puts a file at a path.
+fn put(stored: &mut MemoryFiles, path: &str, bytes: &[u8]) -> Result<(), AllocError>
+    ensures { OnOk result (Puts (files_on stored.old) (files_on stored.new) path.now bytes.now) }
 {
-    match shelf.write(path, bytes) {
+    match stored.write(path, bytes) {
         Ok(()) => Ok(()),
         Err(_) => Err(AllocError),
     }
 }
 
 /// Puts the lines of events into the file `events`, where there are some.
-fn put_events(alloc: Global, body: &[&[u8]], shelf: &mut Shelf) -> Result<(), AllocError>
-    ensures { OnOk result (PutsEvents (files_on shelf.old) (files_on shelf.new) (texts_of body.entry.now)) }
+fn put_events(alloc: Global, body: &[&[u8]], stored: &mut MemoryFiles) -> Result<(), AllocError>
+    ensures { OnOk result (PutsEvents (files_on stored.old) (files_on stored.new) (texts_of body.entry.now)) }
 {
     if !has_mark(b'<', body) {
         return Ok(());
     }
     let events = text_behind(alloc, b'<', body)?;
-    put(shelf, "events", &events)
+    put(stored, "events", &events)
 }
 
-/// Runs a command on the files of a shelf, and compares what it prints.
+/// Runs a command on files in memory, and compares what it prints.
 fn do_command(
     alloc: Global,
     words: &[&str],
     body: &[&[u8]],
-    shelf: &mut Shelf,
+    stored: &mut MemoryFiles,
 ) -> Result<Option<Failure>, AllocError>
     ensures { IfOk result (λ failure.
-        IsRun (texts_of words.entry.now) (texts_of body.entry.now) (files_on shelf.old) (files_on shelf.new)
+        IsRun (texts_of words.entry.now) (texts_of body.entry.now) (files_on stored.old) (files_on stored.new)
         (is_none failure)) }
 {
-    put_events(alloc, body, shelf)?;
+    put_events(alloc, body, stored)?;
     let wanted = wanted_by(alloc, body)?;
-    let printed = run(alloc, words, shelf)?;
+    let printed = run(alloc, words, stored)?;
     if is_same(&printed, &wanted) {
         Ok(None)
     } else {
@@ -72,24 +72,28 @@ fn do_file(
     alloc: Global,
     path: &str,
     body: &[&[u8]],
-    shelf: &mut Shelf,
+    stored: &mut MemoryFiles,
 ) -> Result<Option<Failure>, AllocError>
     ensures { IfOk result (λ failure.
-        IsMade path.now (texts_of body.entry.now) (files_on shelf.old) (files_on shelf.new) (is_none failure)) }
+        IsMade path.now (texts_of body.entry.now) (files_on stored.old) (files_on stored.new) (is_none failure)) }
 {
     let Some(bytes) = bytes_of(alloc, body)? else {
         return Ok(Some(Failure::Undone));
     };
-    put(shelf, path, &bytes)?;
+    put(stored, path, &bytes)?;
     Ok(None)
 }
 
-/// A file of a shelf, if it is there.
-fn file_at(alloc: Global, path: &str, shelf: &mut Shelf) -> Result<Option<Vec<u8>>, AllocError>
-    ensures file { IfOk result (λ file. option_map (λ bytes. bytes.items) file ≡ files_on shelf.old path.now) }
-    ensures stays { files_on shelf.new ≡ files_on shelf.old }
+/// The file at a path, if it is there.
+fn file_at(
+    alloc: Global,
+    path: &str,
+    stored: &mut MemoryFiles,
+) -> Result<Option<Vec<u8>>, AllocError>
+    ensures file { IfOk result (λ file. option_map (λ bytes. bytes.items) file ≡ files_on stored.old path.now) }
+    ensures stays { files_on stored.new ≡ files_on stored.old }
 {
-    match shelf.read(alloc, path) {
+    match stored.read(alloc, path) {
         Ok(bytes) => Ok(Some(bytes)),
         Err(error) => match error.kind() {
             io::ErrorKind::OutOfMemory => Err(AllocError),
@@ -103,12 +107,12 @@ fn do_change(
     alloc: Global,
     path: &str,
     body: &[&[u8]],
-    shelf: &mut Shelf,
+    stored: &mut MemoryFiles,
 ) -> Result<Option<Failure>, AllocError>
     ensures { IfOk result (λ failure.
-        IsChanged path.now (texts_of body.entry.now) (files_on shelf.old) (files_on shelf.new) (is_none failure)) }
+        IsChanged path.now (texts_of body.entry.now) (files_on stored.old) (files_on stored.new) (is_none failure)) }
 {
-    let Some(bytes) = file_at(alloc, path, shelf)? else {
+    let Some(bytes) = file_at(alloc, path, stored)? else {
         return Ok(Some(Failure::Undone));
     };
     let old = text_behind(alloc, b'-', body)?;
@@ -116,7 +120,7 @@ fn do_change(
     let Some(changed) = replaced(alloc, &old, &new, &bytes)? else {
         return Ok(Some(Failure::Undone));
     };
-    put(shelf, path, &changed)?;
+    put(stored, path, &changed)?;
     Ok(None)
 }
 
@@ -125,10 +129,10 @@ fn do_line(
     alloc: Global,
     line: &[u8],
     body: &[&[u8]],
-    shelf: &mut Shelf,
+    stored: &mut MemoryFiles,
 ) -> Result<Option<Failure>, AllocError>
     ensures { IfOk result (λ failure. MatchOption (given_words (words_of line.now)) (is_none failure ≡ false)
-        (λ words. IsCommand words (texts_of body.entry.now) (files_on shelf.old) (files_on shelf.new)
+        (λ words. IsCommand words (texts_of body.entry.now) (files_on stored.old) (files_on stored.new)
         (is_none failure))) }
 {
     let Some(words) = given_words(alloc, line)? else {
@@ -137,7 +141,7 @@ fn do_line(
     let Some(texts) = as_texts(alloc, &words)? else {
         return Ok(Some(Failure::Undone));
     };
-    do_command(alloc, &texts, body, shelf)
+    do_command(alloc, &texts, body, stored)
 }
 
 /// Does a block of a scenario.
@@ -145,17 +149,17 @@ fn do_block(
     alloc: Global,
     head: &[u8],
     body: &[&[u8]],
-    shelf: &mut Shelf,
+    stored: &mut MemoryFiles,
 ) -> Result<Option<Failure>, AllocError>
     ensures { IfOk result (λ failure. IsDone (record { head = head.now; body = texts_of body.entry.now })
-        (files_on shelf.old) (files_on shelf.new) (is_none failure)) }
+        (files_on stored.old) (files_on stored.new) (is_none failure)) }
 {
     if let Some(line) = behind(b'$', head) {
-        return do_line(alloc, line, body, shelf);
+        return do_line(alloc, line, body, stored);
     }
     if let Some(path) = behind(b'>', head) {
         return match std::str::from_utf8(path) {
-            Ok(path) => do_file(alloc, path, body, shelf),
+            Ok(path) => do_file(alloc, path, body, stored),
             Err(_) => Ok(Some(Failure::Undone)),
         };
     }
@@ -163,7 +167,7 @@ fn do_block(
         return Ok(Some(Failure::Undone));
     };
     match std::str::from_utf8(path) {
-        Ok(path) => do_change(alloc, path, body, shelf),
+        Ok(path) => do_change(alloc, path, body, stored),
         Err(_) => Ok(Some(Failure::Undone)),
     }
 }
@@ -195,13 +199,13 @@ pub fn run_scenario<'a>(alloc: Global, text: &'a [u8]) -> Result<Option<Fault<'a
 fn run_steps<'a>(alloc: Global, steps: &[&'a [u8]]) -> Result<Option<Fault<'a>>, AllocError>
     ensures { IfOk result (λ fault. AreDone (blocks_of (texts_of steps.entry.now)) no_files (is_none fault)) }
 {
-    let mut shelf = Shelf::new(alloc);
+    let mut stored = MemoryFiles::new(alloc);
     for (place, head) in steps.iter().enumerate() {
         if !is_head(head) {
             continue;
         }
         let body = body_of(&steps[place + 1..]);
-        if let Some(failure) = do_block(alloc, head, body, &mut shelf)? {
+        if let Some(failure) = do_block(alloc, head, body, &mut stored)? {
             return Ok(Some(Fault { head, failure }));
         }
     }

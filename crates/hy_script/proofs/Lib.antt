@@ -4,5 +4,6 @@ pub mod ForkLaws
 pub mod EachLaws
 pub mod NameLaws
 pub mod RowLaws
+pub mod HeldLaws
 pub mod RunLaws
 pub mod WorkedScripts

@@ -1,17 +1,10 @@
 -- What the lines so far have printed, and what is still to come.
-use Rattle.std.proofs.Common.{◌≡◌, ◌∙◌, ◌++◌, ℕ, List, [], ◌∷◌, Option, None, Some, ap, append-nil, append_assoc, inl, inr, refl, subst, sym}
-use Rattle.std.specs.Io.KnownBytes.{Appends, Keeps, append_known}
+use Rattle.std.proofs.Common.{◌≡◌, ◌∙◌, ◌++◌, ℕ, List, [], ◌∷◌, Option, None, Some, append-nil, append_assoc, inl, inr, refl, subst, sym}
+use Rattle.std.specs.Io.KnownBytes.{Appends, Keeps}
 use Rattle.hy_events.proofs.WriterLaws.{appends-then}
 use Rattle.hy_script.specs.Databases.{DatabaseState}
 use Rattle.hy_script.specs.Printed.{ArePrinted, IsLineAnswered}
 use Rattle.hy_script.specs.Scripts.{IsBad, Prints}
-
--- an answer that is held back stands behind what is known
-pub appends-held : (known : Option (List ℕ)) (old new text : List ℕ) → new ≡ old ++ text
-    → Appends (append_known known old) (append_known known new) text
-appends-held None old new text more = tt
-appends-held (Some bytes) old new text more =
-    ap (λ it. bytes ++ it) more ∙ sym (append_assoc bytes old text)
 
 pub appends-kept : (before middle after : Option (List ℕ)) (text : List ℕ) → Appends before middle text
     → Keeps middle after → Appends before after text
@@ -19,26 +12,6 @@ appends-kept None middle after text appends keeps = tt
 appends-kept (Some bytes) None after text appends keeps = absurd appends
 appends-kept (Some bytes) (Some more) None text appends keeps = absurd keeps
 appends-kept (Some bytes) (Some more) (Some all) text appends keeps = keeps ∙ appends
-
--- what was held is handed on
-pub keeps-handed : (old new : Option (List ℕ)) (held left : List ℕ) → Appends old new held → left ≡ []
-    → Keeps (append_known old held) (append_known new left)
-keeps-handed None new held left appends none = tt
-keeps-handed (Some bytes) None held left appends none = absurd appends
-keeps-handed (Some bytes) (Some all) held left appends none =
-    ap (λ it. all ++ it) none ∙ append-nil all ∙ appends
-
--- the same of the answer to a line
-pub line-held : (n : ℕ) (line : List ℕ) (now next : DatabaseState) (known : Option (List ℕ)) (old new : List ℕ)
-    → IsLineAnswered n line now next (Some old) (Some new)
-    → IsLineAnswered n line now next (append_known known old) (append_known known new)
-line-held n line now next known old new answered =
-    (answered.0, answered.1, appends-held known old new answered.0 answered.2)
-
--- nothing was written behind what is known
-pub held-same : (known : Option (List ℕ)) (old new : List ℕ) → Some new ≡ Some old
-    → append_known known new ≡ append_known known old
-held-same known old new same = ap (append_known known) (cc same)
 
 -- all that was printed is handed on
 pub printed-kept : (n : ℕ) (all : List (ℕ × List ℕ)) (first : DatabaseState) (before middle after : Option (List ℕ))

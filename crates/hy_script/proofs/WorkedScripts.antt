@@ -3,7 +3,7 @@ use Rattle.std.proofs.Common.{[], None, Some, codes, inl, inr, refl}
 use Rattle.std.specs.Fmt.{digits}
 use Rattle.hy_events.specs.declared.event.Event.TheVariants as events
 use Rattle.hy_events.specs.Lines.{lines, numbered}
-use Rattle.hy_events.specs.Words.{number_of}
+use Rattle.hy_decimal.specs.Numbers.{number_of as number_in}
 use Rattle.hy_script.specs.declared.answer.Request.TheVariants as requests
 use Rattle.hy_script.specs.Answers.{Asks}
 use Rattle.hy_script.specs.Databases.{DatabaseState}
@@ -25,7 +25,7 @@ name_that_is_not_open = ((λ same. absurd (cc)), (λ has. absurd (cc)))
 -- an empty line, a refused event, and a line that says none, at which the script ends
 refused_and_bad : Prints 256 (numbered 1 (lines (codes "\ndone 7\nx\nstep 1"))) nothing
     (codes "refused E4 NoSuchWarehouse\n") (Some 3)
-unfolding number_of digits
+unfolding number_in digits
 refused_and_bad = inr (
   nothing,
   [],

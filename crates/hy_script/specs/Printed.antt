@@ -1,5 +1,5 @@
--- Answers behind the bytes that a writer has.
-use Rattle.std.specs.Prelude.{⊤, ℕ, List, Option}
+-- Answers behind the bytes that an output has.
+use Rattle.std.specs.Prelude.{ℕ, List, Option}
 use Rattle.std.specs.Io.KnownBytes.{Appends}
 use Rattle.hy_events.specs.declared.event.Event.{Event}
 use Rattle.hy_script.specs.declared.answer.Request.{Request}
@@ -24,10 +24,10 @@ abbrev pub IsAnswered : ℕ → Event → DatabaseState → DatabaseState → Op
 IsAnswered page_size event old new before after =
     (text : List ℕ) × Answers page_size event old new text × Appends before after text
 
--- why an event has no answer: it misnames a snapshot, and nothing was written, or the writer failed
-abbrev pub IsUnanswered : DatabaseState → Event → Type 0 → Unanswered → Type 0
-IsUnanswered database event unprinted unanswered.BadEvent = IsMisnamed database event × unprinted
-IsUnanswered database event unprinted (unanswered.Output error) = ⊤
+-- why an event has no answer: it misnames a snapshot, and nothing was written, or the output failed
+abbrev pub IsUnanswered : DatabaseState → Event → Type 0 → Type 0 → Unanswered → Type 0
+IsUnanswered database event unprinted failed unanswered.BadEvent = IsMisnamed database event × unprinted
+IsUnanswered database event unprinted failed (unanswered.Output error) = failed
 
 -- a line
 abbrev pub IsLineAnswered : ℕ → List ℕ → DatabaseState → DatabaseState → Option (List ℕ) → Option (List ℕ) → Type 0

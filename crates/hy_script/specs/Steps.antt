@@ -1,5 +1,5 @@
 -- What an event does to one warehouse, or to each.
-use Rattle.std.specs.Prelude.{◌≡◌, ◌⊎◌, ℕ, List, ◌+◌, ◌-◌, [], ◌∷◌, ◌++◌, None, Some, false, remove, slice_get, ◌<◌}
+use Rattle.std.specs.Prelude.{◌≡◌, ◌⊎◌, ℕ, List, ◌+◌, ◌-◌, [], ◌∷◌, ◌++◌, None, Some, false, length, remove, slice_get, ◌<◌, ◌≤◌}
 use Rattle.hy_schema.specs.declared.refusal.Refusal.{Refusal}
 use Rattle.hy_schema.specs.declared.refusal.Refusal.TheVariants as refusals
 use Rattle.hy_commands.specs.Commands.{is_reader}
@@ -7,9 +7,10 @@ use Rattle.hy_commands.specs.declared.command.Command.{Command}
 use Rattle.hy_commands.specs.declared.reply.Reply.{Reply}
 use Rattle.hy_commands.specs.declared.reply.Reply.TheVariants as replies
 use Rattle.hy_frames.specs.FrameTable.{FrameTable, IsLimitFor, count_of, free_of}
-use Rattle.hy_rows.specs.Tables.{Lists}
+use Rattle.hy_rows.specs.Tables.{Lists, of_warehouse}
 use Rattle.hy_space.specs.Space.{SameForChildren, SameForOwner, child_bytes, child_table}
 use Rattle.hy_undo.specs.Touched.{touched}
+use Rattle.hy_fill.specs.Frames.{frames_for}
 use Rattle.hy_partition.specs.declared.job.Progress.{Progress}
 use Rattle.hy_partition.specs.Jobs.{RunningJob}
 use Rattle.hy_partition.specs.Partition.{PartitionState, commits_of}
@@ -21,6 +22,18 @@ use Rattle.hy_script.specs.Databases.{WarehouseState}
 pub record Starts (lists : Lists) (number frames commits : ℕ) (warehouse : WarehouseState) : Type 0 where
   pub begins : Begins lists number frames commits warehouse.partition
   pub unforked : warehouse.snapshots ≡ []
+
+-- the rows of some warehouse of the load and their entries take at most as many frames as there may be, or more
+pub record SomeIsShort (page_size : ℕ) (lists : Lists) (frames : ℕ) : Type 0 where
+  pub number : ℕ
+  pub first : 1 ≤ number
+  pub last : number ≤ length lists.tables.warehouses
+  pub short : frames ≤ frames_for page_size (of_warehouse number lists.tables)
+
+-- why the warehouses of a load aren't made: one of them isn't for want of frames, or memory is refused
+abbrev pub IsWhyUnstarted : ℕ → Lists → ℕ → Refusal → Type 0
+IsWhyUnstarted page_size lists frames why =
+    ((why ≡ refusals.NoFrame) × SomeIsShort page_size lists frames) ⊎ (why ≡ refusals.NoMemory)
 
 -- ---- commands
 

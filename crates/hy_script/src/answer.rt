@@ -1,13 +1,14 @@
 //! What an event asks of one warehouse, and the answer.
 
-ghost use Rattle.std.specs.Prelude.{◌≡◌, ◌++◌, OnOk, codes, decimal};
+ghost use Rattle.std.specs.Prelude.{◌≡◌, ◌++◌, IsTrue, OnErr, OnOk, codes, decimal};
 ghost use Rattle.std.specs.Io.KnownBytes.{Appends};
 ghost use Rattle.hy_script.specs.Answers.{Grants, begun_text, count_text, progress_text, refused_text, waiting_text};
 ghost use Rattle.hy_script.specs.Printed.{IsGranted};
 
-use crate::warehouse::Warehouse;
+use crate::forked_partition::ForkedPartition;
 use hy_commands::{Command, Reply};
 use hy_events::write_reply;
+use hy_output::Output;
 use hy_partition::Progress;
 use hy_schema::Refusal;
 use std::io;
@@ -34,13 +35,14 @@ pub enum Request {
 }
 
 /// Does what is asked of a warehouse, and writes the answer.
-pub fn grant<const N: usize, O: io::Write>(
-    warehouse: &mut Warehouse<N>,
+pub fn grant<const N: usize, O: Output>(
+    warehouse: &mut ForkedPartition<N>,
     request: Request,
     out: &mut O,
 ) -> io::Result<()>
     ensures granted { OnOk result
         (IsGranted request warehouse.old warehouse.new (O.contents out.old) (O.contents out.new)) }
+    ensures failed { OnErr result (IsTrue (O.has_failed out.new)) }
     ensures keeps { warehouse.new.snapshots ≡ warehouse.old.snapshots }
 {
     match request {
@@ -56,13 +58,14 @@ pub fn grant<const N: usize, O: io::Write>(
 }
 
 /// Runs a command as a whole, and writes its reply.
-fn run<const N: usize, O: io::Write>(
-    warehouse: &mut Warehouse<N>,
+fn run<const N: usize, O: Output>(
+    warehouse: &mut ForkedPartition<N>,
     command: Command,
     out: &mut O,
 ) -> io::Result<()>
     ensures granted { OnOk result
         (IsGranted (Request.Run command) warehouse.old warehouse.new (O.contents out.old) (O.contents out.new)) }
+    ensures failed { OnErr result (IsTrue (O.has_failed out.new)) }
     ensures keeps { warehouse.new.snapshots ≡ warehouse.old.snapshots }
 {
     let reply = warehouse.run(command);
@@ -70,13 +73,14 @@ fn run<const N: usize, O: io::Write>(
 }
 
 /// Begins a command, and writes that it did or why not.
-fn begin<const N: usize, O: io::Write>(
-    warehouse: &mut Warehouse<N>,
+fn begin<const N: usize, O: Output>(
+    warehouse: &mut ForkedPartition<N>,
     command: Command,
     out: &mut O,
 ) -> io::Result<()>
     ensures granted { OnOk result
         (IsGranted (Request.Begin command) warehouse.old warehouse.new (O.contents out.old) (O.contents out.new)) }
+    ensures failed { OnErr result (IsTrue (O.has_failed out.new)) }
     ensures keeps { warehouse.new.snapshots ≡ warehouse.old.snapshots }
 {
     match warehouse.begin(command) {
@@ -86,9 +90,13 @@ fn begin<const N: usize, O: io::Write>(
 }
 
 /// Does a slice of what runs, and writes whether more are to come.
-fn step<const N: usize, O: io::Write>(warehouse: &mut Warehouse<N>, out: &mut O) -> io::Result<()>
+fn step<const N: usize, O: Output>(
+    warehouse: &mut ForkedPartition<N>,
+    out: &mut O,
+) -> io::Result<()>
     ensures granted { OnOk result
         (IsGranted Request.Step warehouse.old warehouse.new (O.contents out.old) (O.contents out.new)) }
+    ensures failed { OnErr result (IsTrue (O.has_failed out.new)) }
     ensures keeps { warehouse.new.snapshots ≡ warehouse.old.snapshots }
 {
     match warehouse.step() {
@@ -98,13 +106,14 @@ fn step<const N: usize, O: io::Write>(warehouse: &mut Warehouse<N>, out: &mut O)
 }
 
 /// Sets the limit on frames, and writes how many more there may be.
-fn limit<const N: usize, O: io::Write>(
-    warehouse: &mut Warehouse<N>,
+fn limit<const N: usize, O: Output>(
+    warehouse: &mut ForkedPartition<N>,
     more: u64,
     out: &mut O,
 ) -> io::Result<()>
     ensures granted { OnOk result
         (IsGranted (Request.Limit more) warehouse.old warehouse.new (O.contents out.old) (O.contents out.new)) }
+    ensures failed { OnErr result (IsTrue (O.has_failed out.new)) }
     ensures keeps { warehouse.new.snapshots ≡ warehouse.old.snapshots }
 {
     match warehouse.limit(more) {
@@ -114,8 +123,9 @@ fn limit<const N: usize, O: io::Write>(
 }
 
 /// Writes what a step left of a job.
-fn write_progress<O: io::Write>(out: &mut O, progress: Progress) -> io::Result<()>
-    ensures { OnOk result (Appends (O.contents out.old) (O.contents out.new) (progress_text progress)) }
+fn write_progress<O: Output>(out: &mut O, progress: Progress) -> io::Result<()>
+    ensures written { OnOk result (Appends (O.contents out.old) (O.contents out.new) (progress_text progress)) }
+    ensures failed { OnErr result (IsTrue (O.has_failed out.new)) }
 {
     match progress {
         Progress::More => writeln!(out, "more"),
@@ -124,8 +134,9 @@ fn write_progress<O: io::Write>(out: &mut O, progress: Progress) -> io::Result<(
 }
 
 /// Writes the reply that waits, or that there is none.
-fn write_waiting<O: io::Write>(out: &mut O, reply: Option<Reply>) -> io::Result<()>
-    ensures { OnOk result (Appends (O.contents out.old) (O.contents out.new) (waiting_text reply)) }
+fn write_waiting<O: Output>(out: &mut O, reply: Option<Reply>) -> io::Result<()>
+    ensures written { OnOk result (Appends (O.contents out.old) (O.contents out.new) (waiting_text reply)) }
+    ensures failed { OnErr result (IsTrue (O.has_failed out.new)) }
 {
     match reply {
         Some(reply) => write_reply(out, &reply),
@@ -134,16 +145,18 @@ fn write_waiting<O: io::Write>(out: &mut O, reply: Option<Reply>) -> io::Result<
 }
 
 /// Writes a word and a number.
-fn write_count<O: io::Write>(out: &mut O, word: &str, number: u64) -> io::Result<()>
-    ensures { OnOk result
+fn write_count<O: Output>(out: &mut O, word: &str, number: u64) -> io::Result<()>
+    ensures written { OnOk result
         (Appends (O.contents out.old) (O.contents out.new) (count_text word.now number)) }
+    ensures failed { OnErr result (IsTrue (O.has_failed out.new)) }
 {
     writeln!(out, "{word} {number}")
 }
 
 /// Writes a refusal.
-pub fn write_refused<O: io::Write>(out: &mut O, refusal: Refusal) -> io::Result<()>
-    ensures { OnOk result (Appends (O.contents out.old) (O.contents out.new) (refused_text refusal)) }
+pub fn write_refused<O: Output>(out: &mut O, refusal: Refusal) -> io::Result<()>
+    ensures written { OnOk result (Appends (O.contents out.old) (O.contents out.new) (refused_text refusal)) }
+    ensures failed { OnErr result (IsTrue (O.has_failed out.new)) }
 {
     writeln!(out, "refused {refusal}")
 }

@@ -1,6 +1,6 @@
 //! The database of a script: its warehouses, and the names of its open snapshots.
 
-ghost use Rattle.std.specs.Prelude.{◌≡◌, ◌⊎◌, ℕ, suc, ◌+◌, ◌<◌, ◌≤◌, ◌++◌, ◌∷◌, [], IfErr, IfOk, IfSome, MatchOption, None, OnErr, OnOk, codes, length, remove, slice_get};
+ghost use Rattle.std.specs.Prelude.{◌≡◌, ◌⊎◌, ℕ, suc, ◌+◌, ◌<◌, ◌≤◌, ◌++◌, ◌∷◌, [], IfErr, IfOk, IfSome, IsTrue, MatchOption, None, OnErr, OnOk, codes, length, remove, slice_get};
 ghost use Rattle.std.specs.List.{AllByRecursion, flat_map};
 ghost use Rattle.std.specs.Io.KnownBytes.{Appends};
 ghost use Rattle.hy_schema.specs.declared.refusal.Refusal.{Refusal};
@@ -10,14 +10,15 @@ ghost use Rattle.hy_script.specs.Answers.{commits_text, snapshot_text};
 ghost use Rattle.hy_script.specs.Databases.{Each, HasName, IsNameAt, warehouse_at};
 ghost use Rattle.hy_script.specs.Printed.{IsAsked};
 ghost use Rattle.hy_script.specs.Scripts.{StartsFrom};
-ghost use Rattle.hy_script.specs.Steps.{Gains, IsWhyUnforked, Loses, Starts, StaysAsItWas};
+ghost use Rattle.hy_script.specs.Steps.{Gains, IsWhyUnforked, IsWhyUnstarted, Loses, Starts, StaysAsItWas};
 ghost use Rattle.hy_script.specs.inside.Open.{AllStart, CanLose};
 
 use crate::answer::{Request, grant, write_refused};
+use crate::forked_partition::ForkedPartition;
 use crate::names::place_of_name;
-use crate::warehouse::Warehouse;
 use hy_events::SnapshotName;
 use hy_loads::Load;
+use hy_output::Output;
 use hy_schema::Refusal;
 use std::alloc::Global;
 use std::io;
@@ -25,7 +26,7 @@ use std::marker::Model;
 
 /// The warehouses in order, each with a snapshot for each name. It is given up by `end`.
 pub struct Database<'a, const N: usize> {
-    warehouses: Vec<Warehouse<N>>,
+    warehouses: Vec<ForkedPartition<N>>,
     names: Vec<SnapshotName<'a>>,
 }
 
@@ -48,7 +49,8 @@ impl<'a, const N: usize> Model for Database<'a, N> {
 }
 
 impl<'a, const N: usize> Database<'a, N> {
-    /// The warehouses of the load, and no snapshot. E2 where `max_frames` is too small for the rows of one; E1.
+    /// The warehouses of the load, and no snapshot. E2 only where `max_frames` is no more than the frames that the rows of
+    /// one and their entries take at most; E1.
     pub fn new(
         alloc: Global,
         load: &Load,
@@ -61,8 +63,7 @@ impl<'a, const N: usize> Database<'a, N> {
         requires some_kept { 1 ≤ max_kept }
         requires kept { max_kept ≤ most_kept }
         ensures starts { IfOk result (StartsFrom load.now max_frames max_kept) }
-        ensures refused { IfErr result
-            (λ refusal. (refusal ≡ Refusal.NoMemory) ⊎ (refusal ≡ Refusal.NoFrame)) }
+        ensures refused { IfErr result (IsWhyUnstarted N load.now max_frames) }
     {
         let warehouses = warehouses_of(alloc, load, max_frames, max_kept)?;
         Ok(Database {
@@ -72,14 +73,10 @@ impl<'a, const N: usize> Database<'a, N> {
     }
 
     /// Asks something of the warehouse of a number, and writes the answer.
-    pub fn ask<O: io::Write>(
-        &mut self,
-        number: u64,
-        request: Request,
-        out: &mut O,
-    ) -> io::Result<()>
-        ensures { OnOk result
+    pub fn ask<O: Output>(&mut self, number: u64, request: Request, out: &mut O) -> io::Result<()>
+        ensures asked { OnOk result
             (IsAsked number request self.old self.new (O.contents out.old) (O.contents out.new)) }
+        ensures failed { OnErr result (IsTrue (O.has_failed out.new)) }
     {
         match self.place_of(number) {
             Some(place) => grant(&mut self.warehouses[place], request, out),
@@ -132,9 +129,10 @@ impl<'a, const N: usize> Database<'a, N> {
     }
 
     /// Writes that a snapshot of this name was opened, and how many commits each warehouse has.
-    pub fn write_snapshot<O: io::Write>(&self, name: &[u8], out: &mut O) -> io::Result<()>
-        ensures { OnOk result (Appends (O.contents out.old) (O.contents out.new)
+    pub fn write_snapshot<O: Output>(&self, name: &[u8], out: &mut O) -> io::Result<()>
+        ensures written { OnOk result (Appends (O.contents out.old) (O.contents out.new)
             (snapshot_text name.now self.now.warehouses)) }
+        ensures failed { OnErr result (IsTrue (O.has_failed out.new)) }
     {
         out.write_all(b"snapshot ")?;
         out.write_all(name)?;
@@ -159,7 +157,7 @@ fn warehouses_of<const N: usize>(
     load: &Load,
     max_frames: u64,
     max_kept: u64,
-) -> Result<Vec<Warehouse<N>>, Refusal>
+) -> Result<Vec<ForkedPartition<N>>, Refusal>
     requires size { IsPageSize N }
     requires some_frames { 1 ≤ max_frames }
     requires frames { max_frames ≤ most_frames }
@@ -167,14 +165,13 @@ fn warehouses_of<const N: usize>(
     requires kept { max_kept ≤ most_kept }
     ensures starts { IfOk result (λ made. AllStart load.now max_frames max_kept made.items) }
     ensures count { IfOk result (λ made. length made.items ≡ length load.now.tables.warehouses) }
-    ensures refused { IfErr result
-        (λ refusal. (refusal ≡ Refusal.NoMemory) ⊎ (refusal ≡ Refusal.NoFrame)) }
+    ensures refused { IfErr result (IsWhyUnstarted N load.now max_frames) }
 {
     load.sound();
     let rows = &load.tables().warehouses[..];
     let mut made = Vec::with_capacity(alloc, rows.len())?;
     for row in rows {
-        match Warehouse::new(alloc, load, row.id, max_frames, max_kept) {
+        match ForkedPartition::new(alloc, load, row.id, max_frames, max_kept) {
             Ok(warehouse) => made.push_reserved(warehouse),
             Err(refusal) => {
                 end_each(made);
@@ -186,7 +183,7 @@ fn warehouses_of<const N: usize>(
 }
 
 /// Gives warehouses up.
-fn end_each<const N: usize>(mut warehouses: Vec<Warehouse<N>>) {
+fn end_each<const N: usize>(mut warehouses: Vec<ForkedPartition<N>>) {
     for _ in 0..warehouses.len() {
         warehouses.take_last().end();
     }
@@ -194,12 +191,13 @@ fn end_each<const N: usize>(mut warehouses: Vec<Warehouse<N>>) {
 }
 
 /// Writes how many commits each warehouse has.
-fn write_commits<const N: usize, O: io::Write>(
-    warehouses: &[Warehouse<N>],
+fn write_commits<const N: usize, O: Output>(
+    warehouses: &[ForkedPartition<N>],
     out: &mut O,
 ) -> io::Result<()>
-    ensures { OnOk result
+    ensures written { OnOk result
         (Appends (O.contents out.old) (O.contents out.new) (flat_map commits_text warehouses.now)) }
+    ensures failed { OnErr result (IsTrue (O.has_failed out.new)) }
 {
     for warehouse in warehouses {
         let commits = warehouse.commits();
@@ -209,7 +207,7 @@ fn write_commits<const N: usize, O: io::Write>(
 }
 
 /// Forks each warehouse. Where one is refused, the snapshots of those before it are closed.
-fn fork_each<const N: usize>(warehouses: &mut [Warehouse<N>]) -> Result<(), Refusal>
+fn fork_each<const N: usize>(warehouses: &mut [ForkedPartition<N>]) -> Result<(), Refusal>
     ensures forks { OnOk result (Each (Gains N) warehouses.old warehouses.new) }
     ensures refused { IfErr result (IsWhyUnforked warehouses.old) }
     ensures stays { OnErr result (Each StaysAsItWas warehouses.old warehouses.new) }
@@ -230,7 +228,7 @@ fn fork_each<const N: usize>(warehouses: &mut [Warehouse<N>]) -> Result<(), Refu
 }
 
 /// Closes the snapshot at a place in each warehouse.
-fn close_each<const N: usize>(warehouses: &mut [Warehouse<N>], place: usize)
+fn close_each<const N: usize>(warehouses: &mut [ForkedPartition<N>], place: usize)
     requires { AllByRecursion (CanLose place) warehouses.old }
     ensures { Each (Loses place) warehouses.old warehouses.new }
 {

@@ -1,6 +1,6 @@
 //! The events of a script, each with its answer.
 
-ghost use Rattle.std.specs.Prelude.{◌≡◌, IfErr, OnOk};
+ghost use Rattle.std.specs.Prelude.{◌≡◌, IfErr, IsTrue, OnErr, OnOk};
 ghost use Rattle.hy_events.specs.declared.event.Event.TheVariants as events;
 ghost use Rattle.hy_script.specs.declared.event.Unanswered.TheVariants as unanswered;
 ghost use Rattle.std.specs.Io.KnownBytes.{Appends};
@@ -10,6 +10,7 @@ ghost use Rattle.hy_script.specs.Printed.{IsAnswered, IsUnanswered};
 use crate::answer::{Request, write_refused};
 use crate::database::Database;
 use hy_events::{Event, SnapshotName};
+use hy_output::Output;
 use std::io;
 
 /// Why an event has no answer.
@@ -17,7 +18,7 @@ use std::io;
 pub enum Unanswered {
     /// It is a bad event: its line says none, or it names a snapshot that isn't open, or opens one of an open name.
     BadEvent,
-    /// The writer failed.
+    /// The output failed.
     Output(io::Error),
 }
 
@@ -30,7 +31,7 @@ impl From<io::Error> for Unanswered {
 }
 
 /// Does an event, and writes its answer.
-pub fn answer<'a, const N: usize, O: io::Write>(
+pub fn answer<'a, const N: usize, O: Output>(
     database: &mut Database<'a, N>,
     event: Event<'a>,
     out: &mut O,
@@ -38,7 +39,8 @@ pub fn answer<'a, const N: usize, O: io::Write>(
     ensures answered { OnOk result
         (IsAnswered N event.entry database.old database.new (O.contents out.old) (O.contents out.new)) }
     ensures unanswered { IfErr result
-        (IsUnanswered database.old event.entry (O.contents out.new ≡ O.contents out.old)) }
+        (IsUnanswered database.old event.entry (O.contents out.new ≡ O.contents out.old)
+        (IsTrue (O.has_failed out.new))) }
 {
     match event {
         Event::Run(command) => {
@@ -65,7 +67,7 @@ pub fn answer<'a, const N: usize, O: io::Write>(
 
 /// Opens a snapshot of a name, and writes how many commits each warehouse has. Where that is refused, no snapshot is
 /// left of it.
-fn fork<'a, const N: usize, O: io::Write>(
+fn fork<'a, const N: usize, O: Output>(
     database: &mut Database<'a, N>,
     name: SnapshotName<'a>,
     out: &mut O,
@@ -73,7 +75,8 @@ fn fork<'a, const N: usize, O: io::Write>(
     ensures answered { OnOk result
         (IsAnswered N (events.Fork name.entry) database.old database.new (O.contents out.old) (O.contents out.new)) }
     ensures unanswered { IfErr result
-        (IsUnanswered database.old (events.Fork name.entry) (O.contents out.new ≡ O.contents out.old)) }
+        (IsUnanswered database.old (events.Fork name.entry) (O.contents out.new ≡ O.contents out.old)
+        (IsTrue (O.has_failed out.new))) }
 {
     if database.place_of_name(&name).is_some() {
         return Err(Unanswered::BadEvent);
@@ -87,7 +90,7 @@ fn fork<'a, const N: usize, O: io::Write>(
 }
 
 /// Closes the snapshot of a name, and writes that it did.
-fn close<const N: usize, O: io::Write>(
+fn close<const N: usize, O: Output>(
     database: &mut Database<'_, N>,
     name: SnapshotName<'_>,
     out: &mut O,
@@ -95,7 +98,8 @@ fn close<const N: usize, O: io::Write>(
     ensures answered { OnOk result
         (IsAnswered N (events.Close name.entry) database.old database.new (O.contents out.old) (O.contents out.new)) }
     ensures unanswered { IfErr result
-        (IsUnanswered database.old (events.Close name.entry) (O.contents out.new ≡ O.contents out.old)) }
+        (IsUnanswered database.old (events.Close name.entry) (O.contents out.new ≡ O.contents out.old)
+        (IsTrue (O.has_failed out.new))) }
 {
     let Some(place) = database.place_of_name(&name) else {
         return Err(Unanswered::BadEvent);
@@ -106,8 +110,9 @@ fn close<const N: usize, O: io::Write>(
 }
 
 /// Writes that a snapshot was closed.
-fn write_closed<O: io::Write>(out: &mut O, name: &[u8]) -> io::Result<()>
-    ensures { OnOk result (Appends (O.contents out.old) (O.contents out.new) (closed_text name.now)) }
+fn write_closed<O: Output>(out: &mut O, name: &[u8]) -> io::Result<()>
+    ensures written { OnOk result (Appends (O.contents out.old) (O.contents out.new) (closed_text name.now)) }
+    ensures failed { OnErr result (IsTrue (O.has_failed out.new)) }
 {
     out.write_all(b"closed ")?;
     out.write_all(name)?;

@@ -4,8 +4,9 @@
 mod answer;
 mod database;
 mod event;
+mod forked_partition;
+mod held;
 mod names;
 mod script;
-mod warehouse;
 
 pub use script::{ScriptFault, run_script};

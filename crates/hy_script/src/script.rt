@@ -1,7 +1,6 @@
 //! Runs a script.
 
-ghost use Rattle.std.specs.Prelude.{◌≡◌, ◌⊎◌, ◌≤◌, [], IfErr, None, OnOk};
-ghost use Rattle.std.specs.Io.KnownBytes.{Keeps, append_known};
+ghost use Rattle.std.specs.Prelude.{◌≡◌, ◌⊎◌, ◌≤◌, IfErr, IsTrue, None, OnOk};
 ghost use Rattle.hy_frames.specs.FrameTable.{IsPageSize, max_frames as most_frames};
 ghost use Rattle.hy_partition.specs.Limits.{most_kept};
 ghost use Rattle.hy_events.specs.Lines.{lines, numbered};
@@ -9,20 +8,20 @@ ghost use Rattle.hy_script.specs.declared.script.ScriptFault.TheVariants as faul
 ghost use Rattle.hy_script.specs.Printed.{ArePrinted, IsLineAnswered};
 ghost use Rattle.hy_script.specs.Scripts.{IsPrinted};
 ghost use Rattle.hy_script.specs.Ends.{IsLineFault, IsLinesFault, IsRunFault, IsScriptFault};
+ghost use Rattle.hy_script.specs.inside.Held.{contents_behind, failed_behind, output_behind};
 
 use crate::answer::write_refused;
 use crate::database::Database;
 use crate::event::{Unanswered, answer};
-use hy_events::{EventFault, Line, Lines, read_event};
+use crate::held::{HELD_BYTES, Held};
+use hy_events::{EventFault, Lines, ScriptLine, read_event};
 use hy_loads::Load;
+use hy_output::{Output, Take};
 use hy_schema::Refusal;
 use std::alloc::Global;
-use std::io;
+use std::{io, mem};
 
-/// How many bytes of answers are held before they are handed on.
-const HELD_BYTES: usize = 65_536;
-
-/// How many bytes more there is room for at first: no answer has more, where the names of its snapshots are short.
+/// How many bytes more there is room for: no answer has more, where the names of its snapshots are short.
 const ANSWER_BYTES: usize = 8192;
 
 /// Why a script wasn't run to its end.
@@ -33,7 +32,7 @@ pub enum ScriptFault {
     /// The line of this number, counted from 1, isn't empty and says no event, or names a snapshot that isn't open, or
     /// opens one of an open name. The events before it are done, and their answers are printed.
     BadEvent(u64),
-    /// The writer failed.
+    /// The output failed.
     Output(io::Error),
 }
 
@@ -59,8 +58,8 @@ impl From<io::Error> for ScriptFault {
 /// # Errors
 ///
 /// That the partitions can't be made, before anything is printed; the first bad event, behind the answers to the events
-/// before it; or that the writer failed.
-pub fn run_script<const N: usize, O: io::Write>(
+/// before it; or that a write to the output failed. Once the first event is done, memory that is refused ends no script.
+pub fn run_script<const N: usize, O: Output + Take + Drop>(
     alloc: Global,
     load: &Load,
     script: &[u8],
@@ -77,7 +76,7 @@ pub fn run_script<const N: usize, O: io::Write>(
         (IsPrinted N load.now max_frames max_kept script.now (O.contents out.old) (O.contents out.new) None) }
     ensures fault { IfErr result
         (IsScriptFault N load.now max_frames max_kept script.now (O.contents out.old) (O.contents out.new)
-        (out.new ≡ out.old)) }
+        (out.new ≡ out.old) (IsTrue (O.has_failed out.new))) }
 {
     let mut database = Database::<N>::new(alloc, load, max_frames, max_kept)?;
     let ended = run_buffered(alloc, &mut database, script, out);
@@ -85,8 +84,8 @@ pub fn run_script<const N: usize, O: io::Write>(
     ended
 }
 
-/// The same on partitions that are there. Answers are kept back, and handed on many at a time.
-fn run_buffered<'a, const N: usize, O: io::Write>(
+/// The same on partitions that are there. Answers are held back, and handed on many at a time.
+fn run_buffered<'a, const N: usize, O: Output + Take + Drop>(
     alloc: Global,
     database: &mut Database<'a, N>,
     script: &'a [u8],
@@ -96,32 +95,51 @@ fn run_buffered<'a, const N: usize, O: io::Write>(
         (ArePrinted N (numbered 1 (lines script.entry.now)) database.old (O.contents out.old) (O.contents out.new) None) }
     ensures fault { IfErr result
         (IsRunFault N (numbered 1 (lines script.entry.now)) database.old (O.contents out.old) (O.contents out.new)
-        (out.new ≡ out.old)) }
+        (out.new ≡ out.old) (IsTrue (O.has_failed out.new))) }
 {
-    let Ok(mut held) = Vec::with_capacity(alloc, HELD_BYTES + ANSWER_BYTES) else {
+    let Ok(room) = Vec::with_capacity(alloc, HELD_BYTES + ANSWER_BYTES) else {
         return Err(ScriptFault::Refused(Refusal::NoMemory));
     };
-    let ended = run_lines(alloc, database, script, &mut held, out);
-    hand_on(&mut held, out)?;
+    let mut held = Held::new(alloc, out.take(), room);
+    let ended = run_held(alloc, database, script, &mut held);
+    let _spare = mem::replace(out, held.into_output());
+    ended
+}
+
+/// The same with an output that holds answers back, and hands on the last of them at the end.
+fn run_held<'a, const N: usize, O: Output>(
+    alloc: Global,
+    database: &mut Database<'a, N>,
+    script: &'a [u8],
+    held: &mut Held<O>,
+) -> Result<(), ScriptFault>
+    ensures done { OnOk result (ArePrinted N (numbered 1 (lines script.entry.now)) database.old
+        (contents_behind O.contents held.old) (O.contents (output_behind held.new)) None) }
+    ensures fault { IfErr result (IsLinesFault N (numbered 1 (lines script.entry.now)) database.old
+        (contents_behind O.contents held.old) (O.contents (output_behind held.new))
+        (IsTrue (O.has_failed (output_behind held.new)))) }
+{
+    let ended = run_lines(alloc, database, script, held);
+    held.hand_on()?;
     ended
 }
 
 /// Does what the lines say, one after the other, up to the first bad event. The last answers are still held at the end.
-fn run_lines<'a, const N: usize, O: io::Write>(
+fn run_lines<'a, const N: usize, O: Output>(
     alloc: Global,
     database: &mut Database<'a, N>,
     script: &'a [u8],
-    held: &mut Vec<u8>,
-    out: &mut O,
+    held: &mut Held<O>,
 ) -> Result<(), ScriptFault>
     ensures done { OnOk result (ArePrinted N (numbered 1 (lines script.entry.now)) database.old
-        (append_known (O.contents out.old) held.old.items) (append_known (O.contents out.new) held.new.items) None) }
+        (contents_behind O.contents held.old) (contents_behind O.contents held.new) None) }
     ensures fault { IfErr result (IsLinesFault N (numbered 1 (lines script.entry.now)) database.old
-        (append_known (O.contents out.old) held.old.items) (append_known (O.contents out.new) held.new.items)) }
+        (contents_behind O.contents held.old) (contents_behind O.contents held.new)
+        (IsTrue (failed_behind O.has_failed held.new))) }
 {
     for line in Lines::new(script) {
         match answer_line(alloc, database, line.bytes, held) {
-            Ok(()) => hand_on_many(held, out)?,
+            Ok(()) => held.hand_on_many()?,
             Err(Unanswered::BadEvent) => return Err(ScriptFault::BadEvent(line.number)),
             Err(Unanswered::Output(error)) => return Err(ScriptFault::Output(error)),
         }
@@ -129,30 +147,8 @@ fn run_lines<'a, const N: usize, O: io::Write>(
     Ok(())
 }
 
-/// Hands on the answers that are held, where they are many.
-fn hand_on_many<O: io::Write>(held: &mut Vec<u8>, out: &mut O) -> io::Result<()>
-    ensures { OnOk result
-        (Keeps (append_known (O.contents out.old) held.old.items) (append_known (O.contents out.new) held.new.items)) }
-{
-    if held.len() < HELD_BYTES {
-        return Ok(());
-    }
-    hand_on(held, out)
-}
-
-/// Hands on the answers that are held.
-fn hand_on<O: io::Write>(held: &mut Vec<u8>, out: &mut O) -> io::Result<()>
-    ensures kept { OnOk result
-        (Keeps (append_known (O.contents out.old) held.old.items) (append_known (O.contents out.new) held.new.items)) }
-    ensures none { OnOk result (held.new.items ≡ []) }
-{
-    out.write_all(held.as_slice())?;
-    held.clear();
-    Ok(())
-}
-
 /// Does the event that a line says, and writes its answer.
-fn answer_line<'a, const N: usize, O: io::Write>(
+fn answer_line<'a, const N: usize, O: Output>(
     alloc: Global,
     database: &mut Database<'a, N>,
     line: &'a [u8],
@@ -161,7 +157,8 @@ fn answer_line<'a, const N: usize, O: io::Write>(
     ensures answered { OnOk result
         (IsLineAnswered N line.entry.now database.old database.new (O.contents out.old) (O.contents out.new)) }
     ensures fault { IfErr result
-        (IsLineFault database.old line.entry.now (O.contents out.new ≡ O.contents out.old)) }
+        (IsLineFault database.old line.entry.now (O.contents out.new ≡ O.contents out.old)
+        (IsTrue (O.has_failed out.new))) }
 {
     match read_event(alloc, line) {
         Ok(None) => Ok(()),

@@ -1,41 +1,33 @@
 //! What the slices of a command do together, and what holds between them.
 
-ghost use Rattle.std.specs.Prelude.{◌≡◌, ℕ, ◌+◌, ◌-◌, ◌<◌, ◌≤◌, ◌≢◌, true, List, length, None, Some, All};
+ghost use Rattle.std.specs.Prelude.{◌≡◌, ℕ, ◌+◌, List, None, Some, length};
 ghost use Rattle.hy_rows.specs.declared.item.Item.{Item};
-ghost use Rattle.hy_rows.specs.Ranges.{IsBetween};
-ghost use Rattle.hy_rows.specs.Tables.{Lists, Tables, of_warehouse};
-ghost use Rattle.hy_schema.specs.Loads.{IsLoad};
+ghost use Rattle.hy_rows.specs.Tables.{Lists, Tables};
 ghost use Rattle.hy_schema.specs.declared.refusal.Refusal.TheVariants as refusals;
 ghost use Rattle.hy_commands.specs.declared.command.Command.{Command};
-ghost use Rattle.hy_commands.specs.declared.command.Command.TheVariants as commands;
 ghost use Rattle.hy_commands.specs.declared.command.Commit.{Commit};
 ghost use Rattle.hy_commands.specs.declared.command.Delivery.{Delivery};
 ghost use Rattle.hy_commands.specs.declared.command.Purchase.{Purchase};
 ghost use Rattle.hy_commands.specs.Deliveries.{oldest};
 ghost use Rattle.hy_commands.specs.Growth.{HasGrownBy};
-ghost use Rattle.hy_commands.specs.Invariant.{IsSoundWarehouse};
 ghost use Rattle.hy_commands.specs.NewOrders.{order_number};
-ghost use Rattle.hy_commands.specs.Replay.{replay};
-ghost use Rattle.hy_commands.specs.Transactions.{act, begin_refusal_of, refusal_of};
-ghost use Rattle.hy_slices.specs.Between.{IsLineBefore, IsWholeWarehouse};
-ghost use Rattle.hy_slices.specs.Slices.{after_slices, has_item_at, has_items_before, slice_count};
+ghost use Rattle.hy_commands.specs.Replay.{rows_after};
+ghost use Rattle.hy_commands.specs.Transactions.{act, refusal_of};
+ghost use Rattle.hy_slices.specs.Begun.{AreLinesBefore, Begins, DeliversBefore, HasAllItems, HasItemsOfLines, IsBegunBehind, IsUnderWay, LacksItemAt, PlacesLines, after_districts, after_lines};
+ghost use Rattle.hy_slices.specs.Between.{IsWholeWarehouse};
+ghost use Rattle.hy_slices.specs.Slices.{after_slices, slice_count};
 
 /// Does nothing: its contract says that the slices of a command that a warehouse begins, where the items of all its
 /// lines are there, leave the rows that the command leaves, and that a command is refused E7 exactly where one of its
 /// slices asks for an item that isn't there.
 pub fn slices_are_the_command()
     ensures rows { (items : List Item) (number : ℕ) (command : Command) (tables : Tables)
-        → begin_refusal_of number command tables ≡ None
-        → has_items_before items command (slice_count command) ≡ true
-        → after_slices items number command (slice_count command) tables
-        ≡ (act items number command tables).tables }
+        → Begins number command tables → HasAllItems items command
+        → after_slices items number command (slice_count command) tables ≡ (act items number command tables).tables }
     ensures accepted { (items : List Item) (number : ℕ) (command : Command) (tables : Tables)
-        → begin_refusal_of number command tables ≡ None
-        → has_items_before items command (slice_count command) ≡ true
-        → refusal_of items number command tables ≡ None }
+        → Begins number command tables → HasAllItems items command → refusal_of items number command tables ≡ None }
     ensures refused { (items : List Item) (number : ℕ) (command : Command) (tables : Tables) (done : ℕ)
-        → begin_refusal_of number command tables ≡ None
-        → done < slice_count command → has_item_at items command done ≢ true
+        → Begins number command tables → LacksItemAt items command done
         → refusal_of items number command tables ≡ Some refusals.NoSuchItem }
 {}
 
@@ -43,9 +35,7 @@ pub fn slices_are_the_command()
 /// begins, where it holds before.
 pub fn rows_stay_whole()
     ensures { (items : List Item) (number : ℕ) (command : Command) (tables : Tables) (done : ℕ)
-        → IsSoundWarehouse items number tables
-        → begin_refusal_of number command tables ≡ None → done ≤ slice_count command
-        → has_items_before items command done ≡ true
+        → IsUnderWay items number command done tables
         → IsWholeWarehouse items number (after_slices items number command done tables) }
 {}
 
@@ -53,37 +43,25 @@ pub fn rows_stay_whole()
 /// than before, and that its order has no line but those of the slices done.
 pub fn lines_are_new()
     ensures number { (items : List Item) (number : ℕ) (order : Purchase) (tables : Tables) (lines : ℕ)
-        → IsSoundWarehouse items number tables
-        → begin_refusal_of number (commands.NewOrder order) tables ≡ None → lines ≤ length order.lines
-        → order_number order (after_slices items number (commands.NewOrder order) (lines + 1) tables)
-        ≡ order_number order tables + 1 }
+        → PlacesLines items number order lines tables
+        → order_number order (after_lines items number order lines tables) ≡ order_number order tables + 1 }
     ensures lines { (items : List Item) (number : ℕ) (order : Purchase) (tables : Tables) (lines : ℕ)
-        → IsSoundWarehouse items number tables
-        → begin_refusal_of number (commands.NewOrder order) tables ≡ None → lines ≤ length order.lines
-        → has_items_before items (commands.NewOrder order) (lines + 1) ≡ true
-        → All (IsLineBefore order (order_number order tables) lines)
-        (after_slices items number (commands.NewOrder order) (lines + 1) tables).order_lines }
+        → PlacesLines items number order lines tables → HasItemsOfLines items order lines
+        → AreLinesBefore order lines tables (after_lines items number order lines tables) }
 {}
 
 /// Does nothing: its contract says that the slices of a delivery before a district leave the oldest undelivered order
 /// of that district.
 pub fn deliveries_stay_the_same()
     ensures { (items : List Item) (number : ℕ) (delivery : Delivery) (tables : Tables) (done district : ℕ)
-        → IsSoundWarehouse items number tables
-        → begin_refusal_of number (commands.Delivery delivery) tables ≡ None
-        → done < district → IsBetween 1 10 district
-        → oldest number district (after_slices items number (commands.Delivery delivery) done tables)
-        ≡ oldest number district tables }
+        → DeliversBefore items number delivery done district tables
+        → oldest number district (after_districts items number delivery done tables) ≡ oldest number district tables }
 {}
 
 /// Does nothing: its contract says how far the numbers of a warehouse of a load can have grown between the slices of a
 /// command that comes behind a list of commits.
 pub fn numbers_stay_small_between()
-    ensures { (lists : Lists) (number : ℕ) (commits : List Commit) (command : Command) (done : ℕ) → IsLoad lists
-        → IsBetween 1 (length lists.tables.warehouses) number
-        → begin_refusal_of number command
-        (replay lists.items number (of_warehouse number lists.tables) commits) ≡ None
-        → done ≤ slice_count command → has_items_before lists.items command done ≡ true
-        → HasGrownBy (length commits + 1) (after_slices lists.items number command done
-        (replay lists.items number (of_warehouse number lists.tables) commits)) }
+    ensures { (lists : Lists) (number : ℕ) (commits : List Commit) (command : Command) (done : ℕ)
+        → IsBegunBehind lists number commits command done → HasGrownBy (length commits + 1)
+        (after_slices lists.items number command done (rows_after lists number commits)) }
 {}

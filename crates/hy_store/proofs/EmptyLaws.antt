@@ -1,10 +1,11 @@
 -- A store without rows.
 use Rattle.std.proofs.Common.{◌≡◌, ℕ, ◌+◌, ◌<◌, ◌≤◌, zero, suc, List, [], ◌∷◌, ◌++◌, length, replicate, Option, refl, sym, ap, ap₂, ◌∙◌, subst, arith, length-append, lit≤}
 use Rattle.std.proofs.lemmas.List.{append-nil, get_or-replicate, length-replicate}
+use Rattle.std.proofs.lemmas.Option.{slice_get_within}
 use Rattle.hy_page.proofs.ByteLaws.{field_of_zeros}
 use Rattle.hy_rows.specs.declared.new_order.NewOrder.{NewOrder}
 use Rattle.hy_rows.specs.Rows.{new_order_of}
-use Rattle.hy_rows.specs.Spelling.{IsTable, list_at, new_order_segment, segments, slots_of, tables_of, used_slots}
+use Rattle.hy_rows.specs.Spelling.{IsTable, list_at, new_order_segment, row_widths, segments, slots_of, tables_of, used_slots}
 use Rattle.hy_rows.specs.Tables.{Tables, no_rows}
 use Rattle.hy_rows.specs.inside.Places.{segment_there}
 use Rattle.hy_space.specs.Space.{SpaceState, owner_bytes, with_new_page}
@@ -15,6 +16,7 @@ use Rattle.hy_store.specs.declared.keys.LineKey.{LineKey}
 use Rattle.hy_store.specs.declared.keys.OrderKey.{OrderKey}
 use Rattle.hy_store.specs.declared.keys.WaitingKey.{WaitingKey}
 use Rattle.hy_store.specs.Keys.{IsCustomerKey, IsLineKey, IsOrderKey, IsWaitingKey, customer_key_bytes, customer_key_of, line_key_bytes, line_key_of, order_key_bytes, order_key_of, waiting_key_bytes, waiting_key_of}
+use Rattle.hy_store.specs.Pages.{HasPagesUpTo, IsIndexAt, key_widths}
 use Rattle.hy_store.specs.Stored.{HasStore, Stored, all_segments, nothing_stored}
 use Rattle.hy_store.specs.Writes.{stored_in}
 
@@ -108,3 +110,14 @@ module _ (n : ℕ) (smallest : 256 ≤ n) where
         ∙ ap (λ entries. says no_rows [] [] entries now.waiting now.lines) (empty-entries n 3 customer_key_bytes customer_key_of IsCustomerKey space 9 (omega arith) (pages 9 (lit≤ tt)))
         ∙ ap (λ entries. says no_rows [] [] [] entries now.lines) (empty-entries n 5 waiting_key_bytes waiting_key_of IsWaitingKey space 10 (omega arith) (pages 10 (lit≤ tt)))
         ∙ ap (λ entries. says no_rows [] [] [] [] entries) (empty-entries n 6 line_key_bytes line_key_of IsLineKey space 11 (omega arith) (pages 11 (lit≤ tt)))
+
+    index_there : (segment width : ℕ) → IsIndexAt segment width → segment < all_segments
+    index_there segment width index = slice_get_within (row_widths ++ key_widths) segment width index.width
+
+    pub pages-zero : (most : ℕ → ℕ) → HasPagesUpTo n most (owner_bytes space)
+    pages-zero most = record {
+      all = ap length zeros;
+      slots = λ segment width table. omega (arith, unused segment (below segment width table));
+      few = λ segment width table. omega (arith, ap length (pages segment (below segment width table)));
+      indexes = λ segment width index. omega (arith, ap length (pages segment (index_there segment width index)));
+    }

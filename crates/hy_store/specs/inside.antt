@@ -1,2 +1,3 @@
 -- What the proofs of this crate speak of, and no public contract.
 pub mod Places
+pub mod KeyPairs

@@ -1,8 +1,9 @@
 //! A store without rows.
 
-ghost use Rattle.std.specs.Prelude.{◌≡◌, ◌<◌, ◌≤◌, [], IfOk, IsErrOf};
+ghost use Rattle.std.specs.Prelude.{◌≡◌, ℕ, ◌<◌, ◌≤◌, [], IfOk, IsErrOf};
 ghost use Rattle.hy_frames.specs.FrameTable.{IsPageSize, max_frames as most_frames};
 ghost use Rattle.hy_space.specs.Space.{owner_bytes};
+ghost use Rattle.hy_store.specs.Pages.{HasPagesUpTo};
 ghost use Rattle.hy_store.specs.Stored.{HasStore, all_segments, nothing_stored};
 ghost use Rattle.hy_store.specs.Writes.{stored_in};
 
@@ -23,6 +24,7 @@ pub fn empty_store<const N: usize>(alloc: Global, max_frames: u64) -> Result<Spa
     ensures empty { IfOk result (λ space. stored_in N space ≡ nothing_stored) }
     ensures children { IfOk result (λ space. space.children ≡ []) }
     ensures limit { IfOk result (λ space. space.frames.max ≡ max_frames) }
+    ensures pages { IfOk result (λ space. (most : ℕ → ℕ) → HasPagesUpTo N most (owner_bytes space)) }
     ensures no_frame { IsErrOf result Shortage.NoFrame → max_frames < all_segments }
 {
     let mut space = Space::new(alloc, ALL_SEGMENTS, max_frames)?;

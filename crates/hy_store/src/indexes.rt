@@ -1,15 +1,16 @@
 //! The indexes of a store.
 
-ghost use Rattle.std.specs.Prelude.{◌≡◌, ℕ, ◌<◌, ◌≤◌, List, OnOk, IsErrOf, length, slice_set};
+ghost use Rattle.std.specs.Prelude.{◌≡◌, ℕ, ◌+◌, ◌<◌, ◌≤◌, List, OnOk, IsErrOf, length, slice_set};
 ghost use Rattle.hy_frames.specs.FrameTable.{free_of};
 ghost use Rattle.hy_index.specs.declared.key.Entry.{Entry};
 ghost use Rattle.hy_index.specs.Index.{IsInOrder, between, first_from, found, with_entry, without};
 ghost use Rattle.hy_index.specs.Writes.{IsIndex, entries as entries_of, pages_of};
 ghost use Rattle.hy_rows.specs.Spelling.{list_at, segments};
 ghost use Rattle.hy_space.specs.Space.{owner_bytes};
-ghost use Rattle.hy_undo.specs.PrivatePages.{IsUndoLog};
+ghost use Rattle.hy_undo.specs.Writes.{IsOutOfFrames};
+ghost use Rattle.hy_store.specs.Pages.{IsIndexAt, KeepsPagesUpTo};
 ghost use Rattle.hy_store.specs.Stored.{HasIndexSegments, HasStore, Stored, all_segments, stored};
-ghost use Rattle.hy_store.specs.Writes.{WritesStore, stored_in};
+ghost use Rattle.hy_store.specs.Writes.{ChangesStore, IsWritableStore, WritesStore, stored_in};
 
 use hy_frames::Shortage;
 use hy_index::{Entry, Index, Key};
@@ -30,7 +31,9 @@ pub trait Indexed: Key {
     /// The same store with other entries in it.
     ghost with_entries: { Stored → List (Entry Self) → Stored };
 
-    /// The segment is one of those behind the tables'.
+    /// The segment is one of those behind the tables', and has keys of this width.
+    ghost is_index_at: { IsIndexAt SEGMENT Self.Key.BYTES };
+
     ghost behind: { segments ≤ SEGMENT };
 
     ghost within: { SEGMENT < all_segments };
@@ -111,12 +114,12 @@ pub fn insert_entry<K: Indexed, const N: usize>(
     key: &K,
     slot: u64,
 ) -> Result<(), Shortage>
-    requires store { HasStore N (owner_bytes space.old) }
-    requires undo_log { IsUndoLog N space.old undo.old }
-    ensures store { OnOk result (HasStore N (owner_bytes space.new)) }
-    ensures inserted { OnOk result (stored_in N space.new ≡ K.with_entries (stored_in N space.old)
-        (with_entry K.is_less key.now slot (K.entries_in (stored_in N space.old)))) }
+    requires { IsWritableStore N space.old undo.old }
+    ensures inserted { OnOk result (ChangesStore N space.old space.new
+        (λ old. K.with_entries old (with_entry K.is_less key.now slot (K.entries_in old)))) }
     ensures writes { WritesStore N space.old space.new undo.old undo.new }
+    ensures pages { KeepsPagesUpTo N K.SEGMENT (length (K.entries_in (stored_in N space.old)) + 1)
+        space.old space.new }
     ensures no_frame { IsErrOf result Shortage.NoFrame → free_of space.new.frames ≡ 0 }
 {
     index_in::<K, N>(space).insert(space, undo, key, slot)
@@ -128,13 +131,11 @@ pub fn remove_entry<K: Indexed, const N: usize>(
     undo: &mut Undo<N>,
     key: &K,
 ) -> Result<(), Shortage>
-    requires store { HasStore N (owner_bytes space.old) }
-    requires undo_log { IsUndoLog N space.old undo.old }
-    ensures store { OnOk result (HasStore N (owner_bytes space.new)) }
-    ensures removed { OnOk result (stored_in N space.new ≡ K.with_entries (stored_in N space.old)
-        (without K.is_less key.now (K.entries_in (stored_in N space.old)))) }
+    requires { IsWritableStore N space.old undo.old }
+    ensures removed { OnOk result (ChangesStore N space.old space.new
+        (λ old. K.with_entries old (without K.is_less key.now (K.entries_in old)))) }
     ensures writes { WritesStore N space.old space.new undo.old undo.new }
-    ensures no_frame { IsErrOf result Shortage.NoFrame → free_of space.new.frames ≡ 0 }
+    ensures no_frame { IsErrOf result Shortage.NoFrame → IsOutOfFrames space.new }
 {
     index_in::<K, N>(space).remove(space, undo, key)
 }

@@ -1,5 +1,16 @@
 //! The keys of the indexes.
 
+ghost use Rattle.std.specs.Prelude.{◌≡◌, ℕ, ◌++◌, slice_set};
+ghost use Rattle.std.proofs.Common.{refl, ap, ap₂, ◌∙◌, lit≤, rules, sym};
+ghost use Rattle.std.specs.Ordering.{is_lt, nat_cmp, ordering_then};
+ghost use Rattle.hy_index.specs.KeyBytes.{high_bytes_of, high_number_of};
+ghost use Rattle.hy_index.specs.Writes.{entries};
+ghost use Rattle.hy_index.proofs.KeyLaws.{compared-number, high_number_of-bytes};
+ghost use Rattle.hy_store.specs.Keys.{IsCustomerKey, IsLineKey, IsOrderKey, IsWaitingKey, customer_key_bytes, customer_key_of, is_lesser_customer, is_lesser_line, is_lesser_order, is_lesser_waiting, line_key_bytes, line_key_of, order_key_bytes, order_key_of, waiting_key_bytes, waiting_key_of};
+ghost use Rattle.hy_store.specs.Stored.{HasIndexSegments, last_order_index, line_index, order_index, stored, waiting_index};
+ghost use Rattle.hy_store.specs.inside.KeyPairs.{compared_pair};
+ghost use Rattle.hy_store.specs.inside.Places.{by_all_places};
+
 use crate::indexes::Indexed;
 use hy_index::codec::{push_number, read_number};
 use hy_index::{Key, KeyBytes};
@@ -43,13 +54,6 @@ pub struct LineKey {
 }
 
 impl Key for OrderKey {
-    ghost use Rattle.std.specs.Prelude.{◌≡◌, ℕ, ◌++◌};
-    ghost use Rattle.std.proofs.Common.{refl, ap, ap₂, ◌∙◌, rules, sym};
-    ghost use Rattle.std.specs.Ordering.{is_lt, nat_cmp, ordering_then};
-    ghost use Rattle.hy_index.specs.KeyBytes.{high_bytes_of, high_number_of};
-    ghost use Rattle.hy_index.proofs.KeyLaws.{compared-last, compared-number, high_number_of-bytes};
-    ghost use Rattle.hy_store.specs.Keys.{order_key_bytes, order_key_of, IsOrderKey, is_lesser_order};
-
     const BYTES: usize = 5;
 
     ghost BYTES = { 5 };
@@ -83,21 +87,11 @@ impl Key for OrderKey {
     ghost reads_back = { λ key is_key. ap₂ (λ (a : ℕ) (b : ℕ). record { order = a; district = b })
         (high_number_of-bytes 4 key.order is_key.0) (high_number_of-bytes 1 key.district is_key.1) };
 
-    ghost ordered = { λ one other is_one is_other. ap is_lt (sym (
-        compared-number 4 one.order other.order
-        (high_bytes_of 1 one.district) (high_bytes_of 1 other.district) is_one.0 is_other.0
-        ∙ ap (ordering_then (nat_cmp one.order other.order))
-        (compared-last 1 one.district other.district is_one.1 is_other.1))) };
+    ghost ordered = { λ one other is_one is_other. ap is_lt (sym
+        (compared_pair 4 1 one.order one.district other.order other.district is_one is_other)) };
 }
 
 impl Indexed for OrderKey {
-    ghost use Rattle.std.specs.Prelude.{◌≡◌, slice_set};
-    ghost use Rattle.std.proofs.Common.{refl, lit≤};
-    ghost use Rattle.hy_index.specs.Writes.{entries};
-    ghost use Rattle.hy_store.specs.Keys.{order_key_of};
-    ghost use Rattle.hy_store.specs.Stored.{HasIndexSegments, order_index, stored};
-    ghost use Rattle.hy_store.specs.inside.Places.{by_all_places};
-
     const SEGMENT: u32 = 8;
 
     ghost SEGMENT = { order_index };
@@ -105,6 +99,8 @@ impl Indexed for OrderKey {
     ghost entries_in = { λ store. store.orders };
 
     ghost with_entries = { λ store entries. record store { orders = entries } };
+
+    ghost is_index_at = { record { behind = lit≤ tt; width = refl } };
 
     ghost behind = { lit≤ tt };
 
@@ -123,13 +119,6 @@ impl Indexed for OrderKey {
 }
 
 impl Key for CustomerKey {
-    ghost use Rattle.std.specs.Prelude.{◌≡◌, ℕ, ◌++◌};
-    ghost use Rattle.std.proofs.Common.{refl, ap, ap₂, ◌∙◌, rules, sym};
-    ghost use Rattle.std.specs.Ordering.{is_lt, nat_cmp, ordering_then};
-    ghost use Rattle.hy_index.specs.KeyBytes.{high_bytes_of, high_number_of};
-    ghost use Rattle.hy_index.proofs.KeyLaws.{compared-last, compared-number, high_number_of-bytes};
-    ghost use Rattle.hy_store.specs.Keys.{customer_key_bytes, customer_key_of, IsCustomerKey, is_lesser_customer};
-
     const BYTES: usize = 3;
 
     ghost BYTES = { 3 };
@@ -163,21 +152,11 @@ impl Key for CustomerKey {
     ghost reads_back = { λ key is_key. ap₂ (λ (a : ℕ) (b : ℕ). record { district = a; customer = b })
         (high_number_of-bytes 1 key.district is_key.0) (high_number_of-bytes 2 key.customer is_key.1) };
 
-    ghost ordered = { λ one other is_one is_other. ap is_lt (sym (
-        compared-number 1 one.district other.district
-        (high_bytes_of 2 one.customer) (high_bytes_of 2 other.customer) is_one.0 is_other.0
-        ∙ ap (ordering_then (nat_cmp one.district other.district))
-        (compared-last 2 one.customer other.customer is_one.1 is_other.1))) };
+    ghost ordered = { λ one other is_one is_other. ap is_lt (sym
+        (compared_pair 1 2 one.district one.customer other.district other.customer is_one is_other)) };
 }
 
 impl Indexed for CustomerKey {
-    ghost use Rattle.std.specs.Prelude.{◌≡◌, slice_set};
-    ghost use Rattle.std.proofs.Common.{refl, lit≤};
-    ghost use Rattle.hy_index.specs.Writes.{entries};
-    ghost use Rattle.hy_store.specs.Keys.{customer_key_of};
-    ghost use Rattle.hy_store.specs.Stored.{HasIndexSegments, last_order_index, stored};
-    ghost use Rattle.hy_store.specs.inside.Places.{by_all_places};
-
     const SEGMENT: u32 = 9;
 
     ghost SEGMENT = { last_order_index };
@@ -185,6 +164,8 @@ impl Indexed for CustomerKey {
     ghost entries_in = { λ store. store.last_orders };
 
     ghost with_entries = { λ store entries. record store { last_orders = entries } };
+
+    ghost is_index_at = { record { behind = lit≤ tt; width = refl } };
 
     ghost behind = { lit≤ tt };
 
@@ -203,13 +184,6 @@ impl Indexed for CustomerKey {
 }
 
 impl Key for WaitingKey {
-    ghost use Rattle.std.specs.Prelude.{◌≡◌, ℕ, ◌++◌};
-    ghost use Rattle.std.proofs.Common.{refl, ap, ap₂, ◌∙◌, rules, sym};
-    ghost use Rattle.std.specs.Ordering.{is_lt, nat_cmp, ordering_then};
-    ghost use Rattle.hy_index.specs.KeyBytes.{high_bytes_of, high_number_of};
-    ghost use Rattle.hy_index.proofs.KeyLaws.{compared-last, compared-number, high_number_of-bytes};
-    ghost use Rattle.hy_store.specs.Keys.{waiting_key_bytes, waiting_key_of, IsWaitingKey, is_lesser_waiting};
-
     const BYTES: usize = 5;
 
     ghost BYTES = { 5 };
@@ -243,21 +217,11 @@ impl Key for WaitingKey {
     ghost reads_back = { λ key is_key. ap₂ (λ (a : ℕ) (b : ℕ). record { district = a; order = b })
         (high_number_of-bytes 1 key.district is_key.0) (high_number_of-bytes 4 key.order is_key.1) };
 
-    ghost ordered = { λ one other is_one is_other. ap is_lt (sym (
-        compared-number 1 one.district other.district
-        (high_bytes_of 4 one.order) (high_bytes_of 4 other.order) is_one.0 is_other.0
-        ∙ ap (ordering_then (nat_cmp one.district other.district))
-        (compared-last 4 one.order other.order is_one.1 is_other.1))) };
+    ghost ordered = { λ one other is_one is_other. ap is_lt (sym
+        (compared_pair 1 4 one.district one.order other.district other.order is_one is_other)) };
 }
 
 impl Indexed for WaitingKey {
-    ghost use Rattle.std.specs.Prelude.{◌≡◌, slice_set};
-    ghost use Rattle.std.proofs.Common.{refl, lit≤};
-    ghost use Rattle.hy_index.specs.Writes.{entries};
-    ghost use Rattle.hy_store.specs.Keys.{waiting_key_of};
-    ghost use Rattle.hy_store.specs.Stored.{HasIndexSegments, waiting_index, stored};
-    ghost use Rattle.hy_store.specs.inside.Places.{by_all_places};
-
     const SEGMENT: u32 = 10;
 
     ghost SEGMENT = { waiting_index };
@@ -265,6 +229,8 @@ impl Indexed for WaitingKey {
     ghost entries_in = { λ store. store.waiting };
 
     ghost with_entries = { λ store entries. record store { waiting = entries } };
+
+    ghost is_index_at = { record { behind = lit≤ tt; width = refl } };
 
     ghost behind = { lit≤ tt };
 
@@ -283,13 +249,6 @@ impl Indexed for WaitingKey {
 }
 
 impl Key for LineKey {
-    ghost use Rattle.std.specs.Prelude.{◌≡◌, ℕ, ◌++◌};
-    ghost use Rattle.std.proofs.Common.{refl, ap, ap₂, ◌∙◌, rules, sym};
-    ghost use Rattle.std.specs.Ordering.{is_lt, nat_cmp, ordering_then};
-    ghost use Rattle.hy_index.specs.KeyBytes.{high_bytes_of, high_number_of};
-    ghost use Rattle.hy_index.proofs.KeyLaws.{compared-last, compared-number, high_number_of-bytes};
-    ghost use Rattle.hy_store.specs.Keys.{line_key_bytes, line_key_of, IsLineKey, is_lesser_line};
-
     const BYTES: usize = 6;
 
     ghost BYTES = { 6 };
@@ -335,20 +294,11 @@ impl Key for LineKey {
         (high_bytes_of 1 one.district ++ high_bytes_of 1 one.number)
         (high_bytes_of 1 other.district ++ high_bytes_of 1 other.number) is_one.0 is_other.0
         ∙ ap (ordering_then (nat_cmp one.order other.order))
-        (compared-number 1 one.district other.district
-        (high_bytes_of 1 one.number) (high_bytes_of 1 other.number) is_one.1 is_other.1
-        ∙ ap (ordering_then (nat_cmp one.district other.district))
-        (compared-last 1 one.number other.number is_one.2 is_other.2)))) };
+        (compared_pair 1 1 one.district one.number other.district other.number
+        (is_one.1, is_one.2) (is_other.1, is_other.2)))) };
 }
 
 impl Indexed for LineKey {
-    ghost use Rattle.std.specs.Prelude.{◌≡◌, slice_set};
-    ghost use Rattle.std.proofs.Common.{refl, lit≤};
-    ghost use Rattle.hy_index.specs.Writes.{entries};
-    ghost use Rattle.hy_store.specs.Keys.{line_key_of};
-    ghost use Rattle.hy_store.specs.Stored.{HasIndexSegments, line_index, stored};
-    ghost use Rattle.hy_store.specs.inside.Places.{by_all_places};
-
     const SEGMENT: u32 = 11;
 
     ghost SEGMENT = { line_index };
@@ -356,6 +306,8 @@ impl Indexed for LineKey {
     ghost entries_in = { λ store. store.lines };
 
     ghost with_entries = { λ store entries. record store { lines = entries } };
+
+    ghost is_index_at = { record { behind = lit≤ tt; width = refl } };
 
     ghost behind = { lit≤ tt };
 

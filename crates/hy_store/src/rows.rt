@@ -1,14 +1,15 @@
 //! The rows of the tables, each at a place of its list, and the slots of NEW-ORDER.
 
-ghost use Rattle.std.specs.Prelude.{◌≡◌, ◌≢◌, ℕ, ◌<◌, ◌++◌, ◌∷◌, [], Some, None, IfOk, OnOk, IsErrOf, length, map, slice_get, slice_set};
+ghost use Rattle.std.specs.Prelude.{◌≡◌, ◌≢◌, ◌+◌, ◌<◌, ◌++◌, ◌∷◌, [], Some, IfOk, OnOk, IsErrOf, length, map, slice_get, slice_set};
 ghost use Rattle.hy_frames.specs.FrameTable.{free_of};
 ghost use Rattle.hy_rows.specs.Spelling.{HasTables, live_rows, new_order_segment, tables_of};
 ghost use Rattle.hy_space.specs.Space.{owner_bytes};
-ghost use Rattle.hy_undo.specs.PrivatePages.{IsUndoLog};
 ghost use Rattle.hy_undo.specs.Writes.{IsOutOfFrames};
 ghost use Rattle.hy_relation.specs.Relation.{HasRelation, IsLive, relation_slots};
-ghost use Rattle.hy_store.specs.Stored.{HasStore, Stored, all_segments};
-ghost use Rattle.hy_store.specs.Writes.{WritesStore, stored_in};
+ghost use Rattle.hy_store.specs.Changes.{with_new_order, without_new_order};
+ghost use Rattle.hy_store.specs.Pages.{KeepsPagesUpTo};
+ghost use Rattle.hy_store.specs.Stored.{HasStore};
+ghost use Rattle.hy_store.specs.Writes.{ChangesStore, IsWritableStore, WritesStore, stored_in};
 
 use hy_frames::Shortage;
 use hy_relation::Relation;
@@ -107,14 +108,11 @@ pub fn put_row<R: Lasting, const N: usize>(
     place: u64,
     row: &R,
 ) -> Result<(), Shortage>
-    requires store { HasStore N (owner_bytes space.old) }
+    requires writable { IsWritableStore N space.old undo.old }
     requires there { place < length (R.rows_in (stored_in N space.old).tables) }
-    requires undo_log { IsUndoLog N space.old undo.old }
-    ensures store { OnOk result (HasStore N (owner_bytes space.new)) }
-    ensures put { OnOk result (stored_in N space.new ≡ record (stored_in N space.old) {
-      tables = R.with_rows (stored_in N space.old).tables
-          (slice_set (R.rows_in (stored_in N space.old).tables) place row.now);
-    }) }
+    ensures put { OnOk result (ChangesStore N space.old space.new (λ old. record old {
+      tables = R.with_rows old.tables (slice_set (R.rows_in old.tables) place row.now);
+    })) }
     ensures writes { WritesStore N space.old space.new undo.old undo.new }
     ensures no_frame { IsErrOf result Shortage.NoFrame → IsOutOfFrames space.new }
 {
@@ -128,15 +126,14 @@ pub fn push_row<R: Lasting, const N: usize>(
     undo: &mut Undo<N>,
     row: &R,
 ) -> Result<u64, Shortage>
-    requires store { HasStore N (owner_bytes space.old) }
-    requires undo_log { IsUndoLog N space.old undo.old }
-    ensures store { OnOk result (HasStore N (owner_bytes space.new)) }
-    ensures pushed { OnOk result (stored_in N space.new ≡ record (stored_in N space.old) {
-      tables = R.with_rows (stored_in N space.old).tables
-          (R.rows_in (stored_in N space.old).tables ++ row.now ∷ []);
-    }) }
+    requires { IsWritableStore N space.old undo.old }
+    ensures pushed { OnOk result (ChangesStore N space.old space.new (λ old. record old {
+      tables = R.with_rows old.tables (R.rows_in old.tables ++ row.now ∷ []);
+    })) }
     ensures place { IfOk result (λ place. place ≡ length (R.rows_in (stored_in N space.old).tables)) }
     ensures writes { WritesStore N space.old space.new undo.old undo.new }
+    ensures pages { KeepsPagesUpTo N R.SEGMENT (length (R.rows_in (stored_in N space.old).tables) + 1)
+        space.old space.new }
     ensures no_frame { IsErrOf result Shortage.NoFrame → free_of space.new.frames ≡ 0 }
 {
     know_rows::<R, N>(space);
@@ -149,17 +146,12 @@ pub fn push_new_order<const N: usize>(
     undo: &mut Undo<N>,
     row: &NewOrder,
 ) -> Result<u64, Shortage>
-    requires store { HasStore N (owner_bytes space.old) }
-    requires undo_log { IsUndoLog N space.old undo.old }
-    ensures store { OnOk result (HasStore N (owner_bytes space.new)) }
-    ensures pushed { OnOk result (stored_in N space.new ≡ record (stored_in N space.old) {
-      tables = record (stored_in N space.old).tables {
-        new_orders = (stored_in N space.old).tables.new_orders ++ row.now ∷ [];
-      };
-      new_order_slots = (stored_in N space.old).new_order_slots ++ Some row.now ∷ [];
-    }) }
+    requires { IsWritableStore N space.old undo.old }
+    ensures pushed { OnOk result (ChangesStore N space.old space.new (with_new_order row.now)) }
     ensures slot { IfOk result (λ slot. slot ≡ length (stored_in N space.old).new_order_slots) }
     ensures writes { WritesStore N space.old space.new undo.old undo.new }
+    ensures pages { KeepsPagesUpTo N new_order_segment (length (stored_in N space.old).new_order_slots + 1)
+        space.old space.new }
     ensures no_frame { IsErrOf result Shortage.NoFrame → free_of space.new.frames ≡ 0 }
 {
     know_relation::<NewOrder, N>(space);
@@ -172,16 +164,9 @@ pub fn erase_new_order<const N: usize>(
     undo: &mut Undo<N>,
     slot: u64,
 ) -> Result<(), Shortage>
-    requires store { HasStore N (owner_bytes space.old) }
+    requires writable { IsWritableStore N space.old undo.old }
     requires live { IsLive (stored_in N space.old).new_order_slots slot }
-    requires undo_log { IsUndoLog N space.old undo.old }
-    ensures store { OnOk result (HasStore N (owner_bytes space.new)) }
-    ensures erased { OnOk result (stored_in N space.new ≡ record (stored_in N space.old) {
-      tables = record (stored_in N space.old).tables {
-        new_orders = live_rows (slice_set (stored_in N space.old).new_order_slots slot None);
-      };
-      new_order_slots = slice_set (stored_in N space.old).new_order_slots slot None;
-    }) }
+    ensures erased { OnOk result (ChangesStore N space.old space.new (without_new_order slot)) }
     ensures writes { WritesStore N space.old space.new undo.old undo.new }
     ensures no_frame { IsErrOf result Shortage.NoFrame → IsOutOfFrames space.new }
 {

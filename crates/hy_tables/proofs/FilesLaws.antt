@@ -3,8 +3,8 @@ use Rattle.std.proofs.Common.{◌≡◌, ◌⊎◌, ℕ, suc, inl, inr, List, []
 use Rattle.std.specs.Prelude.{All, IfSome, slice_get}
 use Rattle.std.proofs.lemmas.List.Elements.{All-nil, All-cons}
 use Rattle.hy_rows.specs.Tables.{Lists}
-use Rattle.hy_records.specs.Tables.{customer_fields, customer_names, customer_of, district_fields, district_names, district_of, history_fields, history_names, history_of, item_fields, item_names, item_of, new_order_fields, new_order_names, new_order_of, order_fields, order_line_fields, order_line_names, order_line_of, order_names, order_of, stock_fields, stock_names, stock_of, warehouse_fields, warehouse_names, warehouse_of}
-use Rattle.hy_records.specs.Texts.{Reading, reading, text_of_rows}
+use Rattle.hy_csv.specs.Tables.{customer_fields, customer_names, customer_of, district_fields, district_names, district_of, history_fields, history_names, history_of, item_fields, item_names, item_of, new_order_fields, new_order_names, new_order_of, order_fields, order_line_fields, order_line_names, order_line_of, order_names, order_of, stock_fields, stock_names, stock_of, warehouse_fields, warehouse_names, warehouse_of}
+use Rattle.hy_csv.specs.Texts.{Reading, reading, text_of_rows}
 use Rattle.hy_schema.specs.Loads.{HasFault, IsLoad, all_whole}
 use Rattle.hy_schema.specs.declared.refusal.LoadFault.{LoadFault}
 use Rattle.hy_loads.proofs.FaultLaws.{load-no_fault}

@@ -11,8 +11,8 @@ use Rattle.hy_rows.specs.declared.order_line.OrderLine.{OrderLine}
 use Rattle.hy_rows.specs.declared.stock.Stock.{Stock}
 use Rattle.hy_rows.specs.declared.item.Item.{Item}
 use Rattle.hy_rows.specs.Tables.{Lists, Tables}
-use Rattle.hy_records.specs.Tables.{customer_fields, customer_names, customer_of, district_fields, district_names, district_of, history_fields, history_names, history_of, item_fields, item_names, item_of, new_order_fields, new_order_names, new_order_of, order_fields, order_line_fields, order_line_names, order_line_of, order_names, order_of, stock_fields, stock_names, stock_of, warehouse_fields, warehouse_names, warehouse_of}
-use Rattle.hy_records.specs.Texts.{Reading, reading, text_of_rows}
+use Rattle.hy_csv.specs.Tables.{customer_fields, customer_names, customer_of, district_fields, district_names, district_of, history_fields, history_names, history_of, item_fields, item_names, item_of, new_order_fields, new_order_names, new_order_of, order_fields, order_line_fields, order_line_names, order_line_of, order_names, order_of, stock_fields, stock_names, stock_of, warehouse_fields, warehouse_names, warehouse_of}
+use Rattle.hy_csv.specs.Texts.{Reading, reading, text_of_rows}
 use Rattle.hy_schema.specs.declared.files.FileEnd.{FileEnd}
 use Rattle.hy_schema.specs.declared.files.FileEnd.TheVariants as end
 use Rattle.hy_schema.specs.declared.files.FileEnds.{FileEnds}

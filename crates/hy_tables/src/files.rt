@@ -7,8 +7,8 @@ ghost use Rattle.hy_schema.specs.Loads.{HasFault, IsLoad, all_whole};
 ghost use Rattle.hy_loads.specs.Checks.{IsRefusalOf};
 ghost use Rattle.hy_tables.specs.Files.{end_of, ends_read, lists_read, readings_of, texts_of};
 
+use hy_csv::{read, reads_back, write};
 use hy_loads::Load;
-use hy_records::{read, reads_back, write};
 use hy_rows::{
     Customer, District, History, Item, Lists, NewOrder, Order, OrderLine, Stock, Tables, Warehouse,
 };

@@ -37,7 +37,8 @@ use Rattle.hy_writers.proofs.LexLaws.{between-line, line-between}
 use Rattle.hy_writers.proofs.LineLaws.{at-line, line-at}
 use Rattle.hy_writers.proofs.WaitingLaws.{in-all, in-map, map-in}
 use Rattle.hy_tpcc.specs.Levels.{entries_of, items_named, with_items}
-use Rattle.hy_tpcc.specs.Lines.{lines_named, places_of}
+use Rattle.hy_writers.specs.Deliveries.{places_of}
+use Rattle.hy_tpcc.specs.Lines.{lines_named}
 use Rattle.hy_tpcc.proofs.GatherLaws.{counted-once, items-from, new-items, old-items, once-items}
 
 some-is : {Row : Type 0} (one other : Row) → Some one ≡ Some other → one ≡ other

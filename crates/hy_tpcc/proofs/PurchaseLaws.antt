@@ -1,5 +1,5 @@
 -- The slices of a purchase.
-use Rattle.std.proofs.Common.{◌≡◌, ◌&&◌, ◌≢◌, Bool, cond, false, map, ℕ, ◌<◌, ◌≤◌, ◌+◌, ◌*◌, ◌-◌, ◌^◌, ◌==◌, true, List, [], ◌∷◌, length, Option, Some, None, refl, sym, ap, ap₂, subst, ◌∙◌, zero, suc, arith}
+use Rattle.std.proofs.Common.{◌≡◌, ◌&&◌, ◌≢◌, Bool, cond, false, ℕ, ◌<◌, ◌≤◌, ◌+◌, ◌*◌, ◌-◌, ◌^◌, ◌==◌, true, List, [], ◌∷◌, length, Option, Some, None, refl, sym, ap, ap₂, subst, ◌∙◌, zero, suc, arith}
 use Rattle.std.specs.Prelude.{All, is_some, slice_get, unwrap_or}
 use Rattle.std.specs.List.{find, list_all, list_any}
 use Rattle.std.specs.Option.{option_map}
@@ -9,6 +9,7 @@ use Rattle.std.proofs.lemmas.List.Elements.{All-cons, All-head, All-nil, All-tai
 use Rattle.std.proofs.lemmas.Option.{IfSome_then}
 use Rattle.hy_rows.proofs.BetweenLaws.{bounds}
 use Rattle.hy_rows.specs.Finding.{is_customer, is_district, is_warehouse}
+use Rattle.hy_rows.specs.Ranges.{IsBetween}
 use Rattle.hy_rows.specs.Rows.{district_of, warehouse_of}
 use Rattle.hy_rows.specs.Tables.{Lists, Tables}
 use Rattle.hy_rows.specs.declared.district.District.{District}
@@ -16,7 +17,7 @@ use Rattle.hy_rows.specs.declared.item.Item.{Item}
 use Rattle.hy_rows.specs.declared.new_order.NewOrder.{NewOrder}
 use Rattle.hy_rows.specs.declared.order.Order.{Order}
 use Rattle.hy_rows.specs.Finding.{first_or}
-use Rattle.hy_schema.specs.Keys.{AreUnique, IsOneWarehouse}
+use Rattle.hy_schema.specs.Keys.{IsOneWarehouse}
 use Rattle.hy_schema.specs.Loads.{IsItemAt, IsLoad}
 use Rattle.hy_schema.specs.Related.{is_item, is_order, orders_of}
 use Rattle.hy_rows.specs.Spelling.{live_rows}
@@ -26,7 +27,7 @@ use Rattle.hy_commands.specs.declared.command.PurchaseLine.{PurchaseLine}
 use Rattle.hy_commands.specs.declared.command.Who.TheVariants as who
 use Rattle.hy_commands.specs.Commands.{is_line_in_range}
 use Rattle.hy_commands.specs.Growth.{IsCustomerUpTo}
-use Rattle.hy_commands.specs.Invariant.{HasOrder, IsBehindOrders, IsOwnOrder, IsSoundWarehouse, stock_key}
+use Rattle.hy_commands.specs.Invariant.{HasOrder, IsBehindOrders, IsOwnOrder, IsSoundWarehouse}
 use Rattle.hy_commands.specs.NewOrders.{buyer, district_of_purchase, has_item, order_number, purchase_cents, purchase_total, total_of, with_next_order}
 use Rattle.hy_commands.specs.declared.reply.Reply.TheVariants as replies
 use Rattle.hy_commands.specs.Transactions.{accepted, begin_refusal_of}
@@ -34,7 +35,7 @@ use Rattle.hy_commands.proofs.GrowthLaws.{ItemsFit}
 use Rattle.hy_commands.proofs.SoundLoad.{all-by_place}
 use Rattle.hy_commands.proofs.ListLaws.{All-find, find-passes, found-any}
 use Rattle.hy_commands.proofs.OnceLaws.{tells-three, tells-two}
-use Rattle.hy_layout.specs.Layout.{IsMeantAt, KeepsPlaces, LayoutState, own_rows}
+use Rattle.hy_layout.specs.Layout.{IsMeantAt, LayoutState}
 use Rattle.hy_layout.specs.Finds.{IsIn}
 use Rattle.hy_layout.proofs.MemberLaws.{in-filter, in-place}
 use Rattle.hy_slices.specs.Between.{IsLineBefore}
@@ -47,8 +48,8 @@ use Rattle.hy_store.specs.Stored.{Stored}
 use Rattle.hy_indexes.specs.Indexes.{HasIndexes}
 use Rattle.hy_writers.specs.Begun.{IsBegunLine, IsBegunPurchase}
 use Rattle.hy_writers.specs.Changes.{IsFoundAt}
-use Rattle.hy_writers.specs.Limits.{AreInBounds, most_commits}
-use Rattle.hy_writers.specs.Purchases.{with_order, with_order_line}
+use Rattle.hy_writers.specs.Limits.{most_applied}
+use Rattle.hy_writers.specs.Purchases.{CanAddLine, with_order, with_order_line}
 use Rattle.hy_writers.proofs.DeliverLaws.{any-place}
 use Rattle.hy_writers.proofs.IndexedLaws.{AreBelow, NoLine, NoneWaits, indexes-line, indexes-order}
 use Rattle.hy_writers.proofs.WaitingLaws.{in-all, live-in}
@@ -93,7 +94,7 @@ customer-small layout order place before begun =
     let passes = tells-three (meant.row).warehouse (meant.row).district (meant.row).id layout.warehouse order.district
     order.customer (find-passes test before.customers meant.row meant.meant) in
     let bounds = begun.bounds 0 (omega arith) refl in
-    let up = All-find (IsCustomerUpTo most_commits (10 * most_commits)) test before.customers meant.row bounds.customers
+    let up = All-find (IsCustomerUpTo most_applied (10 * most_applied)) test before.customers meant.row bounds.customers
     meant.meant in
     omega (arith, passes.2, up.id)
 
@@ -261,25 +262,13 @@ items-fit load is_load =
     {Q = λ (row : Item). (row.id ≤ 100_000) × (row.price ≤ 1_000_000)} (is_load.items.each place)
     (λ row right. ((bounds 1 100_000 row.id (right.0).id).1, (bounds 1 1_000_000 row.price (right.0).price).1)))
 
--- a store that takes the line behind so many slices
-pub record CanAddLine (layout : LayoutState) (order : Purchase) (done : ℕ) (s : Stored) (line : PurchaseLine)
-    (item : Item) : Type 0 where
-  pub rows : IsOneWarehouse layout.warehouse s.tables
-  pub stock : AreUnique (map stock_key s.tables.stock)
-  pub places : KeepsPlaces (own_rows layout) s.tables
-  pub bounds : AreInBounds s.tables
-  pub next : All (λ row. 0 < row.next_order) s.tables.districts
-  pub begun : IsBegunPurchase layout.warehouse order
-  pub lines : done - 1 < 15
-  pub passed : IsBegunLine layout.warehouse line
-  pub small : line.item ≤ 100_000
-  pub price : item.price ≤ 1_000_000
-
+-- a store takes the line behind so many slices
 pub can-add_line : (layout : LayoutState) (order : Purchase) (place done : ℕ) (before : Tables) (s : Stored)
     (line : PurchaseLine) (item : Item) → IsLoad layout.load → 0 < done → done < length order.lines + 1
     → line_behind order (done - 1) ≡ Some line → find (is_item line.item) layout.load.items ≡ Some item
-    → HasDone layout (commands.NewOrder order) place done before s → CanAddLine layout order done s line item
-can-add_line layout order place done before s line item is_load head next is_line is_item_of now =
+    → IsBetween 1 (length layout.load.items) line.item → HasDone layout (commands.NewOrder order) place done before s
+    → CanAddLine layout order (done - 1) line item s
+can-add_line layout order place done before s line item is_load head next is_line is_item_of number now =
     let command = commands.NewOrder order in
     let within : done ≤ length order.lines + 1 = omega (arith, next) in
     let whole = whole-done layout command place done before s now within in
@@ -296,8 +285,10 @@ can-add_line layout order place done before s line item is_load head next is_lin
       bounds = bounds-done layout command place done before s now within;
       next = whole.orders.next_orders;
       begun = begun;
-      lines = omega (arith, few, next, head);
+      few = omega (arith, few, next, head);
       passed = all-at (IsBegunLine layout.warehouse) order.lines (done - 1) line begun.lines is_line;
+      found = is_item_of;
+      number = number;
       small = omega (arith, fits.0, id_is);
       price = fits.1;
     }

@@ -17,7 +17,7 @@ use Rattle.hy_writers.specs.Waiting.{IsSoundStore}
 use Rattle.hy_commands.specs.Commands.{is_in_range, warehouses_of}
 use Rattle.hy_commands.specs.Payments.{paid_by}
 use Rattle.hy_commands.specs.Transactions.{begin_refusal_of, has_districts, is_district_number, payer}
-use Rattle.hy_layout.specs.Layout.{IsMeantAt, KeepsPlaces, LayoutState, own_rows}
+use Rattle.hy_layout.specs.Layout.{KeepsPlaces, LayoutState, own_rows}
 use Rattle.hy_slices.specs.Between.{IsWholeWarehouse}
 use Rattle.hy_slices.specs.Slices.{slice_count}
 use Rattle.hy_slices.proofs.BegunLaws.{begun-delivery, begun-payment}
@@ -25,10 +25,9 @@ use Rattle.hy_slices.proofs.BetweenSlices.{oldest-before, sound-slices, whole-sl
 use Rattle.hy_store.specs.Stored.{Stored}
 use Rattle.hy_writers.specs.Begun.{IsBegunDelivery, IsBegunPayment}
 use Rattle.hy_writers.specs.Limits.{AreInBounds}
-use Rattle.hy_schema.specs.Keys.{IsOneWarehouse}
 use Rattle.hy_commands.specs.declared.reply.Reply.{Reply}
 use Rattle.hy_indexes.specs.Indexes.{HasIndexes}
-use Rattle.hy_writers.specs.Payments.{payment_reply}
+use Rattle.hy_writers.specs.Payments.{CanPay, payment_reply}
 use Rattle.hy_tpcc.proofs.KeepsLaws.{keeps-slices}
 use Rattle.hy_tpcc.specs.Executor.{HasDone, answer_of}
 
@@ -75,13 +74,6 @@ module _ (layout : LayoutState) (command : Command) (place done : ℕ) (before :
       (keeps-slices (own_rows layout) layout.load.items layout.warehouse command done before now.begun.places)
 
 -- ---- a payment
-
--- a store that a slice of a payment finds
-pub record CanPay (layout : LayoutState) (payment : Payment) (place : ℕ) (s : Stored) : Type 0 where
-  pub rows : IsOneWarehouse layout.warehouse s.tables
-  pub bounds : AreInBounds s.tables
-  pub begun : IsBegunPayment layout.warehouse payment
-  pub payer : IsMeantAt layout.warehouse payment.customer_district payment.who s.tables.customers place
 
 pub can-pay : (layout : LayoutState) (payment : Payment) (place done : ℕ) (before : Tables) (s : Stored) → done < 2
     → HasDone layout (commands.Payment payment) place done before s → CanPay layout payment place s

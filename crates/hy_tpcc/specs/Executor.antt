@@ -1,5 +1,5 @@
 -- A command on its way through its slices.
-use Rattle.std.specs.Prelude.{◌≡◌, ℕ, ◌+◌, ◌==◌, ◌≤◌, ⊤, true, if◌then◌else◌, List, map, Option, None, Some}
+use Rattle.std.specs.Prelude.{◌≡◌, ℕ, ◌+◌, ◌==◌, ◌≤◌, ⊤, false, true, if◌then◌else◌, List, map, Option, None, Some, MatchOption}
 use Rattle.std.specs.List.{range_with_len}
 use Rattle.hy_rows.specs.Tables.{Tables}
 use Rattle.hy_commands.specs.declared.command.Command.{Command}
@@ -8,7 +8,7 @@ use Rattle.hy_commands.specs.declared.command.Who.TheVariants as who
 use Rattle.hy_commands.specs.Deliveries.{oldest}
 use Rattle.hy_commands.specs.Invariant.{IsSoundWarehouse}
 use Rattle.hy_commands.specs.declared.reply.Reply.{Reply}
-use Rattle.hy_commands.specs.Transactions.{accepted, begin_refusal_of}
+use Rattle.hy_commands.specs.Transactions.{accepted, begin_refusal_of, has_customer}
 use Rattle.hy_layout.specs.Layout.{IsMeantAt, KeepsPlaces, LayoutState, own_rows}
 use Rattle.hy_slices.specs.Slices.{after_slices, has_items_before, slice_count}
 use Rattle.hy_store.specs.Stored.{Stored}
@@ -67,6 +67,15 @@ pub record HasDone (layout : LayoutState) (command : Command) (place done : ℕ)
   pub known : has_items_before layout.load.items command done ≡ true
   pub indexes : HasIndexes s
 
+-- so many slices of a command are done, which began with some rows
+abbrev pub IsPartlyDone : LayoutState → Command → ℕ → ℕ → Stored → Type 0
+IsPartlyDone layout command place done s = (before : Tables) × HasDone layout command place done before s
+
+-- whatever rows the command began with, one slice more is done
+abbrev pub DoesSlice : LayoutState → Command → ℕ → ℕ → Stored → Stored → Type 0
+DoesSlice layout command place done old new =
+    (before : Tables) → HasDone layout command place done before old → HasDone layout command place (done + 1) before new
+
 -- a delivery that runs is noted with the orders that its slices have delivered
 abbrev pub NotesDelivered : ℕ → Command → ℕ → Tables → List ℕ → Type 0
 NotesDelivered warehouse (commands.Delivery delivery) done before delivered =
@@ -85,3 +94,35 @@ abbrev pub answer_of : LayoutState → Command → ℕ → Tables → Option Rep
 answer_of layout command done before =
     if done + 1 == slice_count command
     then Some (accepted layout.load.items layout.warehouse command before).reply else None
+
+-- whatever rows the command began with, this is the answer of the slice behind so many
+abbrev pub IsAnswer : LayoutState → Command → ℕ → ℕ → Stored → Option Reply → Type 0
+IsAnswer layout command place done s reply =
+    (before : Tables) → HasDone layout command place done before s → reply ≡ answer_of layout command done before
+
+-- and this the reply to the command
+abbrev pub IsReply : LayoutState → Command → ℕ → ℕ → Stored → Reply → Type 0
+IsReply layout command place done s reply =
+    (before : Tables) → HasDone layout command place done before s
+    → reply ≡ (accepted layout.load.items layout.warehouse command before).reply
+
+-- an executor has done so many slices of a command that its warehouse began with some rows
+abbrev pub RunsCommand : ExecutorState → Command → ℕ → Stored → Type 0
+RunsCommand executor command done s = (before : Tables) × IsUnderWay executor command done before s
+
+-- whatever these rows were, one slice more is done
+abbrev pub RunsSlice : ExecutorState → ExecutorState → Command → ℕ → Stored → Stored → Type 0
+RunsSlice executor next command done old new =
+    (before : Tables) → IsUnderWay executor command done before old → IsUnderWay next command (done + 1) before new
+
+-- and this is the answer of the slice behind so many
+abbrev pub AnswersSlice : ExecutorState → Command → ℕ → Stored → Option Reply → Type 0
+AnswersSlice executor command done s reply =
+    (before : Tables) → IsUnderWay executor command done before s
+    → reply ≡ answer_of executor.layout command done before
+
+-- the place of the customer whom a command names in some rows; none where there is no such customer
+abbrev pub FindsCustomer : ℕ → Command → Tables → Option ℕ → Type 0
+FindsCustomer warehouse command tables found =
+    MatchOption found (has_customer command tables ≡ false)
+    (λ place. (has_customer command tables ≡ true) × HasCustomerAt warehouse command tables place)

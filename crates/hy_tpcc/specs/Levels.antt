@@ -3,8 +3,11 @@ use Rattle.std.specs.Prelude.{ℕ, ◌+◌, ◌&&◌, not, Bool, if◌then◌els
 use Rattle.hy_rows.specs.declared.order_line.OrderLine.{OrderLine}
 use Rattle.hy_index.specs.declared.key.Entry.{Entry}
 use Rattle.hy_index.specs.Index.{between}
+use Rattle.hy_commands.specs.declared.command.StockLevel.{StockLevel}
+use Rattle.hy_commands.specs.StockLevels.{is_low}
 use Rattle.hy_store.specs.declared.keys.LineKey.{LineKey}
 use Rattle.hy_store.specs.Keys.{is_lesser_line}
+use Rattle.hy_store.specs.Stored.{Stored}
 use Rattle.hy_writers.specs.Deliveries.{is_listed}
 use Rattle.hy_tpcc.specs.Lines.{lines_named}
 
@@ -17,6 +20,14 @@ with_items test low items = fold (with_item test) low items
 
 abbrev pub items_named : List OrderLine → List (Entry LineKey) → List ℕ
 items_named rows entries = map (λ (row : OrderLine). row.item) (lines_named rows entries)
+
+-- whether a Stock-Level counts an item
+abbrev pub counts_item : StockLevel → Stored → ℕ → Bool
+counts_item level s = is_low level.warehouse level.threshold s.tables.stock
+
+-- with the items that it counts of the lines that entries name
+abbrev pub with_low_items : StockLevel → Stored → List (Entry LineKey) → List ℕ → List ℕ
+with_low_items level s entries low = with_items (counts_item level s) low (items_named s.tables.order_lines entries)
 
 -- the entries of the lines of an order of a district
 abbrev pub entries_of : ℕ → ℕ → List (Entry LineKey) → List (Entry LineKey)

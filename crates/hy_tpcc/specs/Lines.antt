@@ -1,12 +1,9 @@
 -- The lines that entries name.
-use Rattle.std.specs.Prelude.{ℕ, List, map}
+use Rattle.std.specs.Prelude.{List}
 use Rattle.hy_rows.specs.declared.order_line.OrderLine.{OrderLine}
 use Rattle.hy_index.specs.declared.key.Entry.{Entry}
 use Rattle.hy_store.specs.declared.keys.LineKey.{LineKey}
-use Rattle.hy_writers.specs.Deliveries.{lines_at}
-
-abbrev pub places_of : List (Entry LineKey) → List ℕ
-places_of entries = map (λ (entry : Entry LineKey). entry.slot) entries
+use Rattle.hy_writers.specs.Deliveries.{lines_at, places_of}
 
 abbrev pub lines_named : List OrderLine → List (Entry LineKey) → List OrderLine
 lines_named rows entries = lines_at rows (places_of entries)

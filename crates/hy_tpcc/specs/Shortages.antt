@@ -19,19 +19,19 @@ abbrev pub with_refusal : {Answer : Type 0} → Result Answer Shortage → Resul
 with_refusal (Ok answer) = Ok answer
 with_refusal (Err shortage) = Err (refusal_of_shortage shortage)
 
--- whether the slice behind so many only puts rows in the place of others, as that of a payment's customer: it adds no
--- page
-abbrev pub only_puts_rows : Command → ℕ → Bool
-only_puts_rows (commands.NewOrder order) done = false
-only_puts_rows (commands.Payment payment) zero = false
-only_puts_rows (commands.Payment payment) (suc done) = true
-only_puts_rows (commands.OrderStatus status) done = false
-only_puts_rows (commands.Delivery delivery) done = false
-only_puts_rows (commands.StockLevel level) done = false
+-- whether the slice behind so many adds no page: that of a payment's customer puts a row in the place of another, and
+-- those of a delivery do so too, and take a row of NEW-ORDER away with its entry
+abbrev pub adds_no_page : Command → ℕ → Bool
+adds_no_page (commands.NewOrder order) done = false
+adds_no_page (commands.Payment payment) zero = false
+adds_no_page (commands.Payment payment) (suc done) = true
+adds_no_page (commands.OrderStatus status) done = false
+adds_no_page (commands.Delivery delivery) done = true
+adds_no_page (commands.StockLevel level) done = false
 
 -- the slice behind so many of a command lacks a frame on the pages of a space: the command doesn't only read, no frame
--- is free, and where the slice only puts rows, a child is open, which may share their pages
+-- is free, and where the slice adds no page, a child is open, which may share those that it writes
 pub record FindsNoFrame (command : Command) (done : ℕ) (space : SpaceState) : Type 0 where
   pub writes : is_reader command ≡ false
   pub full : free_of space.frames ≡ 0
-  pub open_child : only_puts_rows command done ≡ true → (child : ℕ) × IsSome (child_table space child)
+  pub open_child : adds_no_page command done ≡ true → (child : ℕ) × IsSome (child_table space child)

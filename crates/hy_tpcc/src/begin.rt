@@ -1,16 +1,16 @@
 //! Why a warehouse doesn't begin a command, and where its customer stands.
 
-ghost use Rattle.std.specs.Prelude.{◌≡◌, ◌==◌, None, Some, true, false, IfErr, IfOk, MatchOption, OnOk};
+ghost use Rattle.std.specs.Prelude.{◌≡◌, ◌==◌, None, Some, true, IfErr, IfOk, OnOk};
 ghost use Rattle.std.specs.List.{list_all};
 ghost use Rattle.hy_rows.specs.Tables.{Tables};
 ghost use Rattle.hy_commands.specs.Commands.{is_in_range, warehouses_of};
-ghost use Rattle.hy_commands.specs.Transactions.{begin_refusal_of, has_customer, has_districts, is_district_number};
+ghost use Rattle.hy_commands.specs.Transactions.{begin_refusal_of, has_districts, is_district_number};
 ghost use Rattle.hy_layout.specs.Layout.{KeepsPlaces, own_rows};
 ghost use Rattle.hy_space.specs.Space.{owner_bytes};
 ghost use Rattle.hy_store.specs.Stored.{HasStore};
 ghost use Rattle.hy_store.specs.Writes.{stored_in};
 ghost use Rattle.hy_writers.specs.Waiting.{IsSoundStore};
-ghost use Rattle.hy_tpcc.specs.Executor.{HasCustomerAt, KnowsCustomer};
+ghost use Rattle.hy_tpcc.specs.Executor.{FindsCustomer, KnowsCustomer};
 
 use hy_commands::Command;
 use hy_layout::Layout;
@@ -53,10 +53,8 @@ fn names_only(command: &Command, warehouse: u8) -> bool
 /// The place of the customer whom a command names, and 0 where it names none; none where there is no such customer.
 fn customer_place(layout: &Layout, command: &Command) -> Option<u64>
     requires { list_all (λ named. named == layout.now.warehouse) (warehouses_of command.now) ≡ true }
-    ensures { (tables : Tables) → KeepsPlaces (own_rows layout.now) tables → MatchOption result
-        (has_customer command.now tables ≡ false)
-        (λ place. (has_customer command.now tables ≡ true)
-        × HasCustomerAt layout.now.warehouse command.now tables place) }
+    ensures { (tables : Tables) → KeepsPlaces (own_rows layout.now) tables
+        → FindsCustomer layout.now.warehouse command.now tables result }
 {
     match command {
         Command::NewOrder(order) => layout.place_of_number(order.district, order.customer),

@@ -1,14 +1,10 @@
 //! The slices of a delivery.
 
-ghost use Rattle.std.specs.Prelude.{◌≡◌, ◌+◌, ◌<◌, IfOk, IsErrOf, OnOk, length};
-ghost use Rattle.hy_rows.specs.Tables.{Tables};
-ghost use Rattle.hy_frames.specs.FrameTable.{free_of};
-ghost use Rattle.hy_space.specs.Space.{owner_bytes};
-ghost use Rattle.hy_undo.specs.PrivatePages.{IsUndoLog};
-ghost use Rattle.hy_commands.specs.Deliveries.{oldest};
-ghost use Rattle.hy_store.specs.Stored.{HasStore};
-ghost use Rattle.hy_store.specs.Writes.{WritesStore, stored_in};
-ghost use Rattle.hy_tpcc.specs.Executor.{HasDone, answer_of, delivered_before};
+ghost use Rattle.std.specs.Prelude.{◌≡◌, ◌<◌, IfOk, IsErrOf, OnOk, length};
+ghost use Rattle.hy_undo.specs.Writes.{IsOutOfFrames};
+ghost use Rattle.hy_store.specs.Writes.{IsWritableStore, LeavesStore, WritesStore, stored_in};
+ghost use Rattle.hy_tpcc.specs.Deliveries.{AnswersDelivery, DeliversNext, IsNextDelivered, RunsDelivery};
+ghost use Rattle.hy_tpcc.specs.Executor.{DoesSlice, IsPartlyDone};
 
 use arrayvec::ArrayVec;
 use hy_commands::{Command, Delivery, Reply};
@@ -31,20 +27,14 @@ fn deliver_next<const N: usize>(
     done: u8,
     entries: &mut Vec<Entry<LineKey>>,
 ) -> Result<u32, Shortage>
-    requires store { HasStore N (owner_bytes space.old) }
-    requires undo_log { IsUndoLog N space.old undo.old }
+    requires writable { IsWritableStore N space.old undo.old }
     requires next { done < 10 }
-    requires done { (before : Tables)
-        × HasDone layout.now (Command.Delivery delivery.now) place done before (stored_in N space.old) }
-    ensures store { OnOk result (HasStore N (owner_bytes space.new)) }
-    ensures done { OnOk result ((before : Tables)
-        → HasDone layout.now (Command.Delivery delivery.now) place done before (stored_in N space.old)
-        → HasDone layout.now (Command.Delivery delivery.now) place (done + 1) before (stored_in N space.new)) }
-    ensures number { IfOk result (λ number. (before : Tables)
-        → HasDone layout.now (Command.Delivery delivery.now) place done before (stored_in N space.old)
-        → number ≡ oldest layout.now.warehouse (done + 1) before) }
+    requires done { IsPartlyDone layout.now (Command.Delivery delivery.now) place done (stored_in N space.old) }
+    ensures done { OnOk result (LeavesStore N space.old space.new
+        (DoesSlice layout.now (Command.Delivery delivery.now) place done)) }
+    ensures number { IfOk result (IsNextDelivered layout.now delivery.now place done (stored_in N space.old)) }
     ensures writes { WritesStore N space.old space.new undo.old undo.new }
-    ensures no_frame { IsErrOf result Shortage.NoFrame → free_of space.new.frames ≡ 0 }
+    ensures no_frame { IsErrOf result Shortage.NoFrame → IsOutOfFrames space.new }
 {
     let number = deliver_in(layout, space, undo, delivery, done + 1, entries)?;
     Ok(number)
@@ -72,26 +62,15 @@ pub(crate) fn deliver<const N: usize>(
     entries: &mut Vec<Entry<LineKey>>,
     delivered: &mut ArrayVec<u32, 10>,
 ) -> Result<Option<Reply>, Shortage>
-    requires store { HasStore N (owner_bytes space.old) }
-    requires undo_log { IsUndoLog N space.old undo.old }
+    requires writable { IsWritableStore N space.old undo.old }
     requires next { done < 10 }
-    requires done { (before : Tables)
-        × HasDone layout.now (Command.Delivery delivery.now) place done before (stored_in N space.old)
-        × (delivered.old.items ≡ delivered_before layout.now.warehouse before done) }
-    ensures store { OnOk result (HasStore N (owner_bytes space.new)) }
-    ensures done { OnOk result ((before : Tables)
-        → HasDone layout.now (Command.Delivery delivery.now) place done before (stored_in N space.old)
-        → HasDone layout.now (Command.Delivery delivery.now) place (done + 1) before (stored_in N space.new)) }
-    ensures delivered { OnOk result ((before : Tables)
-        → HasDone layout.now (Command.Delivery delivery.now) place done before (stored_in N space.old)
-        → delivered.old.items ≡ delivered_before layout.now.warehouse before done
-        → delivered.new.items ≡ delivered_before layout.now.warehouse before (done + 1)) }
-    ensures reply { IfOk result (λ reply. (before : Tables)
-        → HasDone layout.now (Command.Delivery delivery.now) place done before (stored_in N space.old)
-        → delivered.old.items ≡ delivered_before layout.now.warehouse before done
-        → reply ≡ answer_of layout.now (Command.Delivery delivery.now) done before) }
+    requires under_way { RunsDelivery layout.now delivery.now place done delivered.old.items (stored_in N space.old) }
+    ensures under_way { OnOk result (LeavesStore N space.old space.new
+        (DeliversNext layout.now delivery.now place done delivered.old.items delivered.new.items)) }
+    ensures reply { IfOk result
+        (AnswersDelivery layout.now delivery.now place done delivered.old.items (stored_in N space.old)) }
     ensures writes { WritesStore N space.old space.new undo.old undo.new }
-    ensures no_frame { IsErrOf result Shortage.NoFrame → free_of space.new.frames ≡ 0 }
+    ensures no_frame { IsErrOf result Shortage.NoFrame → IsOutOfFrames space.new }
 {
     let number = deliver_next(layout, space, undo, delivery, place, done as u8, entries)?;
     delivered.push(number);

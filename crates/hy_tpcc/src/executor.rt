@@ -41,17 +41,15 @@ impl Model for Executor {
 }
 
 impl Executor {
-    ghost use Rattle.std.specs.Prelude.{◌≡◌, ◌+◌, ◌<◌, ◌↔◌, ◌⊎◌, Err, IfErr, IfOk, IsErrOf, None, OnOk, Some, false};
-    ghost use Rattle.hy_rows.specs.Tables.{Tables};
-    ghost use Rattle.hy_frames.specs.FrameTable.{free_of};
+    ghost use Rattle.std.specs.Prelude.{◌≡◌, ◌<◌, ◌↔◌, ◌⊎◌, IfErr, IfOk, IsErrOf, None, OnOk, Some, false};
+    ghost use Rattle.hy_undo.specs.Writes.{IsOutOfFrames};
     ghost use Rattle.hy_space.specs.Space.{owner_bytes};
-    ghost use Rattle.hy_undo.specs.PrivatePages.{IsUndoLog};
     ghost use Rattle.hy_commands.specs.Transactions.{begin_refusal_of};
     ghost use Rattle.hy_slices.specs.Slices.{has_item_at, slice_count};
     ghost use Rattle.hy_store.specs.Stored.{HasStore};
-    ghost use Rattle.hy_store.specs.Writes.{WritesStore, stored_in};
+    ghost use Rattle.hy_store.specs.Writes.{IsWritableStore, LeavesStore, WritesStore, stored_in};
     ghost use Rattle.hy_writers.specs.Waiting.{IsSoundStore};
-    ghost use Rattle.hy_tpcc.specs.Executor.{HasDone, IsUnderWay, StaysInBounds, answer_of};
+    ghost use Rattle.hy_tpcc.specs.Executor.{AnswersSlice, IsAnswer, IsPartlyDone, IsUnderWay, RunsCommand, RunsSlice, StaysInBounds};
     ghost use Rattle.hy_tpcc.specs.Shortages.{FindsNoFrame};
 
     /// An executor for the warehouse of a layout. Takes no memory.
@@ -111,18 +109,12 @@ impl Executor {
         command: &Command,
         done: u64,
     ) -> Result<Option<Reply>, Refusal>
-        requires store { HasStore N (owner_bytes space.old) }
-        requires undo_log { IsUndoLog N space.old undo.old }
+        requires writable { IsWritableStore N space.old undo.old }
         requires next { done < slice_count command.now }
-        requires under_way { (before : Tables)
-            × IsUnderWay self.old command.now done before (stored_in N space.old) }
-        ensures store { OnOk result (HasStore N (owner_bytes space.new)) }
-        ensures under_way { OnOk result ((before : Tables)
-            → IsUnderWay self.old command.now done before (stored_in N space.old)
-            → IsUnderWay self.new command.now (done + 1) before (stored_in N space.new)) }
-        ensures reply { IfOk result (λ reply. (before : Tables)
-            → IsUnderWay self.old command.now done before (stored_in N space.old)
-            → reply ≡ answer_of self.old.layout command.now done before) }
+        requires under_way { RunsCommand self.old command.now done (stored_in N space.old) }
+        ensures under_way { OnOk result
+            (LeavesStore N space.old space.new (RunsSlice self.old self.new command.now done)) }
+        ensures reply { IfOk result (AnswersSlice self.old command.now done (stored_in N space.old)) }
         ensures no_item { IsErrOf result Refusal.NoSuchItem
             ↔ (has_item_at self.old.layout.load.items command.now done ≡ false) }
         ensures still { IsErrOf result Refusal.NoSuchItem → (space.new ≡ space.old) × (undo.new ≡ undo.old) }
@@ -150,12 +142,11 @@ impl Executor {
         status: &OrderStatus,
     ) -> Result<Option<Reply>, Refusal>
         requires store { HasStore N (owner_bytes space.now) }
-        requires done { (before : Tables) × HasDone self.old.layout (Command.OrderStatus status.now) self.old.place 0
-            before (stored_in N space.now) }
+        requires done { IsPartlyDone self.old.layout (Command.OrderStatus status.now) self.old.place 0
+            (stored_in N space.now) }
         ensures same { self.new ≡ self.old }
-        ensures reply { IfOk result (λ reply. (before : Tables)
-            → HasDone self.old.layout (Command.OrderStatus status.now) self.old.place 0 before (stored_in N space.now)
-            → reply ≡ answer_of self.old.layout (Command.OrderStatus status.now) 0 before) }
+        ensures reply { IfOk result
+            (IsAnswer self.old.layout (Command.OrderStatus status.now) self.old.place 0 (stored_in N space.now)) }
         ensures refused { IfErr result (λ refusal. refusal ≡ Refusal.NoMemory) }
     {
         let alloc = *self.entries.allocator();
@@ -179,12 +170,11 @@ impl Executor {
         level: &StockLevel,
     ) -> Result<Option<Reply>, Refusal>
         requires store { HasStore N (owner_bytes space.now) }
-        requires done { (before : Tables) × HasDone self.old.layout (Command.StockLevel level.now) self.old.place 0
-            before (stored_in N space.now) }
+        requires done { IsPartlyDone self.old.layout (Command.StockLevel level.now) self.old.place 0
+            (stored_in N space.now) }
         ensures same { self.new ≡ self.old }
-        ensures reply { IfOk result (λ reply. (before : Tables)
-            → HasDone self.old.layout (Command.StockLevel level.now) self.old.place 0 before (stored_in N space.now)
-            → reply ≡ answer_of self.old.layout (Command.StockLevel level.now) 0 before) }
+        ensures reply { IfOk result
+            (IsAnswer self.old.layout (Command.StockLevel level.now) self.old.place 0 (stored_in N space.now)) }
         ensures refused { IfErr result (λ refusal. refusal ≡ Refusal.NoMemory) }
     {
         let entries = &mut self.entries;
@@ -209,21 +199,16 @@ impl Executor {
         delivery: &Delivery,
         done: u64,
     ) -> Result<Option<Reply>, Refusal>
-        requires store { HasStore N (owner_bytes space.old) }
-        requires undo_log { IsUndoLog N space.old undo.old }
+        requires writable { IsWritableStore N space.old undo.old }
         requires next { done < 10 }
-        requires under_way { (before : Tables)
-            × IsUnderWay self.old (Command.Delivery delivery.now) done before (stored_in N space.old) }
-        ensures store { OnOk result (HasStore N (owner_bytes space.new)) }
-        ensures under_way { OnOk result ((before : Tables)
-            → IsUnderWay self.old (Command.Delivery delivery.now) done before (stored_in N space.old)
-            → IsUnderWay self.new (Command.Delivery delivery.now) (done + 1) before (stored_in N space.new)) }
-        ensures reply { IfOk result (λ reply. (before : Tables)
-            → IsUnderWay self.old (Command.Delivery delivery.now) done before (stored_in N space.old)
-            → reply ≡ answer_of self.old.layout (Command.Delivery delivery.now) done before) }
+        requires under_way { RunsCommand self.old (Command.Delivery delivery.now) done (stored_in N space.old) }
+        ensures under_way { OnOk result (LeavesStore N space.old space.new
+            (RunsSlice self.old self.new (Command.Delivery delivery.now) done)) }
+        ensures reply { IfOk result
+            (AnswersSlice self.old (Command.Delivery delivery.now) done (stored_in N space.old)) }
         ensures refused { IfErr result (λ refusal. (refusal ≡ Refusal.NoFrame) ⊎ (refusal ≡ Refusal.NoMemory)) }
         ensures writes { WritesStore N space.old space.new undo.old undo.new }
-        ensures no_frame { IsErrOf result Refusal.NoFrame → free_of space.new.frames ≡ 0 }
+        ensures no_frame { IsErrOf result Refusal.NoFrame → IsOutOfFrames space.new }
         ensures layout { self.new.layout ≡ self.old.layout }
     {
         let entries = &mut self.entries;

@@ -8,14 +8,14 @@ ghost use Rattle.hy_schema.specs.Keys.{IsOneWarehouse};
 ghost use Rattle.hy_schema.specs.Related.{is_item};
 ghost use Rattle.hy_space.specs.Space.{owner_bytes};
 ghost use Rattle.hy_index.specs.declared.key.Entry.{Entry};
-ghost use Rattle.hy_commands.specs.StockLevels.{is_low, low_items};
+ghost use Rattle.hy_commands.specs.StockLevels.{low_items};
 ghost use Rattle.hy_store.specs.Stored.{HasStore};
 ghost use Rattle.hy_store.specs.Writes.{stored_in};
 ghost use Rattle.hy_store.specs.declared.keys.LineKey.{LineKey};
 ghost use Rattle.hy_writers.specs.Begun.{IsDistrict};
 ghost use Rattle.hy_writers.specs.Deliveries.{is_listed};
 ghost use Rattle.hy_writers.specs.Waiting.{IsSoundStore};
-ghost use Rattle.hy_tpcc.specs.Levels.{entries_of, items_named, with_item, with_items};
+ghost use Rattle.hy_tpcc.specs.Levels.{counts_item, entries_of, with_item, with_low_items};
 
 use hy_commands::StockLevel;
 use hy_index::Entry;
@@ -88,10 +88,8 @@ fn add_order<const N: usize>(
     requires sound { IsSoundStore layout.now (stored_in N space.now) }
     requires home { level.now.warehouse ≡ layout.now.warehouse }
     requires district { IsDistrict level.now.district }
-    ensures { OnOk result (low.new.items
-        ≡ with_items (is_low level.now.warehouse level.now.threshold (stored_in N space.now).tables.stock) low.old.items
-        (items_named (stored_in N space.now).tables.order_lines
-        (entries_of order level.now.district (stored_in N space.now).lines))) }
+    ensures { OnOk result (low.new.items ≡ with_low_items level.now (stored_in N space.now)
+        (entries_of order level.now.district (stored_in N space.now).lines) low.old.items) }
 {
     let first = LineKey {
         order,
@@ -120,8 +118,7 @@ fn add_lines<const N: usize>(
     requires there { All (λ (entry : Entry LineKey). entry.slot < length (stored_in N space.now).tables.order_lines)
         entries.now }
     ensures { OnOk result (low.new.items
-        ≡ with_items (is_low level.now.warehouse level.now.threshold (stored_in N space.now).tables.stock) low.old.items
-        (items_named (stored_in N space.now).tables.order_lines entries.now)) }
+        ≡ with_low_items level.now (stored_in N space.now) entries.now low.old.items) }
 {
     for entry in entries {
         let line = row_at::<OrderLine, N>(space, entry.slot);
@@ -143,8 +140,7 @@ fn add_item<const N: usize>(
     requires home { level.now.warehouse ≡ layout.now.warehouse }
     requires known { list_any (is_item item) layout.now.load.items ≡ true }
     ensures { OnOk result (low.new.items
-        ≡ with_item (is_low level.now.warehouse level.now.threshold (stored_in N space.now).tables.stock) low.old.items
-        item) }
+        ≡ with_item (counts_item level.now (stored_in N space.now)) low.old.items item) }
 {
     if is_low(layout, space, level, item) && !is_listed(low, item) {
         low.push(item)?;
@@ -166,7 +162,7 @@ fn is_low<const N: usize>(layout: &Layout, space: &Space<N>, level: &StockLevel,
     requires sound { IsSoundStore layout.now (stored_in N space.now) }
     requires home { level.now.warehouse ≡ layout.now.warehouse }
     requires known { list_any (is_item item) layout.now.load.items ≡ true }
-    ensures { result ≡ is_low level.now.warehouse level.now.threshold (stored_in N space.now).tables.stock item }
+    ensures { result ≡ counts_item level.now (stored_in N space.now) item }
 {
     layout.know_places();
     match layout.item(item.into()) {

@@ -1,12 +1,8 @@
 //! The slices of a payment.
 
-ghost use Rattle.std.specs.Prelude.{◌≡◌, ◌+◌, ◌<◌, ◌⊎◌, IfErr, IfOk, IsErrOf, OnOk};
-ghost use Rattle.hy_rows.specs.Tables.{Tables};
-ghost use Rattle.hy_space.specs.Space.{owner_bytes};
-ghost use Rattle.hy_undo.specs.PrivatePages.{IsUndoLog};
-ghost use Rattle.hy_store.specs.Stored.{HasStore};
-ghost use Rattle.hy_store.specs.Writes.{WritesStore, stored_in};
-ghost use Rattle.hy_tpcc.specs.Executor.{HasDone, answer_of};
+ghost use Rattle.std.specs.Prelude.{◌≡◌, ◌<◌, ◌⊎◌, IfErr, IfOk, IsErrOf, OnOk};
+ghost use Rattle.hy_store.specs.Writes.{IsWritableStore, LeavesStore, WritesStore, stored_in};
+ghost use Rattle.hy_tpcc.specs.Executor.{DoesSlice, IsAnswer, IsPartlyDone};
 ghost use Rattle.hy_tpcc.specs.Shortages.{FindsNoFrame};
 
 use crate::refused::refusal_of_shortage;
@@ -26,18 +22,12 @@ pub(crate) fn pay<const N: usize>(
     place: u64,
     done: u64,
 ) -> Result<Option<Reply>, Refusal>
-    requires store { HasStore N (owner_bytes space.old) }
-    requires undo_log { IsUndoLog N space.old undo.old }
+    requires writable { IsWritableStore N space.old undo.old }
     requires next { done < 2 }
-    requires done { (before : Tables)
-        × HasDone layout.now (Command.Payment payment.now) place done before (stored_in N space.old) }
-    ensures store { OnOk result (HasStore N (owner_bytes space.new)) }
-    ensures done { OnOk result ((before : Tables)
-        → HasDone layout.now (Command.Payment payment.now) place done before (stored_in N space.old)
-        → HasDone layout.now (Command.Payment payment.now) place (done + 1) before (stored_in N space.new)) }
-    ensures reply { IfOk result (λ reply. (before : Tables)
-        → HasDone layout.now (Command.Payment payment.now) place done before (stored_in N space.old)
-        → reply ≡ answer_of layout.now (Command.Payment payment.now) done before) }
+    requires done { IsPartlyDone layout.now (Command.Payment payment.now) place done (stored_in N space.old) }
+    ensures done { OnOk result (LeavesStore N space.old space.new
+        (DoesSlice layout.now (Command.Payment payment.now) place done)) }
+    ensures reply { IfOk result (IsAnswer layout.now (Command.Payment payment.now) place done (stored_in N space.old)) }
     ensures refused { IfErr result (λ refusal. (refusal ≡ Refusal.NoFrame) ⊎ (refusal ≡ Refusal.NoMemory)) }
     ensures writes { WritesStore N space.old space.new undo.old undo.new }
     ensures no_frame { IsErrOf result Refusal.NoFrame → FindsNoFrame (Command.Payment payment.now) done space.new }

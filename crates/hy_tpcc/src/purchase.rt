@@ -1,15 +1,12 @@
 //! The slices of a purchase.
 
 ghost use Rattle.std.specs.Prelude.{◌≡◌, ◌+◌, ◌<◌, ◌⊎◌, ◌↔◌, false, length, IfErr, IfOk, IsErrOf, OnOk, Some};
-ghost use Rattle.hy_rows.specs.Tables.{Tables};
 ghost use Rattle.hy_frames.specs.FrameTable.{free_of};
 ghost use Rattle.hy_space.specs.Space.{owner_bytes};
-ghost use Rattle.hy_undo.specs.PrivatePages.{IsUndoLog};
-ghost use Rattle.hy_commands.specs.Transactions.{accepted};
 ghost use Rattle.hy_slices.specs.Slices.{has_item_at, line_behind};
 ghost use Rattle.hy_store.specs.Stored.{HasStore};
-ghost use Rattle.hy_store.specs.Writes.{WritesStore, stored_in};
-ghost use Rattle.hy_tpcc.specs.Executor.{HasDone, answer_of};
+ghost use Rattle.hy_store.specs.Writes.{IsWritableStore, LeavesStore, WritesStore, stored_in};
+ghost use Rattle.hy_tpcc.specs.Executor.{DoesSlice, IsAnswer, IsPartlyDone, IsReply};
 
 use crate::refused::refusal_of_shortage;
 use hy_commands::{Command, Purchase, PurchaseLine, Reply};
@@ -29,14 +26,10 @@ fn place_order<const N: usize>(
     order: &Purchase,
     place: u64,
 ) -> Result<(), Shortage>
-    requires store { HasStore N (owner_bytes space.old) }
-    requires undo_log { IsUndoLog N space.old undo.old }
-    requires done { (before : Tables)
-        × HasDone layout.now (Command.NewOrder order.now) place 0 before (stored_in N space.old) }
-    ensures store { OnOk result (HasStore N (owner_bytes space.new)) }
-    ensures done { OnOk result ((before : Tables)
-        → HasDone layout.now (Command.NewOrder order.now) place 0 before (stored_in N space.old)
-        → HasDone layout.now (Command.NewOrder order.now) place 1 before (stored_in N space.new)) }
+    requires writable { IsWritableStore N space.old undo.old }
+    requires done { IsPartlyDone layout.now (Command.NewOrder order.now) place 0 (stored_in N space.old) }
+    ensures done { OnOk result (LeavesStore N space.old space.new
+        (DoesSlice layout.now (Command.NewOrder order.now) place 0)) }
     ensures writes { WritesStore N space.old space.new undo.old undo.new }
     ensures no_frame { IsErrOf result Shortage.NoFrame → free_of space.new.frames ≡ 0 }
 {
@@ -62,16 +55,12 @@ fn place_line<const N: usize>(
     place: u64,
     done: u64,
 ) -> Result<(), Refusal>
-    requires store { HasStore N (owner_bytes space.old) }
-    requires undo_log { IsUndoLog N space.old undo.old }
+    requires writable { IsWritableStore N space.old undo.old }
     requires behind { 0 < done }
     requires next { done < length order.now.lines + 1 }
-    requires done { (before : Tables)
-        × HasDone layout.now (Command.NewOrder order.now) place done before (stored_in N space.old) }
-    ensures store { OnOk result (HasStore N (owner_bytes space.new)) }
-    ensures done { OnOk result ((before : Tables)
-        → HasDone layout.now (Command.NewOrder order.now) place done before (stored_in N space.old)
-        → HasDone layout.now (Command.NewOrder order.now) place (done + 1) before (stored_in N space.new)) }
+    requires done { IsPartlyDone layout.now (Command.NewOrder order.now) place done (stored_in N space.old) }
+    ensures done { OnOk result (LeavesStore N space.old space.new
+        (DoesSlice layout.now (Command.NewOrder order.now) place done)) }
     ensures no_item { IsErrOf result Refusal.NoSuchItem
         ↔ (has_item_at layout.now.load.items (Command.NewOrder order.now) done ≡ false) }
     ensures still { IsErrOf result Refusal.NoSuchItem → (space.new ≡ space.old) × (undo.new ≡ undo.old) }
@@ -100,11 +89,10 @@ fn reply_to_order<const N: usize>(
     place: u64,
 ) -> Reply
     requires store { HasStore N (owner_bytes space.now) }
-    requires done { (before : Tables) × HasDone layout.now (Command.NewOrder order.now) place
-        (length order.now.lines + 1) before (stored_in N space.now) }
-    ensures { (before : Tables) → HasDone layout.now (Command.NewOrder order.now) place
-        (length order.now.lines + 1) before (stored_in N space.now)
-        → result ≡ (accepted layout.now.load.items layout.now.warehouse (Command.NewOrder order.now) before).reply }
+    requires done { IsPartlyDone layout.now (Command.NewOrder order.now) place (length order.now.lines + 1)
+        (stored_in N space.now) }
+    ensures { IsReply layout.now (Command.NewOrder order.now) place (length order.now.lines + 1)
+        (stored_in N space.now) result }
 {
     layout.load().sound();
     let number = own_district(layout, space, order.district).next_order - 1;
@@ -123,18 +111,12 @@ pub(crate) fn buy<const N: usize>(
     place: u64,
     done: u64,
 ) -> Result<Option<Reply>, Refusal>
-    requires store { HasStore N (owner_bytes space.old) }
-    requires undo_log { IsUndoLog N space.old undo.old }
+    requires writable { IsWritableStore N space.old undo.old }
     requires next { done < length order.now.lines + 1 }
-    requires done { (before : Tables)
-        × HasDone layout.now (Command.NewOrder order.now) place done before (stored_in N space.old) }
-    ensures store { OnOk result (HasStore N (owner_bytes space.new)) }
-    ensures done { OnOk result ((before : Tables)
-        → HasDone layout.now (Command.NewOrder order.now) place done before (stored_in N space.old)
-        → HasDone layout.now (Command.NewOrder order.now) place (done + 1) before (stored_in N space.new)) }
-    ensures reply { IfOk result (λ reply. (before : Tables)
-        → HasDone layout.now (Command.NewOrder order.now) place done before (stored_in N space.old)
-        → reply ≡ answer_of layout.now (Command.NewOrder order.now) done before) }
+    requires done { IsPartlyDone layout.now (Command.NewOrder order.now) place done (stored_in N space.old) }
+    ensures done { OnOk result (LeavesStore N space.old space.new
+        (DoesSlice layout.now (Command.NewOrder order.now) place done)) }
+    ensures reply { IfOk result (IsAnswer layout.now (Command.NewOrder order.now) place done (stored_in N space.old)) }
     ensures no_item { IsErrOf result Refusal.NoSuchItem
         ↔ (has_item_at layout.now.load.items (Command.NewOrder order.now) done ≡ false) }
     ensures still { IsErrOf result Refusal.NoSuchItem → (space.new ≡ space.old) × (undo.new ≡ undo.old) }

@@ -1,12 +1,10 @@
 //! The transactions that only read, each in one slice.
 
-ghost use Rattle.std.specs.Prelude.{◌≡◌, IfOk};
-ghost use Rattle.hy_rows.specs.Tables.{Tables};
-ghost use Rattle.hy_commands.specs.Transactions.{accepted};
+ghost use Rattle.std.specs.Prelude.{IfOk};
 ghost use Rattle.hy_space.specs.Space.{owner_bytes};
 ghost use Rattle.hy_store.specs.Stored.{HasStore};
 ghost use Rattle.hy_store.specs.Writes.{stored_in};
-ghost use Rattle.hy_tpcc.specs.Executor.{HasDone};
+ghost use Rattle.hy_tpcc.specs.Executor.{IsPartlyDone, IsReply};
 
 use crate::level::stock_level;
 use crate::status::order_status;
@@ -27,11 +25,8 @@ pub(crate) fn answer_status<const N: usize>(
     entries: &mut Vec<Entry<LineKey>>,
 ) -> Result<Reply, AllocError>
     requires store { HasStore N (owner_bytes space.now) }
-    requires done { (before : Tables)
-        × HasDone layout.now (Command.OrderStatus status.now) place 0 before (stored_in N space.now) }
-    ensures { IfOk result (λ reply. (before : Tables)
-        → HasDone layout.now (Command.OrderStatus status.now) place 0 before (stored_in N space.now)
-        → reply ≡ (accepted layout.now.load.items layout.now.warehouse (Command.OrderStatus status.now) before).reply) }
+    requires done { IsPartlyDone layout.now (Command.OrderStatus status.now) place 0 (stored_in N space.now) }
+    ensures { IfOk result (IsReply layout.now (Command.OrderStatus status.now) place 0 (stored_in N space.now)) }
 {
     order_status(alloc, layout, space, status, place, entries)
 }
@@ -46,11 +41,8 @@ pub(crate) fn answer_level<const N: usize>(
     low: &mut Vec<u32>,
 ) -> Result<Reply, AllocError>
     requires store { HasStore N (owner_bytes space.now) }
-    requires done { (before : Tables)
-        × HasDone layout.now (Command.StockLevel level.now) place 0 before (stored_in N space.now) }
-    ensures { IfOk result (λ reply. (before : Tables)
-        → HasDone layout.now (Command.StockLevel level.now) place 0 before (stored_in N space.now)
-        → reply ≡ (accepted layout.now.load.items layout.now.warehouse (Command.StockLevel level.now) before).reply) }
+    requires done { IsPartlyDone layout.now (Command.StockLevel level.now) place 0 (stored_in N space.now) }
+    ensures { IfOk result (IsReply layout.now (Command.StockLevel level.now) place 0 (stored_in N space.now)) }
 {
     let low = stock_level(layout, space, level, entries, low)?;
     Ok(Reply::StockLevel { low })

@@ -9,7 +9,7 @@ use Rattle.hy_frames.proofs.FrameLaws.{above, above_yes, count_above}
 use Rattle.hy_space.specs.Space.{SpaceState, HasPage, SameForOwner, SameForOthers, DropsUsers, times, table_bytes, child_table, child_bytes, child_frame_no, frame_no, page_count, with_first_frames, with_first_pages}
 use Rattle.hy_space.proofs.TableLaws.{stands, stands_in_segment, times-cut, frame_no-with_first_frames, get_or-map_at}
 use Rattle.hy_undo.specs.UndoLog.{UndoLog, first_pages}
-use Rattle.hy_undo.specs.Touched.{PagePlace, was_there}
+use Rattle.hy_undo.specs.Touched.{PageAddress, was_there}
 use Rattle.hy_undo.specs.inside.Fork.{rows_of, child_pages, IsBeside, SharesGrown, ChangesChild, IsApart, IsSplit, AllSplit}
 use Rattle.hy_undo.proofs.UndoneLaws.{first_pages-more}
 use Rattle.hy_undo.proofs.SplitLaws.{ChangesChild-same, ChangesChild-then, HasPage-same}
@@ -141,11 +141,11 @@ module _ (counts : List ℕ) (now next : SpaceState) (child segment : ℕ) (besi
       let there = stands_behind (get_or now.owner segment []) n p behind within in
       omega (arith, ap (λ x. times x (rows_of next child)) (frame_stays segment p), fewer f, beside.once f, ap (occurrences f) shares.grown)
 
-  pub apart_kept : (q : PagePlace) → IsApart now child q → IsApart next child q
+  pub apart_kept : (q : PageAddress) → IsApart now child q → IsApart next child q
   apart_kept q apart = omega (arith, apart, ap (λ x. times x (rows_of next child)) (frame_stays q.segment q.page), fewer (frame_no now q.segment q.page))
 
   -- a split page stays split
-  pub split_kept : (q : PagePlace) → q.segment < length now.owner → q.page < length (get_or (rows_of next child) q.segment []) → IsSplit now child q → IsSplit next child q
+  pub split_kept : (q : PageAddress) → q.segment < length now.owner → q.page < length (get_or (rows_of next child) q.segment []) → IsSplit now child q → IsSplit next child q
   split_kept q has within split =
       let g = child_frame_no now child q.segment q.page in
       let inside : q.page < length (get_or (with_first_frames rows segment n) q.segment []) = subst (λ (all : List (List ℕ)). q.page < length (get_or all q.segment [])) rows_next within in
@@ -170,7 +170,7 @@ pub record IsCutUpTo (log : UndoLog) (begin now : SpaceState) (child k : ℕ) : 
   pub short : (s : ℕ) → s < k → length (get_or (rows_of now child) s []) ≡ get_or log.counts s 0
   pub shares : (s : ℕ) → k ≤ s → SharesGrown log.counts now child s
   pub split : AllSplit log now child
-  pub apart : (q : PagePlace) → q.segment < k → HasPage now q.segment q.page → was_there log.counts q ≡ false → IsApart now child q
+  pub apart : (q : PageAddress) → q.segment < k → HasPage now q.segment q.page → was_there log.counts q ≡ false → IsApart now child q
   pub free : free_of now.frames ≡ free_of begin.frames
 
 pub cut_begin : (log : UndoLog) (s : SpaceState) (child : ℕ) → IsBeside s child → ((segment : ℕ) → SharesGrown log.counts s child segment) → AllSplit log s child → IsCutUpTo log s s child 0
@@ -192,7 +192,7 @@ cut_next log begin now next child k there counted few table bytes owner others u
     let shares = before.shares k (omega arith) in
     let here = row_here counts now next child k beside there shares few table owner others users in
     let other = row_other counts now next child k beside there shares few table owner others users in
-    let place_now : (q : PagePlace) → HasPage next q.segment q.page → HasPage now q.segment q.page = λ q place. HasPage-same next now q.segment q.page (sym owner.table) place in
+    let place_now : (q : PageAddress) → HasPage next q.segment q.page → HasPage now q.segment q.page = λ q address. HasPage-same next now q.segment q.page (sym owner.table) address in
     record {
       changes = ChangesChild-then begin now next child before.changes (cut_changes counts now next child k beside there shares few table owner others users);
       beside = cut_beside counts now next child k beside there shares few table owner others users;
@@ -211,8 +211,8 @@ cut_next log begin now next child k there counted few table bytes owner others u
             pages = ap length (other s apart) ∙ was.pages ∙ sym (ap (λ all. length (get_or all s [])) owner.table);
             grown = ap (drop (get_or counts s 0)) (other s apart) ∙ was.grown ∙ sym (ap (λ all. drop (get_or counts s 0) (get_or all s [])) owner.table);
           };
-      split = λ q place was among.
-          let place_before = place_now q place in
+      split = λ q address was among.
+          let place_before = place_now q address in
           let below : q.page < get_or counts q.segment 0 = ltb-true q.page (get_or counts q.segment 0) was in
           let within : q.page < length (get_or (rows_of next child) q.segment []) = elim (cases_eq q.segment k) [
             | inl is ↦ omega (arith, below, ap (λ x. length (get_or (rows_of next child) x [])) is, here, ap (λ x. get_or counts x 0) is)
@@ -222,12 +222,12 @@ cut_next log begin now next child k there counted few table bytes owner others u
             ]
           ] in
           split_kept counts now next child k beside there shares few table owner others users q place_before.0 within (before.split q place_before was among);
-      apart = λ q under place not_there. elim (cases_eq q.segment k) [
+      apart = λ q under address not_there. elim (cases_eq q.segment k) [
         | inl is ↦
             let behind : get_or counts k 0 ≤ q.page = omega (arith, ltb-false q.page (get_or counts q.segment 0) not_there, ap (λ x. get_or counts x 0) is) in
-            let inside : q.page < page_count now k = omega (arith, (place_now q place).1, ap (λ x. page_count now x) is) in
+            let inside : q.page < page_count now k = omega (arith, (place_now q address).1, ap (λ x. page_count now x) is) in
             subst (λ (x : ℕ). IsApart next child (record { segment = x; page = q.page })) (sym is) (apart_here counts now next child k beside there shares few table owner others users q.page behind inside)
-        | inr apart ↦ apart_kept counts now next child k beside there shares few table owner others users q (before.apart q (omega arith) (place_now q place) not_there)
+        | inr apart ↦ apart_kept counts now next child k beside there shares few table owner others users q (before.apart q (omega arith) (place_now q address) not_there)
       ];
       free = cut_free counts now next child k beside there shares few table owner others users ∙ before.free;
     }

@@ -9,12 +9,12 @@ use Rattle.hy_space.specs.Space.{SpaceState, HasChildPage, IsSound, IsLeastFree,
 use Rattle.hy_space.proofs.TableLaws.{stands}
 use Rattle.hy_space.proofs.SpaceLaws.{KeepsOwn-from}
 use Rattle.hy_undo.specs.UndoLog.{Image, UndoLog}
-use Rattle.hy_undo.specs.Touched.{PagePlace, is_same_place, place_of, was_there}
+use Rattle.hy_undo.specs.Touched.{PageAddress, is_same_address, address_of, was_there}
 use Rattle.hy_undo.specs.PrivatePages.{IsOfPrivatePage, IsUndoLog}
 use Rattle.hy_undo.specs.inside.RollBack.{KeepsPages}
 use Rattle.hy_undo.specs.Fork.{IsAsBefore}
-use Rattle.hy_undo.specs.inside.Fork.{rows_of, places, IsBeside, ChangesChild, AllSplit, AllGrownApart, IsOfPage, IsWritableIn}
-use Rattle.hy_undo.proofs.TouchedLaws.{is_same_place-refl}
+use Rattle.hy_undo.specs.inside.Fork.{rows_of, addresses, IsBeside, ChangesChild, AllSplit, AllGrownApart, IsOfPage, IsWritableIn}
+use Rattle.hy_undo.proofs.TouchedLaws.{is_same_address-refl}
 use Rattle.hy_undo.proofs.PrivatePageLaws.{IsUndoLog-kept}
 use Rattle.hy_undo.proofs.SplitLaws.{HasPage-same}
 use Rattle.hy_undo.proofs.CutLaws.{same_free}
@@ -22,18 +22,18 @@ use Rattle.hy_undo.proofs.CutLaws.{same_free}
 -- ---- each image
 
 -- from one fact on each image to another, which may use that its page is among those of all images
-for_each : (all : List Image) (P Q : Image → Type 0) → ((image : Image) → list_any (is_same_place (place_of image)) (places all) ≡ true → P image → Q image) → (rest : List Image) → ((q : PagePlace) → list_any (is_same_place q) (places rest) ≡ true → list_any (is_same_place q) (places all) ≡ true) → AllByRecursion P rest → AllByRecursion Q rest
+for_each : (all : List Image) (P Q : Image → Type 0) → ((image : Image) → list_any (is_same_address (address_of image)) (addresses all) ≡ true → P image → Q image) → (rest : List Image) → ((q : PageAddress) → list_any (is_same_address q) (addresses rest) ≡ true → list_any (is_same_address q) (addresses all) ≡ true) → AllByRecursion P rest → AllByRecursion Q rest
 for_each all P Q step [] among each = tt
 for_each all P Q step (image ∷ rest) among each = (
-  step image (among (place_of image) (ap (λ b. b || list_any (is_same_place (place_of image)) (places rest)) (is_same_place-refl (place_of image)))) each.0,
-  for_each all P Q step rest (λ q behind. among q (or_right (is_same_place q (place_of image)) (list_any (is_same_place q) (places rest)) behind)) each.1,
+  step image (among (address_of image) (ap (λ b. b || list_any (is_same_address (address_of image)) (addresses rest)) (is_same_address-refl (address_of image)))) each.0,
+  for_each all P Q step rest (λ q behind. among q (or_right (is_same_address q (address_of image)) (list_any (is_same_address q) (addresses rest)) behind)) each.1,
 )
   where
     or_right : (a b : Bool) → b ≡ true → (a || b) ≡ true
     or_right true b passes = refl
     or_right false b passes = passes
 
-pub each_image : (images : List Image) (P Q : Image → Type 0) → ((image : Image) → list_any (is_same_place (place_of image)) (places images) ≡ true → P image → Q image) → AllByRecursion P images → AllByRecursion Q images
+pub each_image : (images : List Image) (P Q : Image → Type 0) → ((image : Image) → list_any (is_same_address (address_of image)) (addresses images) ≡ true → P image → Q image) → AllByRecursion P images → AllByRecursion Q images
 each_image images P Q step each = for_each images P Q step images (λ q among. among) each
 
 -- ---- a fork
@@ -95,19 +95,19 @@ module _ (n : ℕ) (old : SpaceState) (sound : IsSound n old) where
         images = each_image log.images (IsOfPrivatePage n old) (IsOfPrivatePage n new) step is_log.images;
       }
         where
-          step : (image : Image) → list_any (is_same_place (place_of image)) (places log.images) ≡ true → IsOfPrivatePage n old image → IsOfPrivatePage n new image
+          step : (image : Image) → list_any (is_same_address (address_of image)) (addresses log.images) ≡ true → IsOfPrivatePage n old image → IsOfPrivatePage n new image
           step image among of =
               let f = frame_no old image.segment image.page in
-              let place = HasPage-same old now image.segment image.page table_now of.there in
+              let address = HasPage-same old now image.segment image.page table_now of.there in
               let stays : frame_no now image.segment image.page ≡ f = ap (λ all. get_or (get_or all image.segment []) image.page 0) table_now in
               let new_stays : frame_no new image.segment image.page ≡ f = ap (λ all. get_or (get_or all image.segment []) image.page 0) (same_table ∙ table_now) in
-              let apart : times (frame_no now image.segment image.page) (rows_of now child) ≡ 0 = elim (cases_Bool (was_there log.counts (place_of image))) [
-                | inl was ↦ (split (place_of image) place was among).apart
-                | inr late ↦ grown (place_of image) place late
+              let apart : times (frame_no now image.segment image.page) (rows_of now child) ≡ 0 = elim (cases_Bool (was_there log.counts (address_of image))) [
+                | inl was ↦ (split (address_of image) address was among).apart
+                | inr late ↦ grown (address_of image) address late
               ] in
               let stood = stands old.owner image.segment image.page of.there.0 of.there.1 in
               record {
-                there = HasPage-same now new image.segment image.page same_table place;
+                there = HasPage-same now new image.segment image.page same_table address;
                 private = record {
                   own = omega (arith, ap (count_of new.frames) new_stays, counts f, users_now f, of.private.own, apart, ap (λ x. times x (rows_of now child)) stays);
                   not_lent = ap (lent_at new.frames) new_stays ∙ lent f ∙ lent_now f (omega (arith, of.private.own)) ∙ of.private.not_lent;
@@ -119,11 +119,11 @@ module _ (n : ℕ) (old : SpaceState) (sound : IsSound n old) where
       pub writable : (log : UndoLog) → IsUndoLog n old log → IsBeside now child → AllSplit log now child → ((segment : ℕ) → segment < length log.counts → length (get_or (rows_of now child) segment []) ≡ get_or log.counts segment 0) → AllByRecursion (IsWritableIn n log.counts now child) log.images
       writable log is_log beside split short = each_image log.images (IsOfPrivatePage n old) (IsWritableIn n log.counts now child) step is_log.images
         where
-          step : (image : Image) → list_any (is_same_place (place_of image)) (places log.images) ≡ true → IsOfPrivatePage n old image → IsWritableIn n log.counts now child image
+          step : (image : Image) → list_any (is_same_address (address_of image)) (addresses log.images) ≡ true → IsOfPrivatePage n old image → IsWritableIn n log.counts now child image
           step image among of =
               let counted : image.segment < length log.counts = omega (arith, of.there.0, is_log.segments) in
               let size = short image.segment counted in
-              let place = HasPage-same old now image.segment image.page table_now of.there in
+              let address = HasPage-same old now image.segment image.page table_now of.there in
               let P = λ (t : List (List ℕ)). (image.segment < length t) × (image.page < length (get_or t image.segment [])) in
               record {
                 segment = counted;
@@ -132,7 +132,7 @@ module _ (n : ℕ) (old : SpaceState) (sound : IsSound n old) where
                 private = λ below.
                     let inside : P (rows_of now child) = (omega (arith, of.there.0, beside.segments, ap length table_now), omega arith) in
                     let has : HasChildPage now child image.segment image.page = subst (λ o. IsSomeAnd o P) (sym beside.is_open) inside in
-                    (has, (split (place_of image) place (lt-ltb image.page (get_or log.counts image.segment 0) below) among).private);
+                    (has, (split (address_of image) address (lt-ltb image.page (get_or log.counts image.segment 0) below) among).private);
               }
 
       -- a child that is closed again leaves all as it was

@@ -7,14 +7,14 @@ use Rattle.std.proofs.lemmas.Bool.{cases_Bool, and_from, eq-eqb, or_parts, cond-
 use Rattle.hy_page.specs.Bytes.{overwritten}
 use Rattle.hy_space.specs.Space.{page_at, with_page, HasPagesOf}
 use Rattle.hy_undo.specs.UndoLog.{Image, UndoLog, first_pages, put_back, restored, undone}
-use Rattle.hy_undo.specs.Touched.{PagePlace, is_same_place, place_of}
+use Rattle.hy_undo.specs.Touched.{PageAddress, is_same_address, address_of}
 use Rattle.hy_undo.proofs.PutBackLaws.{IsThere, cases_there, put_back-past, length-overwritten, page_at-with_page_same, page_at-with_page_other}
 use Rattle.hy_undo.proofs.UndoneLaws.{length-first_pages, segment-first_pages, page_at-first_pages, length-restored, length-segment-restored}
-use Rattle.hy_undo.proofs.TouchedLaws.{same_place, never_both}
+use Rattle.hy_undo.proofs.TouchedLaws.{same_address, never_both}
 
 -- an image is of this page
-abbrev pub is_image_of : PagePlace → Image → Bool
-is_image_of place image = is_same_place place (place_of image)
+abbrev pub is_image_of : PageAddress → Image → Bool
+is_image_of address image = is_same_address address (address_of image)
 
 -- the bytes of one page with its images put back, the last one first
 abbrev pub page_restored : List ℕ → List Image → List ℕ
@@ -29,35 +29,35 @@ IsThere-restored pages images s p there = record {
 }
 
 -- a page has its own images put back, and no other
-pub page_at-restored : (pages : List (List (List ℕ))) (images : List Image) (place : PagePlace) → IsThere pages place.segment place.page → page_at (restored pages images) place.segment place.page ≡ page_restored (page_at pages place.segment place.page) (filter (is_image_of place) images)
-page_at-restored pages [] place there = refl
-page_at-restored pages (image ∷ images) place there =
+pub page_at-restored : (pages : List (List (List ℕ))) (images : List Image) (address : PageAddress) → IsThere pages address.segment address.page → page_at (restored pages images) address.segment address.page ≡ page_restored (page_at pages address.segment address.page) (filter (is_image_of address) images)
+page_at-restored pages [] address there = refl
+page_at-restored pages (image ∷ images) address there =
     let later = restored pages images in
-    let bytes = page_at pages place.segment place.page in
-    let rest = page_at-restored pages images place there in
-    elim (cases_Bool (is_image_of place image)) [
+    let bytes = page_at pages address.segment address.page in
+    let rest = page_at-restored pages images address there in
+    elim (cases_Bool (is_image_of address image)) [
       | inl same ↦
-          let here : place ≡ place_of image = same_place place (place_of image) same in
-          let new = λ (at : PagePlace). overwritten (page_at later at.segment at.page) image.offset image.bytes in
-          ap (λ (at : PagePlace). page_at (with_page later at.segment at.page (new at)) place.segment place.page) (sym here)
-          ∙ page_at-with_page_same later place.segment place.page (new place) (IsThere-restored pages images place.segment place.page there)
+          let here : address ≡ address_of image = same_address address (address_of image) same in
+          let new = λ (at : PageAddress). overwritten (page_at later at.segment at.page) image.offset image.bytes in
+          ap (λ (at : PageAddress). page_at (with_page later at.segment at.page (new at)) address.segment address.page) (sym here)
+          ∙ page_at-with_page_same later address.segment address.page (new address) (IsThere-restored pages images address.segment address.page there)
           ∙ ap (λ (all : List ℕ). overwritten all image.offset image.bytes) rest
-          ∙ sym (ap (page_restored bytes) (cond-true (is_image_of place image) (image ∷ filter (is_image_of place) images) (filter (is_image_of place) images) same))
+          ∙ sym (ap (page_restored bytes) (cond-true (is_image_of address image) (image ∷ filter (is_image_of address) images) (filter (is_image_of address) images) same))
       | inr other ↦
-          let apart : (place.segment ≡ image.segment) × (place.page ≡ image.page) → ⊥ = λ same. differs place image same other in
-          page_at-with_page_other later image.segment image.page (overwritten (page_at later image.segment image.page) image.offset image.bytes) place.segment place.page apart
+          let apart : (address.segment ≡ image.segment) × (address.page ≡ image.page) → ⊥ = λ same. differs address image same other in
+          page_at-with_page_other later image.segment image.page (overwritten (page_at later image.segment image.page) image.offset image.bytes) address.segment address.page apart
           ∙ rest
-          ∙ sym (ap (page_restored bytes) (cond-false (is_image_of place image) (image ∷ filter (is_image_of place) images) (filter (is_image_of place) images) other))
+          ∙ sym (ap (page_restored bytes) (cond-false (is_image_of address image) (image ∷ filter (is_image_of address) images) (filter (is_image_of address) images) other))
     ]
   where
-    differs : (place : PagePlace) (image : Image) → (place.segment ≡ image.segment) × (place.page ≡ image.page) → is_image_of place image ≡ false → ⊥
-    differs place image same other = never_both (is_image_of place image) (and_from (eqb place.segment image.segment) (eqb place.page image.page) (eq-eqb place.segment image.segment same.0) (eq-eqb place.page image.page same.1)) other
+    differs : (address : PageAddress) (image : Image) → (address.segment ≡ image.segment) × (address.page ≡ image.page) → is_image_of address image ≡ false → ⊥
+    differs address image same other = never_both (is_image_of address image) (and_from (eqb address.segment image.segment) (eqb address.page image.page) (eq-eqb address.segment image.segment same.0) (eq-eqb address.page image.page same.1)) other
 
 -- a page that was there at the begin, with the transaction undone
-pub page_at-undone : (pages : List (List (List ℕ))) (log : UndoLog) (place : PagePlace) → IsThere (first_pages log.counts pages) place.segment place.page → page_at (undone pages log) place.segment place.page ≡ page_restored (page_at pages place.segment place.page) (filter (is_image_of place) log.images)
-page_at-undone pages log place there =
-    page_at-restored (first_pages log.counts pages) log.images place there
-    ∙ ap (λ bytes. page_restored bytes (filter (is_image_of place) log.images)) (page_at-first_pages log.counts pages place.segment place.page there)
+pub page_at-undone : (pages : List (List (List ℕ))) (log : UndoLog) (address : PageAddress) → IsThere (first_pages log.counts pages) address.segment address.page → page_at (undone pages log) address.segment address.page ≡ page_restored (page_at pages address.segment address.page) (filter (is_image_of address) log.images)
+page_at-undone pages log address there =
+    page_at-restored (first_pages log.counts pages) log.images address there
+    ∙ ap (λ bytes. page_restored bytes (filter (is_image_of address) log.images)) (page_at-first_pages log.counts pages address.segment address.page there)
 
 -- a page below its segment's count is there at the begin
 pub IsThere-first_pages : (counts : List ℕ) (pages : List (List (List ℕ))) (s p : ℕ) → s < length counts → s < length pages → p < get_or counts s 0 → get_or counts s 0 ≤ length (get_or pages s []) → IsThere (first_pages counts pages) s p
@@ -67,16 +67,16 @@ IsThere-first_pages counts pages s p counted there below few = record {
 }
 
 -- no image is of this page
-nothing_filtered : (place : PagePlace) (images : List Image) → list_any (is_image_of place) images ≡ false → filter (is_image_of place) images ≡ []
-nothing_filtered place [] none = refl
-nothing_filtered place (image ∷ images) none =
-    let parts = or_parts (is_image_of place image) (list_any (is_image_of place) images) none in
-    cond-false (is_image_of place image) (image ∷ filter (is_image_of place) images) (filter (is_image_of place) images) parts.0 ∙ nothing_filtered place images parts.1
+nothing_filtered : (address : PageAddress) (images : List Image) → list_any (is_image_of address) images ≡ false → filter (is_image_of address) images ≡ []
+nothing_filtered address [] none = refl
+nothing_filtered address (image ∷ images) none =
+    let parts = or_parts (is_image_of address image) (list_any (is_image_of address) images) none in
+    cond-false (is_image_of address image) (image ∷ filter (is_image_of address) images) (filter (is_image_of address) images) parts.0 ∙ nothing_filtered address images parts.1
 
 -- a page that was not touched stays as it is
-pub page_at-undone_untouched : (pages : List (List (List ℕ))) (log : UndoLog) (place : PagePlace) → IsThere (first_pages log.counts pages) place.segment place.page → list_any (is_image_of place) log.images ≡ false → page_at (undone pages log) place.segment place.page ≡ page_at pages place.segment place.page
-page_at-undone_untouched pages log place there none =
-    page_at-undone pages log place there ∙ ap (page_restored (page_at pages place.segment place.page)) (nothing_filtered place log.images none)
+pub page_at-undone_untouched : (pages : List (List (List ℕ))) (log : UndoLog) (address : PageAddress) → IsThere (first_pages log.counts pages) address.segment address.page → list_any (is_image_of address) log.images ≡ false → page_at (undone pages log) address.segment address.page ≡ page_at pages address.segment address.page
+page_at-undone_untouched pages log address there none =
+    page_at-undone pages log address there ∙ ap (page_restored (page_at pages address.segment address.page)) (nothing_filtered address log.images none)
 
 -- ---- the size of pages
 

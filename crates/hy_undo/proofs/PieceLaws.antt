@@ -4,9 +4,9 @@ use Rattle.std.proofs.lemmas.List.{take_all, take_more, at_drop_more, take-appen
 use Rattle.std.proofs.lemmas.List.Sums.{sum_by-cons, sum_by_push, sum_by-take-drop, sum_by_more}
 use Rattle.hy_undo.specs.declared.images.Piece.{Piece}
 use Rattle.hy_undo.specs.UndoLog.{Image}
-use Rattle.hy_undo.specs.Touched.{PagePlace, is_same_place, place_of, different, was_there, touched}
-use Rattle.hy_undo.specs.inside.Pieces.{byte_count, images_of, place_of_piece, piece_at, touched_by}
-use Rattle.hy_undo.specs.inside.Fork.{place_at}
+use Rattle.hy_undo.specs.Touched.{PageAddress, is_same_address, address_of, different, was_there, touched}
+use Rattle.hy_undo.specs.inside.Pieces.{byte_count, images_of, address_of_piece, piece_at, touched_by}
+use Rattle.hy_undo.specs.inside.Fork.{address_at}
 use Rattle.std.specs.List.{filter, list_any}
 use Rattle.hy_undo.proofs.TouchedLaws.{length-kept-cons}
 use Rattle.hy_space.proofs.TableLaws.{get_or-map_at}
@@ -42,30 +42,30 @@ length-images_of bytes [] = refl
 length-images_of bytes (piece ∷ pieces) = ap suc (length-images_of (drop piece.count bytes) pieces)
 
 -- images and pieces are of the same pages
-pub places-images_of : (bytes : List ℕ) (pieces : List Piece) → map place_of (images_of bytes pieces) ≡ map place_of_piece pieces
-places-images_of bytes [] = refl
-places-images_of bytes (piece ∷ pieces) = ap (λ rest. place_of_piece piece ∷ rest) (places-images_of (drop piece.count bytes) pieces)
+pub addresses-images_of : (bytes : List ℕ) (pieces : List Piece) → map address_of (images_of bytes pieces) ≡ map address_of_piece pieces
+addresses-images_of bytes [] = refl
+addresses-images_of bytes (piece ∷ pieces) = ap (λ rest. address_of_piece piece ∷ rest) (addresses-images_of (drop piece.count bytes) pieces)
 
 pub touched-images_of : (counts bytes : List ℕ) (pieces : List Piece) → touched (record { counts = counts; images = images_of bytes pieces }) ≡ touched_by pieces counts
-touched-images_of counts bytes pieces = ap (λ places. length (filter (was_there counts) (different places))) (places-images_of bytes pieces)
+touched-images_of counts bytes pieces = ap (λ addresses. length (filter (was_there counts) (different addresses))) (addresses-images_of bytes pieces)
 
 -- all but the last element
 pub take-front : {X : Type 0} (xs : List X) (x : X) → take (length (xs ++ x ∷ []) - 1) (xs ++ x ∷ []) ≡ xs
 take-front xs x = take_at xs (x ∷ []) (length (xs ++ x ∷ []) - 1) (omega (arith, length_push xs x))
 
--- a test of each place
-list_any-places : (test : PagePlace → Bool) (pieces : List Piece) → list_any test (map place_of_piece pieces) ≡ list_any (λ piece. test (place_of_piece piece)) pieces
-list_any-places test [] = refl
-list_any-places test (piece ∷ pieces) = ap (λ rest. test (place_of_piece piece) || rest) (list_any-places test pieces)
+-- a test of each address
+list_any-addresses : (test : PageAddress → Bool) (pieces : List Piece) → list_any test (map address_of_piece pieces) ≡ list_any (λ piece. test (address_of_piece piece)) pieces
+list_any-addresses test [] = refl
+list_any-addresses test (piece ∷ pieces) = ap (λ rest. test (address_of_piece piece) || rest) (list_any-addresses test pieces)
 
 -- the pieces from one on touch one page more than those behind it, where its page was there and comes no more
-pub touched_by-drop_more : (pieces : List Piece) (counts : List ℕ) (i : ℕ) (d : Piece) → i < length pieces → touched_by (drop i pieces) counts ≡ cond (was_there counts (place_of_piece (get_or pieces i d)) && not (list_any (λ other. is_same_place (place_of_piece (get_or pieces i d)) (place_of_piece other)) (drop (i + 1) pieces))) 1 0 + touched_by (drop (i + 1) pieces) counts
+pub touched_by-drop_more : (pieces : List Piece) (counts : List ℕ) (i : ℕ) (d : Piece) → i < length pieces → touched_by (drop i pieces) counts ≡ cond (was_there counts (address_of_piece (get_or pieces i d)) && not (list_any (λ other. is_same_address (address_of_piece (get_or pieces i d)) (address_of_piece other)) (drop (i + 1) pieces))) 1 0 + touched_by (drop (i + 1) pieces) counts
 touched_by-drop_more pieces counts i d within =
     let piece = get_or pieces i d in
     let later = drop (i + 1) pieces in
     at_drop_more (λ rest. touched_by rest counts) pieces i d within
-    ∙ length-kept-cons (was_there counts) (place_of_piece piece) (map place_of_piece later)
-    ∙ ap (λ among. cond (was_there counts (place_of_piece piece) && not among) 1 0 + touched_by later counts) (list_any-places (is_same_place (place_of_piece piece)) later)
+    ∙ length-kept-cons (was_there counts) (address_of_piece piece) (map address_of_piece later)
+    ∙ ap (λ among. cond (was_there counts (address_of_piece piece) && not among) 1 0 + touched_by later counts) (list_any-addresses (is_same_address (address_of_piece piece)) later)
 
 -- the last piece, with the bytes at the end
 pub images_of-last : (bytes : List ℕ) (pieces : List Piece) (d : Piece) → byte_count pieces ≡ length bytes → 0 < length pieces → images_of bytes pieces ≡ take (length (images_of bytes pieces) - 1) (images_of bytes pieces) ++ image_of (get_or pieces (length pieces - 1) d) (drop (length bytes - (get_or pieces (length pieces - 1) d).count) bytes) ∷ []
@@ -112,17 +112,17 @@ image_at-images_of bytes (piece ∷ pieces) (suc i) d p within =
     image_at-images_of (drop piece.count bytes) pieces i d p (omega arith)
     ∙ ap (λ (rest : List ℕ). image_of here (take here.count rest)) (drop-drop (byte_count (take i pieces)) piece.count bytes ∙ sym (ap (λ n. drop n bytes) (sum_by-cons (λ (x : Piece). x.count) piece (take i pieces))))
 
-pub piece_at-images_of : (bytes : List ℕ) (pieces : List Piece) (i : ℕ) (images : List Image) → images_of bytes pieces ≡ images → piece_at pieces i ≡ place_at images i
-piece_at-images_of bytes pieces i images is = ap (λ all. get_or all i (record { segment = 0; page = 0 })) (sym (places-images_of bytes pieces)) ∙ ap (λ (all : List Image). place_at all i) is
+pub piece_at-images_of : (bytes : List ℕ) (pieces : List Piece) (i : ℕ) (images : List Image) → images_of bytes pieces ≡ images → piece_at pieces i ≡ address_at images i
+piece_at-images_of bytes pieces i images is = ap (λ all. get_or all i (record { segment = 0; page = 0 })) (sym (addresses-images_of bytes pieces)) ∙ ap (λ (all : List Image). address_at all i) is
 
 -- the page of a piece was there, and no later piece is of it
-pub last_in : (pieces : List Piece) (counts : List ℕ) (i : ℕ) → let piece = get_or pieces i (record { segment = 0; page = 0; offset = 0; count = 0 }) in (was_there counts (place_of_piece piece) && not (list_any (λ other. is_same_place (place_of_piece piece) (place_of_piece other)) (drop (i + 1) pieces))) ≡ (was_there counts (piece_at pieces i) && not (list_any (is_same_place (piece_at pieces i)) (drop (i + 1) (map place_of_piece pieces))))
+pub last_in : (pieces : List Piece) (counts : List ℕ) (i : ℕ) → let piece = get_or pieces i (record { segment = 0; page = 0; offset = 0; count = 0 }) in (was_there counts (address_of_piece piece) && not (list_any (λ other. is_same_address (address_of_piece piece) (address_of_piece other)) (drop (i + 1) pieces))) ≡ (was_there counts (piece_at pieces i) && not (list_any (is_same_address (piece_at pieces i)) (drop (i + 1) (map address_of_piece pieces))))
 last_in pieces counts i =
     let piece = get_or pieces i (record { segment = 0; page = 0; offset = 0; count = 0 }) in
-    let here : place_of_piece piece ≡ piece_at pieces i = sym (get_or-map_at place_of_piece pieces i (record { segment = 0; page = 0; offset = 0; count = 0 })) in
-    ap (λ among. was_there counts (place_of_piece piece) && not among) (sym (list_any-places (is_same_place (place_of_piece piece)) (drop (i + 1) pieces)))
-    ∙ ap (λ (later : List PagePlace). was_there counts (place_of_piece piece) && not (list_any (is_same_place (place_of_piece piece)) later)) (drop-map place_of_piece (i + 1) pieces)
-    ∙ ap (λ (q : PagePlace). was_there counts q && not (list_any (is_same_place q) (drop (i + 1) (map place_of_piece pieces)))) here
+    let here : address_of_piece piece ≡ piece_at pieces i = sym (get_or-map_at address_of_piece pieces i (record { segment = 0; page = 0; offset = 0; count = 0 })) in
+    ap (λ among. was_there counts (address_of_piece piece) && not among) (sym (list_any-addresses (is_same_address (address_of_piece piece)) (drop (i + 1) pieces)))
+    ∙ ap (λ (later : List PageAddress). was_there counts (address_of_piece piece) && not (list_any (is_same_address (address_of_piece piece)) later)) (drop-map address_of_piece (i + 1) pieces)
+    ∙ ap (λ (q : PageAddress). was_there counts q && not (list_any (is_same_address q) (drop (i + 1) (map address_of_piece pieces)))) here
   where
     drop-map : {A B : Type 0} (h : A → B) (n : ℕ) (xs : List A) → map h (drop n xs) ≡ drop n (map h xs)
     drop-map h zero xs = refl

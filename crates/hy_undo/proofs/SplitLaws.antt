@@ -9,11 +9,11 @@ use Rattle.hy_space.specs.Space.{SpaceState, HasPage, HasChildPage, SameForOwner
 use Rattle.hy_space.proofs.UserLaws.{same, same_yes, same_no}
 use Rattle.hy_space.proofs.TableLaws.{stands, times-with_frame}
 use Rattle.hy_undo.specs.UndoLog.{Image, UndoLog}
-use Rattle.hy_undo.specs.Touched.{PagePlace, is_same_place, place_of, different, was_there, touched}
-use Rattle.hy_undo.proofs.TouchedLaws.{same_place, is_same_place-refl, never_both, length-kept-cons}
-use Rattle.hy_undo.specs.inside.Fork.{rows_of, places, place_at, IsBeside, SharesGrown, ChangesChild, IsSplit, AllSplit, IsOfPage}
+use Rattle.hy_undo.specs.Touched.{PageAddress, is_same_address, address_of, different, was_there, touched}
+use Rattle.hy_undo.proofs.TouchedLaws.{same_address, is_same_address-refl, never_both, length-kept-cons}
+use Rattle.hy_undo.specs.inside.Fork.{rows_of, addresses, address_at, IsBeside, SharesGrown, ChangesChild, IsSplit, AllSplit, IsOfPage}
 
--- ---- another frame at one place of a table
+-- ---- another frame at one address of a table
 
 pub drop-set_before : {X : Type 0} (n : ℕ) (xs : List X) (i : ℕ) (x : X) → i < n → drop n (set xs i x) ≡ drop n xs
 drop-set_before zero xs i x below = absurd (omega arith)
@@ -98,7 +98,7 @@ ChangesChild-same s child = record {
 
 -- ---- a page of the child moves
 
-module _ (counts : List ℕ) (now next : SpaceState) (child segment page : ℕ) (beside : IsBeside now child) (shares : (s : ℕ) → SharesGrown counts now child s) (place : HasPage now segment page) (moves : MovesChildPage now next child segment page) (owner : SameForOwner now next) (others : SameForOthers now next child) where
+module _ (counts : List ℕ) (now next : SpaceState) (child segment page : ℕ) (beside : IsBeside now child) (shares : (s : ℕ) → SharesGrown counts now child s) (address : HasPage now segment page) (moves : MovesChildPage now next child segment page) (owner : SameForOwner now next) (others : SameForOthers now next child) where
   abbrev from : ℕ
   from = child_frame_no now child segment page
 
@@ -112,7 +112,7 @@ module _ (counts : List ℕ) (now next : SpaceState) (child segment page : ℕ) 
   rows_next = ap (λ o. unwrap_or o []) opened
 
   pub in_rows : (segment < length (rows_of now child)) × (page < length (get_or (rows_of now child) segment []))
-  in_rows = (omega (arith, place.0, beside.segments), omega (arith, place.1, (shares segment).pages))
+  in_rows = (omega (arith, address.0, beside.segments), omega (arith, address.1, (shares segment).pages))
 
   swapped : (f : ℕ) → times f (rows_of next child) + same from f ≡ times f (rows_of now child) + same to f
   swapped f = omega (arith, ap (times f) rows_next, times-with_frame f (rows_of now child) segment page to in_rows.0 in_rows.1)
@@ -164,13 +164,13 @@ module _ (counts : List ℕ) (now next : SpaceState) (child segment page : ℕ) 
   pub split_here : child_frame_no now child segment page ≡ frame_no now segment page → IsSplit next child (record { segment = segment; page = page })
   split_here shared =
       let f = frame_no now segment page in
-      let fresh : to ≢ f = λ e. absurd (omega (arith, ap (count_of now.frames) e, moves.users.unused, held segment page place)) in
+      let fresh : to ≢ f = λ e. absurd (omega (arith, ap (count_of now.frames) e, moves.users.unused, held segment page address)) in
       record {
         apart = omega (arith, ap (λ x. times x (rows_of next child)) (frame_stays segment page), swapped f, beside.once f, same_yes from f shared, same_no to f fresh);
         private = record { own = moves.users.here; not_lent = moves.users.not_lent };
       }
 
-  -- another place keeps its frame
+  -- another address keeps its frame
   pub frame_kept : (s p : ℕ) → ((s ≡ segment) × (p ≡ page) → ⊥) → child_frame_no next child s p ≡ child_frame_no now child s p
   frame_kept s p apart = ap (λ rows. get_or (get_or rows s []) p 0) rows_next ∙ frame-with_frame_other (rows_of now child) segment page to in_rows.0 s p apart
 
@@ -178,7 +178,7 @@ module _ (counts : List ℕ) (now next : SpaceState) (child segment page : ℕ) 
   shared_kept s p apart shared = frame_kept s p apart ∙ shared ∙ sym (frame_stays s p)
 
   -- and stays split
-  pub split_kept : (q : PagePlace) → ((q.segment ≡ segment) × (q.page ≡ page) → ⊥) → HasPage now q.segment q.page → child_frame_no now child segment page ≡ frame_no now segment page → IsSplit now child q → IsSplit next child q
+  pub split_kept : (q : PageAddress) → ((q.segment ≡ segment) × (q.page ≡ page) → ⊥) → HasPage now q.segment q.page → child_frame_no now child segment page ≡ frame_no now segment page → IsSplit now child q → IsSplit next child q
   split_kept q apart there shared split =
       let f = frame_no now q.segment q.page in
       let g = child_frame_no now child q.segment q.page in
@@ -189,7 +189,7 @@ module _ (counts : List ℕ) (now next : SpaceState) (child segment page : ℕ) 
         ap (λ x. times x (rows_of now child)) shared,
         ap (count_of now.frames) shared,
         beside.users (frame_no now segment page),
-        stands now.owner segment page place.0 place.1,
+        stands now.owner segment page address.0 address.1,
         stands (rows_of now child) segment page in_rows.0 in_rows.1,
       ) in
       let g_from : from ≢ g = λ e. absurd (omega (arith, ap (count_of now.frames) e, split.private.own)) in
@@ -204,11 +204,11 @@ module _ (counts : List ℕ) (now next : SpaceState) (child segment page : ℕ) 
 
 -- ---- the page that may move
 
-module _ (counts : List ℕ) (now : SpaceState) (child segment page : ℕ) (beside : IsBeside now child) (shares : (s : ℕ) → SharesGrown counts now child s) (place : HasPage now segment page) where
+module _ (counts : List ℕ) (now : SpaceState) (child segment page : ℕ) (beside : IsBeside now child) (shares : (s : ℕ) → SharesGrown counts now child s) (address : HasPage now segment page) where
   pub has_child_page : HasChildPage now child segment page
   has_child_page =
       let P = λ (table : List (List ℕ)). (segment < length table) × (page < length (get_or table segment [])) in
-      let inside : P (rows_of now child) = (omega (arith, place.0, beside.segments), omega (arith, place.1, (shares segment).pages)) in
+      let inside : P (rows_of now child) = (omega (arith, address.0, beside.segments), omega (arith, address.1, (shares segment).pages)) in
       subst (λ o. IsSomeAnd o P) (sym beside.is_open) inside
 
   pub has_two_users : child_frame_no now child segment page ≡ frame_no now segment page → 1 < count_of now.frames (child_frame_no now child segment page)
@@ -217,8 +217,8 @@ module _ (counts : List ℕ) (now : SpaceState) (child segment page : ℕ) (besi
     ap (λ x. times x (rows_of now child)) shared,
     ap (count_of now.frames) shared,
     beside.users (frame_no now segment page),
-    stands now.owner segment page place.0 place.1,
-    stands (rows_of now child) segment page (omega (arith, place.0, beside.segments)) (omega (arith, place.1, (shares segment).pages)),
+    stands now.owner segment page address.0 address.1,
+    stands (rows_of now child) segment page (omega (arith, address.0, beside.segments)) (omega (arith, address.1, (shares segment).pages)),
   )
 
 -- ---- all touched pages, one behind another
@@ -229,13 +229,13 @@ pub record IsSplitUpTo (log : UndoLog) (begin now : SpaceState) (child i : ℕ) 
   pub beside : IsBeside now child
   pub bytes : child_bytes now child ≡ child_bytes begin child
   pub shares : (s : ℕ) → SharesGrown log.counts now child s
-  pub waits : (q : PagePlace) → list_any (is_same_place q) (drop i (places log.images)) ≡ true → child_frame_no now child q.segment q.page ≡ frame_no now q.segment q.page
-  pub split : (q : PagePlace) → HasPage now q.segment q.page → was_there log.counts q ≡ true → list_any (is_same_place q) (places log.images) ≡ true → list_any (is_same_place q) (drop i (places log.images)) ≡ false → IsSplit now child q
-  pub free : free_of now.frames + touched log ≡ free_of begin.frames + length (filter (was_there log.counts) (different (drop i (places log.images))))
+  pub waits : (q : PageAddress) → list_any (is_same_address q) (drop i (addresses log.images)) ≡ true → child_frame_no now child q.segment q.page ≡ frame_no now q.segment q.page
+  pub split : (q : PageAddress) → HasPage now q.segment q.page → was_there log.counts q ≡ true → list_any (is_same_address q) (addresses log.images) ≡ true → list_any (is_same_address q) (drop i (addresses log.images)) ≡ false → IsSplit now child q
+  pub free : free_of now.frames + touched log ≡ free_of begin.frames + length (filter (was_there log.counts) (different (drop i (addresses log.images))))
 
 -- an image is the last one of a page that was there
 abbrev pub is_last : UndoLog → ℕ → Bool
-is_last log i = was_there log.counts (place_at log.images i) && not (list_any (is_same_place (place_at log.images i)) (drop (i + 1) (places log.images)))
+is_last log i = was_there log.counts (address_at log.images i) && not (list_any (is_same_address (address_at log.images i)) (drop (i + 1) (addresses log.images)))
 
 pub split_begin : (log : UndoLog) (s : SpaceState) (child : ℕ) → IsBeside s child → rows_of s child ≡ s.owner → IsSplitUpTo log s s child 0
 split_begin log s child beside same_rows = record {
@@ -247,26 +247,26 @@ split_begin log s child beside same_rows = record {
     grown = ap (λ rows. drop (get_or log.counts segment 0) (get_or rows segment [])) same_rows;
   };
   waits = λ q _. ap (λ rows. get_or (get_or rows q.segment []) q.page 0) same_rows;
-  split = λ q there was among later. never_both (list_any (is_same_place q) (places log.images)) among later;
+  split = λ q there was among later. never_both (list_any (is_same_address q) (addresses log.images)) among later;
   free = refl;
 }
 
 module _ (log : UndoLog) (begin now : SpaceState) (child i : ℕ) (within : i < length log.images) (before : IsSplitUpTo log begin now child i) where
-  abbrev here : PagePlace
-  here = place_at log.images i
+  abbrev here : PageAddress
+  here = address_at log.images i
 
-  abbrev later : List PagePlace
-  later = drop (i + 1) (places log.images)
+  abbrev later : List PageAddress
+  later = drop (i + 1) (addresses log.images)
 
-  in_places : i < length (places log.images)
-  in_places = omega (arith, within, length-map log.images place_of)
+  in_places : i < length (addresses log.images)
+  in_places = omega (arith, within, length-map log.images address_of)
 
-  among_more : (q : PagePlace) → list_any (is_same_place q) (drop i (places log.images)) ≡ (is_same_place q here || list_any (is_same_place q) later)
-  among_more q = at_drop_more (list_any (is_same_place q)) (places log.images) i (record { segment = 0; page = 0 }) in_places
+  among_more : (q : PageAddress) → list_any (is_same_address q) (drop i (addresses log.images)) ≡ (is_same_address q here || list_any (is_same_address q) later)
+  among_more q = at_drop_more (list_any (is_same_address q)) (addresses log.images) i (record { segment = 0; page = 0 }) in_places
 
-  kept_more : length (filter (was_there log.counts) (different (drop i (places log.images)))) ≡ cond (is_last log i) 1 0 + length (filter (was_there log.counts) (different later))
+  kept_more : length (filter (was_there log.counts) (different (drop i (addresses log.images)))) ≡ cond (is_last log i) 1 0 + length (filter (was_there log.counts) (different later))
   kept_more =
-      at_drop_more (λ rest. length (filter (was_there log.counts) (different rest))) (places log.images) i (record { segment = 0; page = 0 }) in_places
+      at_drop_more (λ rest. length (filter (was_there log.counts) (different rest))) (addresses log.images) i (record { segment = 0; page = 0 }) in_places
       ∙ length-kept-cons (was_there log.counts) here later
 
   -- an image that is passed over
@@ -276,11 +276,11 @@ module _ (log : UndoLog) (begin now : SpaceState) (child i : ℕ) (within : i < 
     beside = before.beside;
     bytes = before.bytes;
     shares = before.shares;
-    waits = λ q among. before.waits q (among_more q ∙ or_right (is_same_place q here) (list_any (is_same_place q) later) among);
-    split = λ q there was among behind. elim (cases_Bool (is_same_place q here)) [
+    waits = λ q among. before.waits q (among_more q ∙ or_right (is_same_address q here) (list_any (is_same_address q) later) among);
+    split = λ q there was among behind. elim (cases_Bool (is_same_address q here)) [
       | inl same_as ↦
-          let at : q ≡ here = same_place q here same_as in
-          let last : is_last log i ≡ true = subst (λ (p : PagePlace). (was_there log.counts p && not (list_any (is_same_place p) later)) ≡ true) at (and_from (was_there log.counts q) (not (list_any (is_same_place q) later)) was (ap not behind)) in
+          let at : q ≡ here = same_address q here same_as in
+          let last : is_last log i ≡ true = subst (λ (p : PageAddress). (was_there log.counts p && not (list_any (is_same_address p) later)) ≡ true) at (and_from (was_there log.counts q) (not (list_any (is_same_address q) later)) was (ap not behind)) in
           never_both (is_last log i) last not_last
       | inr apart ↦ before.split q there was among (among_more q ∙ ap₂ ◌||◌ apart behind)
     ];
@@ -292,36 +292,36 @@ module _ (log : UndoLog) (begin now : SpaceState) (child i : ℕ) (within : i < 
       or_right false b passes = passes
 
   pub shared_here : child_frame_no now child here.segment here.page ≡ frame_no now here.segment here.page
-  shared_here = before.waits here (among_more here ∙ ap (λ b. b || list_any (is_same_place here) later) (is_same_place-refl here))
+  shared_here = before.waits here (among_more here ∙ ap (λ b. b || list_any (is_same_address here) later) (is_same_address-refl here))
 
   -- no frame is free at a page that needs one
   pub split_refused : is_last log i ≡ true → free_of now.frames ≡ 0 → free_of begin.frames < touched log
   split_refused last none =
-      let more : length (filter (was_there log.counts) (different (drop i (places log.images)))) ≡ 1 + length (filter (was_there log.counts) (different later)) = kept_more ∙ ap (λ b. cond b 1 0 + length (filter (was_there log.counts) (different later))) last in
+      let more : length (filter (was_there log.counts) (different (drop i (addresses log.images)))) ≡ 1 + length (filter (was_there log.counts) (different later)) = kept_more ∙ ap (λ b. cond b 1 0 + length (filter (was_there log.counts) (different later))) last in
       omega (arith, before.free)
 
   -- a page that moves
   pub split_more : (next : SpaceState) → is_last log i ≡ true → HasPage now here.segment here.page → MovesChildPage now next child here.segment here.page → SameForOwner now next → SameForOthers now next child → child_bytes next child ≡ child_bytes now child → IsSplitUpTo log begin next child (i + 1)
   split_more next last there moves owner others bytes =
-      let parts = and_parts (was_there log.counts here) (not (list_any (is_same_place here) later)) last in
-      let not_later : list_any (is_same_place here) later ≡ false = not_true (list_any (is_same_place here) later) parts.1 in
+      let parts = and_parts (was_there log.counts here) (not (list_any (is_same_address here) later)) last in
+      let not_later : list_any (is_same_address here) later ≡ false = not_true (list_any (is_same_address here) later) parts.1 in
       let below : here.page < get_or log.counts here.segment 0 = ltb-true here.page (get_or log.counts here.segment 0) parts.0 in
       let counts = log.counts in
       let beside = before.beside in
-      let differs : (q : PagePlace) → is_same_place q here ≡ false → (q.segment ≡ here.segment) × (q.page ≡ here.page) → ⊥ = λ q apart e. never_both (is_same_place q here) (and_from (eqb q.segment here.segment) (eqb q.page here.page) (eq-eqb q.segment here.segment e.0) (eq-eqb q.page here.page e.1)) apart in
+      let differs : (q : PageAddress) → is_same_address q here ≡ false → (q.segment ≡ here.segment) × (q.page ≡ here.page) → ⊥ = λ q apart e. never_both (is_same_address q here) (and_from (eqb q.segment here.segment) (eqb q.page here.page) (eq-eqb q.segment here.segment e.0) (eq-eqb q.page here.page e.1)) apart in
       record {
         changes = ChangesChild-then begin now next child before.changes (split_changes counts now next child here.segment here.page beside before.shares there moves owner others);
         beside = split_beside counts now next child here.segment here.page beside before.shares there moves owner others;
         bytes = bytes ∙ before.bytes;
         shares = split_shares counts now next child here.segment here.page beside before.shares there moves owner others below;
-        waits = λ q among. elim (cases_Bool (is_same_place q here)) [
-          | inl same_as ↦ never_both (list_any (is_same_place here) later) (subst (λ (p : PagePlace). list_any (is_same_place p) later ≡ true) (same_place q here same_as) among) not_later
+        waits = λ q among. elim (cases_Bool (is_same_address q here)) [
+          | inl same_as ↦ never_both (list_any (is_same_address here) later) (subst (λ (p : PageAddress). list_any (is_same_address p) later ≡ true) (same_address q here same_as) among) not_later
           | inr apart ↦ shared_kept counts now next child here.segment here.page beside before.shares there moves owner others q.segment q.page (differs q apart) (before.waits q (among_more q ∙ ap₂ ◌||◌ apart among))
         ];
-        split = λ q place was among behind.
-            let place_now : HasPage now q.segment q.page = (omega (arith, place.0, ap length owner.table), omega (arith, place.1, ap (λ table. length (get_or table q.segment [])) owner.table)) in
-            elim (cases_Bool (is_same_place q here)) [
-              | inl same_as ↦ subst (λ (p : PagePlace). IsSplit next child p) (sym (same_place q here same_as)) (split_here counts now next child here.segment here.page beside before.shares there moves owner others shared_here)
+        split = λ q address was among behind.
+            let place_now : HasPage now q.segment q.page = (omega (arith, address.0, ap length owner.table), omega (arith, address.1, ap (λ table. length (get_or table q.segment [])) owner.table)) in
+            elim (cases_Bool (is_same_address q here)) [
+              | inl same_as ↦ subst (λ (p : PageAddress). IsSplit next child p) (sym (same_address q here same_as)) (split_here counts now next child here.segment here.page beside before.shares there moves owner others shared_here)
               | inr apart ↦ split_kept counts now next child here.segment here.page beside before.shares there moves owner others q (differs q apart) place_now shared_here (before.split q place_now was among (among_more q ∙ ap₂ ◌||◌ apart behind))
             ];
         free = omega (
@@ -338,7 +338,7 @@ module _ (log : UndoLog) (begin now : SpaceState) (child i : ℕ) (within : i < 
       not_true false passes = refl
 
 -- the page of each image is there
-pub page_there : (s : SpaceState) (images : List Image) (i : ℕ) → AllByRecursion (IsOfPage s) images → i < length images → HasPage s (place_at images i).segment (place_at images i).page
+pub page_there : (s : SpaceState) (images : List Image) (i : ℕ) → AllByRecursion (IsOfPage s) images → i < length images → HasPage s (address_at images i).segment (address_at images i).page
 page_there s [] i each within = absurd (omega arith)
 page_there s (image ∷ images) zero each within = each.0
 page_there s (image ∷ images) (suc i) each within = page_there s images i each.1 (omega arith)
@@ -349,12 +349,12 @@ HasPage-same old new s p same_table there = (omega (arith, there.0, ap length sa
 -- at the end all are split
 pub split_end : (log : UndoLog) (begin now : SpaceState) (child i : ℕ) → length log.images ≤ i → IsSplitUpTo log begin now child i → (AllSplit log now child) × (free_of now.frames + touched log ≡ free_of begin.frames)
 split_end log begin now child i past done =
-    let none : drop i (places log.images) ≡ [] = drop_past (places log.images) i (omega (arith, length-map log.images place_of)) in (
-      λ q there was among. done.split q there was among (ap (list_any (is_same_place q)) none),
+    let none : drop i (addresses log.images) ≡ [] = drop_past (addresses log.images) i (omega (arith, length-map log.images address_of)) in (
+      λ q there was among. done.split q there was among (ap (list_any (is_same_address q)) none),
       done.free ∙ ap (λ rest. free_of begin.frames + length (filter (was_there log.counts) (different rest))) none ∙ omega arith,
     )
   where
-    drop_past : (xs : List PagePlace) (n : ℕ) → length xs ≤ n → drop n xs ≡ []
+    drop_past : (xs : List PageAddress) (n : ℕ) → length xs ≤ n → drop n xs ≡ []
     drop_past xs zero past = nil_from_length xs (omega arith)
     drop_past [] (suc n) past = refl
     drop_past (x ∷ xs) (suc n) past = drop_past xs n (omega arith)

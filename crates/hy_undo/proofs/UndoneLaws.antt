@@ -10,7 +10,7 @@ use Rattle.hy_undo.proofs.PutBackLaws.{overwritten-same, with_page-same, IsThere
 
 -- ---- the first pages
 
--- the first elements of a list with another element at one place
+-- the first elements of a list with another element at one address
 take-set_any : {X : Type 0} (n : ℕ) (xs : List X) (i : ℕ) (x : X) → take n (set xs i x) ≡ set (take n xs) i x
 take-set_any zero xs i x = refl
 take-set_any (suc n) [] i x = refl
@@ -45,7 +45,7 @@ segment-first_pages_past (count ∷ counts) [] s past = refl
 segment-first_pages_past (count ∷ counts) (segment ∷ pages) zero past = absurd (omega arith)
 segment-first_pages_past (count ∷ counts) (segment ∷ pages) (suc s) past = segment-first_pages_past counts pages s (omega arith)
 
--- another page in its place, before or after the cut
+-- another page in its address, before or after the cut
 pub first_pages-with_page : (counts : List ℕ) (pages : List (List (List ℕ))) (s p : ℕ) (bytes : List ℕ) → first_pages counts (with_page pages s p bytes) ≡ with_page (first_pages counts pages) s p bytes
 first_pages-with_page [] pages s p bytes = refl
 first_pages-with_page (count ∷ counts) [] s p bytes = refl

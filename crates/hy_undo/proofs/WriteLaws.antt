@@ -26,7 +26,7 @@ pub both_on_ok : {T E : Type 0} (P Q : Type 0) (r : Result T E) → OnOk r P →
 both_on_ok P Q (Ok x) p q = (p, q)
 both_on_ok P Q (Err e) p q = tt
 
--- another frame at one place changes no number of pages
+-- another frame at one address changes no number of pages
 pages-with_frame : (table : List (List ℕ)) (segment page frame : ℕ) → map length (with_frame table segment page frame) ≡ map length table
 pages-with_frame [] segment page frame = refl
 pages-with_frame (row ∷ table) zero page frame = ap (λ n. n ∷ map length table) (length-set row page frame)

@@ -22,7 +22,7 @@ first_pages [] segments = segments
 first_pages (count ∷ counts) [] = []
 first_pages (count ∷ counts) (segment ∷ segments) = take count segment ∷ first_pages counts segments
 
--- the pages with the bytes of an image in their place; an image of a page that isn't there changes nothing
+-- the pages with the bytes of an image in their address; an image of a page that isn't there changes nothing
 abbrev pub put_back : List (List (List ℕ)) → Image → List (List (List ℕ))
 put_back pages image =
     let before = page_at pages image.segment image.page in

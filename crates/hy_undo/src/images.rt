@@ -1,10 +1,10 @@
 //! Overwritten bytes, one write behind another in one buffer.
 
 ghost use Rattle.std.specs.Prelude.{◌≡◌, ℕ, ◌+◌, ◌-◌, ◌^◌, ◌<◌, ◌≤◌, ◌↔◌, IsTrue, [], ◌∷◌, ◌++◌, length, map, take, drop, not, ◌&&◌, slice_index_or, sum_by, OnOk, OnErr};
-ghost use Rattle.hy_undo.specs.inside.Fork.{places, place_at};
+ghost use Rattle.hy_undo.specs.inside.Fork.{addresses, address_at};
 ghost use Rattle.std.specs.List.{list_any};
-ghost use Rattle.hy_undo.specs.Touched.{touched, is_same_place, was_there};
-ghost use Rattle.hy_undo.specs.inside.Pieces.{place_of_piece, piece_at, byte_count, images_of, touched_by};
+ghost use Rattle.hy_undo.specs.Touched.{touched, is_same_address, was_there};
+ghost use Rattle.hy_undo.specs.inside.Pieces.{address_of_piece, piece_at, byte_count, images_of, touched_by};
 
 use std::alloc::{AllocError, Global};
 use std::marker::Model;
@@ -138,7 +138,7 @@ impl Images {
     /// Where the image of one number stood.
     pub(crate) fn piece(&self, i: usize) -> Piece
         requires { i < length self.now }
-        ensures { place_of_piece result ≡ place_at self.now i }
+        ensures { address_of_piece result ≡ address_at self.now i }
     {
         piece_in(self.pieces.as_slice(), i)
     }
@@ -146,8 +146,8 @@ impl Images {
     /// Whether the page of an image was there, when segments had so many pages, and no later image is of it.
     pub(crate) fn is_last_touched(&self, i: usize, counts: &[u32]) -> bool
         requires { i < length self.now }
-        ensures { result ≡ (was_there counts.now (place_at self.now i)
-            && not (list_any (is_same_place (place_at self.now i)) (drop (i + 1) (places self.now)))) }
+        ensures { result ≡ (was_there counts.now (address_at self.now i)
+            && not (list_any (is_same_address (address_at self.now i)) (drop (i + 1) (addresses self.now)))) }
     {
         is_last_in(self.pieces.as_slice(), i, counts)
     }
@@ -213,7 +213,7 @@ fn image_in<'a>(pieces: &[Piece], bytes: &'a [u8], i: usize, end: usize) -> Last
 /// One of some pieces.
 fn piece_in(pieces: &[Piece], i: usize) -> Piece
     requires { i < length pieces.now }
-    ensures { place_of_piece result ≡ piece_at pieces.now i }
+    ensures { address_of_piece result ≡ piece_at pieces.now i }
 {
     pieces[i]
 }
@@ -222,7 +222,7 @@ fn piece_in(pieces: &[Piece], i: usize) -> Piece
 fn is_last_in(pieces: &[Piece], i: usize, counts: &[u32]) -> bool
     requires { i < length pieces.now }
     ensures { result ≡ (was_there counts.now (piece_at pieces.now i)
-        && not (list_any (is_same_place (piece_at pieces.now i)) (drop (i + 1) (map place_of_piece pieces.now)))) }
+        && not (list_any (is_same_address (piece_at pieces.now i)) (drop (i + 1) (map address_of_piece pieces.now)))) }
 {
     let piece = pieces[i];
     was_there(piece, counts) && !is_page_among(piece, &pieces[i + 1..])
@@ -243,7 +243,7 @@ fn touched_pieces(pieces: &[Piece], counts: &[u32]) -> u64
 
 /// Whether the page of a piece was there when segments had so many pages.
 fn was_there(piece: Piece, counts: &[u32]) -> bool
-    ensures { result ≡ was_there counts.now (place_of_piece piece) }
+    ensures { result ≡ was_there counts.now (address_of_piece piece) }
 {
     match counts.get(piece.segment as usize) {
         Some(count) => piece.page < *count,
@@ -253,14 +253,14 @@ fn was_there(piece: Piece, counts: &[u32]) -> bool
 
 /// Whether one of some pieces is of the page of this one.
 fn is_page_among(piece: Piece, later: &[Piece]) -> bool
-    ensures { result ≡ list_any (λ other. is_same_place (place_of_piece piece) (place_of_piece other))
+    ensures { result ≡ list_any (λ other. is_same_address (address_of_piece piece) (address_of_piece other))
         later.now }
 {
     let Piece { segment, page, .. } = piece;
     later.iter().any(
         |other: &Piece| -> bool
-            ensures { result ≡ is_same_place (record { segment = segment; page = page })
-                (place_of_piece other.now) }
+            ensures { result ≡ is_same_address (record { segment = segment; page = page })
+                (address_of_piece other.now) }
         { segment == other.segment && page == other.page },
     )
 }

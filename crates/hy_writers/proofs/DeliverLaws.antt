@@ -40,9 +40,9 @@ use Rattle.hy_indexes.specs.Indexes.{order_key_at, waiting_key_at}
 use Rattle.hy_indexes.proofs.IndexLaws.{index-finds, index-has, index-lacks}
 use Rattle.hy_indexes.proofs.KeyOrders.{order-of_orders, order-of_waiting}
 use Rattle.hy_writers.specs.Changes.{IsFoundAt}
-use Rattle.hy_writers.specs.Deliveries.{ChargesCustomer, HasLinesOf, with_delivery, with_lines}
-use Rattle.hy_writers.specs.Limits.{most_commits}
-use Rattle.hy_writers.specs.Waiting.{IsSoundStore, IsWaiting, order_of_entry}
+use Rattle.hy_writers.specs.Deliveries.{ChargesCustomer, HasLinesOf, with_delivery, with_lines, with_lines_of}
+use Rattle.hy_writers.specs.Limits.{most_applied}
+use Rattle.hy_writers.specs.Waiting.{IsSoundStore, IsWaiting, order_of_entry, without_waiting}
 use Rattle.hy_writers.proofs.FindLaws.{found-customer, found-only}
 use Rattle.hy_writers.proofs.WaitingLaws.{all-in, in-all, live-erased, live-in, not-eqb, oldest-behind, oldest-found, oldest-none}
 use Rattle.hy_writers.proofs.WritesLaws.{all-at}
@@ -153,11 +153,11 @@ module _ (layout : LayoutState) (s : Stored) (entry : Entry WaitingKey) (store :
       few =
           let counts = all-at (CountsLines s.tables.order_lines) s.tables.orders place order
           (meets-facts s.tables store.sound.conditions).lines here in
-          let fits = all-at (IsOrderUpTo most_commits) s.tables.orders place order store.bounds.orders here in
+          let fits = all-at (IsOrderUpTo most_applied) s.tables.orders place order store.bounds.orders here in
           let many = fits.line_count in
           omega (arith, counts, many);
       amounts = all-in (λ (row : OrderLine). IsLineAmount row.amount) s.tables.order_lines (λ row there.
-          (in-all (IsLineUpTo most_commits) s.tables.order_lines row store.bounds.order_lines there).amount);
+          (in-all (IsLineUpTo most_applied) s.tables.order_lines row store.bounds.order_lines there).amount);
     }
 
     pub order-cents : (pos 0 ≤ℤ cents_of order s.tables.order_lines)
@@ -238,27 +238,16 @@ module _ (layout : LayoutState) (s : Stored) (entry : Entry WaitingKey) (store :
       abbrev with_order_put : Stored → Stored
       with_order_put t = record t { tables = record t.tables { orders = slice_set t.tables.orders place carried_row } }
 
-      abbrev with_lines_delivered : Stored → Stored
-      with_lines_delivered t = with_lines t (with_all_changed (is_line_of order) (delivered_line delivery.at) t.tables.order_lines)
-
       pub delivered-store : IsInOrder is_lesser_waiting s.waiting
           → IsMeantAt number order.district (who.Number order.customer) s.tables.customers customer_place
           → carried_row ≡ carried delivery.carrier order → cents ≡ cents_of order s2.tables.order_lines
-          → s1 ≡ record s {
-            tables = record s.tables { new_orders = live_rows (slice_set s.new_order_slots entry.slot None) };
-            new_order_slots = slice_set s.new_order_slots entry.slot None;
-            waiting = without is_lesser_waiting entry.key s.waiting;
-          }
-          → s2 ≡ with_order_put s1 → s3 ≡ with_lines_delivered s2 → ChargesCustomer cents customer_place s3 s4
+          → s1 ≡ without_waiting entry s
+          → s2 ≡ with_order_put s1 → s3 ≡ with_lines_of delivery.at order s2 → ChargesCustomer cents customer_place s3 s4
           → s4 ≡ with_delivery delivery order entry.slot s
       delivered-store waiting_in_order meant is_carried is_cents first second third charges =
-          let base : Stored = record s {
-            tables = record s.tables { new_orders = live_rows (slice_set s.new_order_slots entry.slot None) };
-            new_order_slots = slice_set s.new_order_slots entry.slot None;
-            waiting = without is_lesser_waiting entry.key s.waiting;
-          } in
-          let third_is : s3 ≡ with_lines_delivered (with_order_put base) =
-          third ∙ ap with_lines_delivered (second ∙ ap with_order_put first) in
+          let base : Stored = without_waiting entry s in
+          let third_is : s3 ≡ with_lines_of delivery.at order (with_order_put base) =
+          third ∙ ap (with_lines_of delivery.at order) (second ∙ ap with_order_put first) in
           let lines_are : s2.tables.order_lines ≡ s.tables.order_lines =
           ap (λ (t : Stored). t.tables.order_lines) (second ∙ ap with_order_put first) in
           let cents_are : cents ≡ cents_of order s.tables.order_lines = is_cents ∙ ap (cents_of order) lines_are in
@@ -315,11 +304,7 @@ module _ (layout : LayoutState) (s : Stored) (entry : Entry WaitingKey) (store :
 
 -- the first two writes together
 pub put-taken : (s s1 s2 : Stored) (entry : Entry WaitingKey) (place : ℕ) (row : Order)
-    → s1 ≡ record s {
-      tables = record s.tables { new_orders = live_rows (slice_set s.new_order_slots entry.slot None) };
-      new_order_slots = slice_set s.new_order_slots entry.slot None;
-      waiting = without is_lesser_waiting entry.key s.waiting;
-    }
+    → s1 ≡ without_waiting entry s
     → s2 ≡ record s1 { tables = record s1.tables { orders = slice_set s1.tables.orders place row } }
     → s2 ≡ record s {
       tables = record s.tables {

@@ -29,7 +29,7 @@ use Rattle.hy_writers.proofs.OrderLinesLaws.{behind_lines, first_line, line_plac
 use Rattle.hy_writers.proofs.SumLaws.{column_sum-sorted}
 use Rattle.hy_writers.proofs.WaitingLaws.{all-in}
 use Rattle.hy_writers.proofs.WritesLaws.{all-at}
-use Rattle.hy_writers.specs.Deliveries.{DeliversLine, HasLinesOf, Walked, lines_at, walk_over, walked, walked_line, with_lines}
+use Rattle.hy_writers.specs.Deliveries.{DeliversLine, HasLinesOf, Walked, lines_at, places_of, walk_over, walked, walked_line, with_lines}
 
 -- ---- a line more
 
@@ -40,16 +40,16 @@ lines-again old mid new rows before is =
     is ∙ ap (λ (s : Stored). with_lines s rows) before ∙ ap (with_lines old) (sym lines)
 
 -- what a delivered line makes of the lines
-pub delivered-rows : (moment place : ℕ) (old new : Stored) (row : OrderLine) → DeliversLine moment place old new row
+pub delivered-rows : (moment place : ℕ) (old new : Stored) (row : OrderLine) → DeliversLine moment place row old new
     → new.tables.order_lines ≡ slice_set old.tables.order_lines place (delivered_line moment row)
 delivered-rows moment place old new row delivers = ap (λ (s : Stored). s.tables.order_lines) delivers.rows
 
 pub walk-on : (moment index : ℕ) (entries : List (Entry LineKey)) (d : Entry LineKey) (old new : Stored)
     (row : OrderLine) (cents sum : ℤ) (whole : Walked) → index < length entries
-    → DeliversLine moment (slice_index_or entries index d).slot old new row → sum ≡ cents +ℤ row.amount
-    → walked moment (map (λ (entry : Entry LineKey). entry.slot) (drop index entries))
+    → DeliversLine moment (slice_index_or entries index d).slot row old new → sum ≡ cents +ℤ row.amount
+    → walked moment (places_of (drop index entries))
     (record { rows = old.tables.order_lines; cents = cents }) ≡ whole
-    → walked moment (map (λ (entry : Entry LineKey). entry.slot) (drop (index + 1) entries))
+    → walked moment (places_of (drop (index + 1) entries))
     (record { rows = new.tables.order_lines; cents = sum }) ≡ whole
 walk-on moment index entries d old new row cents sum whole within delivers is_sum before =
     let slots : Entry LineKey → ℕ = λ (entry : Entry LineKey). entry.slot in
@@ -64,13 +64,13 @@ walk-on moment index entries d old new row cents sum whole within delivers is_su
     ∙ ap (λ some. walked moment (map slots some) (record { rows = old.tables.order_lines; cents = cents })) (sym rest)
     ∙ before
 
-pub many-lines : (moment place : ℕ) (old new : Stored) (row : OrderLine) → DeliversLine moment place old new row
+pub many-lines : (moment place : ℕ) (old new : Stored) (row : OrderLine) → DeliversLine moment place row old new
     → length new.tables.order_lines ≡ length old.tables.order_lines
 many-lines moment place old new row delivers =
     ap length (delivered-rows moment place old new row delivers)
     ∙ length-set old.tables.order_lines place (delivered_line moment row)
 
-pub amounts-kept : (moment place : ℕ) (old new : Stored) (row : OrderLine) → DeliversLine moment place old new row
+pub amounts-kept : (moment place : ℕ) (old new : Stored) (row : OrderLine) → DeliversLine moment place row old new
     → All (λ (row : OrderLine). IsLineAmount row.amount) old.tables.order_lines
     → All (λ (row : OrderLine). IsLineAmount row.amount) new.tables.order_lines
 amounts-kept moment place old new row delivers all =
@@ -79,7 +79,7 @@ amounts-kept moment place old new row delivers all =
     (all-at (λ (row : OrderLine). IsLineAmount row.amount) old.tables.order_lines place row all delivers.here) all)
 
 pub walk-end : (moment index : ℕ) (entries : List (Entry LineKey)) (now : Stored) (cents : ℤ) (whole : Walked)
-    → length entries ≤ index → walked moment (map (λ (entry : Entry LineKey). entry.slot) (drop index entries))
+    → length entries ≤ index → walked moment (places_of (drop index entries))
     (record { rows = now.tables.order_lines; cents = cents }) ≡ whole → now.tables.order_lines ≡ whole.rows
 walk-end moment index entries now cents whole past is =
     let slots : Entry LineKey → ℕ = λ (entry : Entry LineKey). entry.slot in

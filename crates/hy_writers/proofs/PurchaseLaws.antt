@@ -16,15 +16,15 @@ use Rattle.hy_schema.specs.Related.{is_item}
 use Rattle.hy_index.specs.Index.{with_entry}
 use Rattle.hy_commands.specs.declared.command.PurchaseLine.{PurchaseLine}
 use Rattle.hy_commands.specs.declared.command.Purchase.{Purchase}
-use Rattle.hy_commands.specs.NewOrders.{buyer, purchase_cents, purchase_total, total_of, is_stock, line_cents, line_row, no_item, sold, sold_line, new_order_row, order_number, order_row, with_next_order}
+use Rattle.hy_commands.specs.NewOrders.{buyer, purchase_cents, purchase_total, total_of, is_stock, line_cents, line_row, no_item, sold, sold_line, order_number, order_row, with_next_order}
 use Rattle.hy_commands.specs.declared.command.Who.TheVariants as who
 use Rattle.hy_layout.specs.Layout.{IsMeantAt}
 use Rattle.hy_slices.specs.Slices.{headed_number}
-use Rattle.hy_store.specs.Keys.{is_lesser_customer, is_lesser_line, is_lesser_order, is_lesser_waiting}
+use Rattle.hy_store.specs.Keys.{is_lesser_line}
 use Rattle.hy_store.specs.Stored.{Stored}
 use Rattle.hy_writers.specs.Begun.{IsBegunPurchase}
 use Rattle.hy_writers.specs.Changes.{IsFoundAt}
-use Rattle.hy_writers.specs.Purchases.{line_for, with_order, with_order_line}
+use Rattle.hy_writers.specs.Purchases.{line_for, with_order, with_order_entries, with_order_line, with_waiting}
 
 -- the number of a purchase is the next one of its district
 pub number-found : (warehouse place : ℕ) (order : Purchase) (tables : Tables) (district : District)
@@ -40,31 +40,18 @@ module _ (warehouse district_place place : ℕ) (order : Purchase) (begun : IsBe
   abbrev with_row : Stored → Stored
   with_row t = record t { tables = record t.tables { orders = t.tables.orders ++ row ∷ [] } }
 
-  abbrev with_entries : Stored → Stored
-  with_entries t = record t {
-    orders = with_entry is_lesser_order (record { order = district.next_order; district = order.district }) place t.orders;
-    last_orders =
-        with_entry is_lesser_customer (record { district = order.district; customer = order.customer }) place t.last_orders;
-  }
-
-  abbrev with_waiting : Stored → Stored
-  with_waiting t = record t {
-    tables = record t.tables { new_orders = t.tables.new_orders ++ new_order_row order district.next_order ∷ [] };
-    new_order_slots = t.new_order_slots ++ Some (new_order_row order district.next_order) ∷ [];
-    waiting =
-        with_entry is_lesser_waiting (record { district = order.district; order = district.next_order })
-        (length t.new_order_slots) t.waiting;
-  }
-
   pub order-added : IsFoundAt (is_district warehouse order.district) s.tables.districts district_place district
       → district_row ≡ with_next_order district → row ≡ order_row order district.next_order
       → place ≡ length s1.tables.orders
       → s1 ≡ record s { tables = record s.tables { districts = slice_set s.tables.districts district_place district_row } }
       → s2 ≡ record s1 { tables = record s1.tables { orders = s1.tables.orders ++ row ∷ [] } }
-      → s3 ≡ with_entries s2 → s4 ≡ with_waiting s3 → s4 ≡ with_order order s
+      → s3 ≡ with_order_entries order district.next_order place s2 → s4 ≡ with_waiting order district.next_order s3
+      → s4 ≡ with_order order s
   order-added found is_district_row is_row is_place first second third fourth =
       let at : place ≡ length s.tables.orders = is_place ∙ ap (λ (t : Stored). length t.tables.orders) first in
-      fourth ∙ ap with_waiting (third ∙ ap with_entries (second ∙ ap with_row first))
+      fourth
+      ∙ ap (with_waiting order district.next_order)
+      (third ∙ ap (with_order_entries order district.next_order place) (second ∙ ap with_row first))
       ∙ rw (
         is_row,
         at,

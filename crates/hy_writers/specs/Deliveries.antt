@@ -7,15 +7,18 @@ use Rattle.hy_rows.specs.declared.order_line.OrderLine.{OrderLine}
 use Rattle.hy_rows.specs.Limits.{max_lines}
 use Rattle.hy_rows.specs.Ranges.{IsLineAmount}
 use Rattle.hy_schema.specs.Keys.{AreUnique}
-use Rattle.hy_schema.specs.Related.{lines_of}
+use Rattle.hy_schema.specs.Related.{is_line_of, lines_of}
+use Rattle.hy_index.specs.declared.key.Entry.{Entry}
 use Rattle.hy_index.specs.Index.{without}
 use Rattle.hy_commands.specs.declared.command.Delivery.{Delivery}
 use Rattle.hy_commands.specs.Invariant.{line_key}
-use Rattle.hy_commands.specs.Deliveries.{customer_delivered, delivered_line, with_delivered}
+use Rattle.hy_commands.specs.Deliveries.{customer_delivered, delivered_in, delivered_line, with_delivered}
+use Rattle.hy_commands.specs.Sorting.{with_all_changed}
+use Rattle.hy_store.specs.declared.keys.LineKey.{LineKey}
 use Rattle.hy_store.specs.Keys.{is_lesser_waiting}
 use Rattle.hy_store.specs.Stored.{Stored}
 use Rattle.hy_indexes.specs.Finds.{IsIndexOf}
-use Rattle.hy_indexes.specs.Indexes.{line_key_at}
+use Rattle.hy_indexes.specs.Indexes.{HasIndexes, line_key_at}
 
 -- the lines, and what those that were delivered come to
 pub record Walked : Type 0 where
@@ -41,7 +44,7 @@ abbrev pub is_listed : ℕ → List ℕ → Bool
 is_listed place places = list_any (λ other. other == place) places
 
 -- the line at a place has a delivery date now
-pub record DeliversLine (moment place : ℕ) (old new : Stored) (row : OrderLine) : Type 0 where
+pub record DeliversLine (moment place : ℕ) (row : OrderLine) (old new : Stored) : Type 0 where
   pub here : slice_get old.tables.order_lines place ≡ Some row
   pub rows :
       new ≡ record old {
@@ -57,6 +60,19 @@ with_lines s rows = record s { tables = record s.tables { order_lines = rows } }
 -- a walk over the lines of a store, from no cents on
 abbrev pub walk_over : ℕ → List ℕ → Stored → Walked
 walk_over moment places s = walked moment places (record { rows = s.tables.order_lines; cents = pos 0 })
+
+-- the places of the lines that entries name
+abbrev pub places_of : List (Entry LineKey) → List ℕ
+places_of entries = map (λ (entry : Entry LineKey). entry.slot) entries
+
+-- the lines at places are delivered
+abbrev pub with_walked : ℕ → List ℕ → Stored → Stored
+with_walked moment places s = with_lines s (walk_over moment places s).rows
+
+-- the lines of an order are delivered
+abbrev pub with_lines_of : ℕ → Order → Stored → Stored
+with_lines_of moment order s =
+    with_lines s (with_all_changed (is_line_of order) (delivered_line moment) s.tables.order_lines)
 
 -- what is known of an order's lines before they are delivered: they are its warehouse's, few, each with its entry
 pub record HasLinesOf (warehouse : ℕ) (order : Order) (s : Stored) : Type 0 where
@@ -86,3 +102,8 @@ pub record ChargesCustomer (cents : ℤ) (place : ℕ) (old new : Stored) : Type
           customers = slice_set old.tables.customers place (customer_delivered cents row);
         };
       }
+
+-- the oldest undelivered order of a district is delivered, if there is one, and the indexes are those of the rows
+pub record DeliversOldest (delivery : Delivery) (district : ℕ) (old new : Stored) : Type 0 where
+  pub rows : new.tables ≡ delivered_in delivery old.tables district
+  pub indexes : HasIndexes new

@@ -4,8 +4,9 @@ use Rattle.std.specs.Prelude.{ℕ}
 use Rattle.hy_rows.specs.Tables.{Tables}
 use Rattle.hy_commands.specs.Growth.{HasGrownBy}
 
-abbrev pub most_commits : ℕ
-most_commits = 100_000_001
+-- the commits that may be kept, and the one that runs
+abbrev pub most_applied : ℕ
+most_applied = 100_000_001
 
 abbrev pub AreInBounds : Tables → Type 0
-AreInBounds tables = HasGrownBy most_commits tables
+AreInBounds tables = HasGrownBy most_applied tables

@@ -7,7 +7,21 @@ use Rattle.hy_rows.specs.declared.warehouse.Warehouse.{Warehouse}
 use Rattle.hy_commands.specs.declared.command.Payment.{Payment}
 use Rattle.hy_commands.specs.declared.reply.Reply.{Reply}
 use Rattle.hy_commands.specs.declared.reply.Reply.TheVariants as replies
-use Rattle.hy_commands.specs.Payments.{customer_paid}
+use Rattle.hy_commands.specs.Payments.{customer_paid, paid_by, paid_in}
+use Rattle.hy_commands.specs.Transactions.{payer}
+use Rattle.hy_layout.specs.Layout.{IsMeantAt, LayoutState}
+use Rattle.hy_schema.specs.Keys.{IsOneWarehouse}
+use Rattle.hy_store.specs.Stored.{Stored}
+use Rattle.hy_writers.specs.Begun.{IsBegunPayment}
+use Rattle.hy_writers.specs.Limits.{AreInBounds}
+
+-- the home warehouse, its district and the history after a payment
+abbrev pub with_home_paid : Payment → Stored → Stored
+with_home_paid payment s = record s { tables = paid_in payment (payer payment s.tables).id s.tables }
+
+-- its customer after it
+abbrev pub with_customer_paid : Payment → Stored → Stored
+with_customer_paid payment s = record s { tables = paid_by payment (payer payment s.tables).id s.tables }
 
 abbrev pub history_for : Payment → ℕ → Warehouse → District → History
 history_for payment customer warehouse district = record {
@@ -24,3 +38,11 @@ history_for payment customer warehouse district = record {
 -- the reply to the payment of a customer
 abbrev pub payment_reply : Payment → Customer → Reply
 payment_reply payment row = replies.Payment row.id (customer_paid payment.amount row).balance
+
+-- what a slice of a payment needs: the warehouse has its rows, within their bounds, it has begun the payment, and the
+-- customer who pays stands at a place
+pub record CanPay (layout : LayoutState) (payment : Payment) (place : ℕ) (s : Stored) : Type 0 where
+  pub rows : IsOneWarehouse layout.warehouse s.tables
+  pub bounds : AreInBounds s.tables
+  pub begun : IsBegunPayment layout.warehouse payment
+  pub payer : IsMeantAt layout.warehouse payment.customer_district payment.who s.tables.customers place

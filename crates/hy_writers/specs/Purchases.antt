@@ -1,14 +1,39 @@
 -- What the slices of a purchase write into a store: rows, and their entries in the indexes.
-use Rattle.std.specs.Prelude.{ℕ, ◌+◌, List, [], ◌∷◌, ◌++◌, length, pos, Some}
+use Rattle.std.specs.Prelude.{◌≡◌, ℕ, ◌+◌, ◌^◌, ◌<◌, ◌≤◌, List, [], ◌∷◌, ◌++◌, find, length, map, pos, All, Some}
 use Rattle.hy_rows.specs.declared.item.Item.{Item}
 use Rattle.hy_rows.specs.declared.order_line.OrderLine.{OrderLine}
+use Rattle.hy_rows.specs.Limits.{max_items, max_lines, max_price}
+use Rattle.hy_rows.specs.Ranges.{IsBetween}
+use Rattle.hy_schema.specs.Keys.{AreUnique, IsOneWarehouse}
+use Rattle.hy_schema.specs.Related.{is_item}
 use Rattle.hy_index.specs.Index.{with_entry}
 use Rattle.hy_commands.specs.declared.command.Purchase.{Purchase}
 use Rattle.hy_commands.specs.declared.command.PurchaseLine.{PurchaseLine}
+use Rattle.hy_commands.specs.Invariant.{stock_key}
 use Rattle.hy_commands.specs.NewOrders.{new_order_row, order_number}
+use Rattle.hy_layout.specs.Layout.{KeepsPlaces, LayoutState, own_rows}
 use Rattle.hy_slices.specs.Slices.{headed, headed_number, lined}
 use Rattle.hy_store.specs.Keys.{is_lesser_customer, is_lesser_line, is_lesser_order, is_lesser_waiting}
+use Rattle.hy_store.specs.Changes.{with_new_order}
 use Rattle.hy_store.specs.Stored.{Stored}
+use Rattle.hy_writers.specs.Begun.{IsBegunLine, IsBegunPurchase}
+use Rattle.hy_writers.specs.Limits.{AreInBounds}
+
+-- the entries of an order with a number: that it stands at a place, and that it is its customer's last one
+abbrev pub with_order_entries : Purchase → ℕ → ℕ → Stored → Stored
+with_order_entries order number place s = record s {
+  orders = with_entry is_lesser_order (record { order = number; district = order.district }) place s.orders;
+  last_orders =
+      with_entry is_lesser_customer (record { district = order.district; customer = order.customer }) place s.last_orders;
+}
+
+-- the row of NEW-ORDER for an order with a number, and its entry
+abbrev pub with_waiting : Purchase → ℕ → Stored → Stored
+with_waiting order number s = record (with_new_order (new_order_row order number) s) {
+  waiting =
+      with_entry is_lesser_waiting (record { district = order.district; order = number }) (length s.new_order_slots)
+      s.waiting;
+}
 
 -- the head: an order, and its row of NEW-ORDER
 abbrev pub with_order : Purchase → Stored → Stored
@@ -51,3 +76,28 @@ line_for order number place line cents = record {
   quantity = line.quantity;
   amount = pos cents;
 }
+
+-- what the head of a purchase needs: the warehouse has its rows, within their bounds, it has begun the purchase, and the
+-- customer's number fits its column
+pub record CanAddOrder (layout : LayoutState) (order : Purchase) (s : Stored) : Type 0 where
+  pub rows : IsOneWarehouse layout.warehouse s.tables
+  pub bounds : AreInBounds s.tables
+  pub begun : IsBegunPurchase layout.warehouse order
+  pub customer : order.customer < 2 ^ 16
+
+-- what a line behind so many needs: the warehouse has its rows, at their places and within their bounds, it has begun the
+-- purchase, whose head is done, and the item is the one of the line
+pub record CanAddLine (layout : LayoutState) (order : Purchase) (lines : ℕ) (line : PurchaseLine) (item : Item)
+    (s : Stored) : Type 0 where
+  pub rows : IsOneWarehouse layout.warehouse s.tables
+  pub stock : AreUnique (map stock_key s.tables.stock)
+  pub places : KeepsPlaces (own_rows layout) s.tables
+  pub bounds : AreInBounds s.tables
+  pub next : All (λ row. 0 < row.next_order) s.tables.districts
+  pub begun : IsBegunPurchase layout.warehouse order
+  pub few : lines < max_lines
+  pub passed : IsBegunLine layout.warehouse line
+  pub found : find (is_item line.item) layout.load.items ≡ Some item
+  pub number : IsBetween 1 (length layout.load.items) line.item
+  pub small : line.item ≤ max_items
+  pub price : item.price ≤ max_price

@@ -1,34 +1,28 @@
 //! Delivery (TPC-C clause 2.7): the oldest undelivered order of a district.
 
-ghost use Rattle.std.specs.Prelude.{◌≡◌, ℕ, ◌+◌, ◌*◌, ◌≤◌, ◌<◌, ◌+ℤ◌, ◌≤ℤ◌, pos, Some, None, Ok, true, List, map, length, slice_get, slice_set, All, IfSome, MatchOption, OnOk, IfOk, IsErrOf};
-ghost use Rattle.hy_frames.specs.FrameTable.{free_of};
+ghost use Rattle.std.specs.Prelude.{◌≡◌, ◌+◌, ◌*◌, ◌≤◌, ◌<◌, ◌+ℤ◌, ◌≤ℤ◌, pos, Some, true, length, All, IfSome, OnOk, IfOk, IsErrOf};
 ghost use Rattle.hy_rows.specs.declared.order_line.OrderLine.{OrderLine};
 ghost use Rattle.hy_rows.specs.Limits.{max_carriers, max_line_cents, max_lines};
 ghost use Rattle.hy_rows.specs.Ranges.{IsBetween, IsLineAmount};
 ghost use Rattle.hy_space.specs.Space.{owner_bytes};
-ghost use Rattle.hy_undo.specs.PrivatePages.{IsUndoLog};
 ghost use Rattle.hy_undo.specs.Writes.{IsOutOfFrames};
 ghost use Rattle.hy_index.specs.declared.key.Entry.{Entry};
-ghost use Rattle.hy_commands.specs.Deliveries.{carried, customer_delivered, delivered_in, delivered_line, oldest, order_cents};
-ghost use Rattle.hy_rows.specs.Spelling.{live_rows};
-ghost use Rattle.hy_schema.specs.Related.{is_line_of};
-ghost use Rattle.hy_index.specs.Index.{found, without};
+ghost use Rattle.hy_commands.specs.Deliveries.{carried, customer_delivered, oldest, order_cents};
+ghost use Rattle.hy_index.specs.Index.{found};
 ghost use Rattle.hy_relation.specs.Relation.{IsLive};
 ghost use Rattle.hy_commands.specs.Growth.{IsCustomerUpTo, max_order_cents};
-ghost use Rattle.hy_commands.specs.Sorting.{with_all_changed};
 ghost use Rattle.hy_rows.specs.Finding.{is_customer};
 ghost use Rattle.std.specs.List.{list_any};
 ghost use Rattle.hy_commands.specs.declared.command.Who.{Who};
 ghost use Rattle.hy_layout.specs.Layout.{IsMeantAt, KeepsPlaces, own_rows};
-ghost use Rattle.hy_store.specs.Keys.{is_lesser_order, is_lesser_waiting};
+ghost use Rattle.hy_store.specs.Keys.{is_lesser_order};
 ghost use Rattle.hy_store.specs.Stored.{HasStore};
-ghost use Rattle.hy_store.specs.Writes.{WritesStore, stored_in};
+ghost use Rattle.hy_store.specs.Writes.{ChangesStore, IsWritableStore, LeavesStore, WritesStore, stored_in};
 ghost use Rattle.hy_store.specs.declared.keys.LineKey.{LineKey};
-ghost use Rattle.hy_indexes.specs.Indexes.{HasIndexes};
-ghost use Rattle.hy_writers.specs.Limits.{most_commits};
-ghost use Rattle.hy_writers.specs.Deliveries.{ChargesCustomer, DeliversLine, HasLinesOf, walk_over, with_delivery, with_lines};
+ghost use Rattle.hy_writers.specs.Limits.{most_applied};
+ghost use Rattle.hy_writers.specs.Deliveries.{ChargesCustomer, DeliversLine, DeliversOldest, HasLinesOf, places_of, walk_over, with_lines_of, with_walked};
 ghost use Rattle.hy_writers.specs.Begun.{IsBegunDelivery};
-ghost use Rattle.hy_writers.specs.Waiting.{IsSoundStore, IsWaiting, order_of_entry};
+ghost use Rattle.hy_writers.specs.Waiting.{IsOldest, IsSoundStore, IsWaiting, with_entry_delivered, without_waiting};
 
 use hy_commands::Delivery;
 use hy_frames::Shortage;
@@ -49,11 +43,9 @@ fn deliver_line<const N: usize>(
     moment: u64,
     place: u64,
 ) -> Result<OrderLine, Shortage>
-    requires store { HasStore N (owner_bytes space.old) }
-    requires undo_log { IsUndoLog N space.old undo.old }
+    requires writable { IsWritableStore N space.old undo.old }
     requires there { place < length (stored_in N space.old).tables.order_lines }
-    ensures store { OnOk result (HasStore N (owner_bytes space.new)) }
-    ensures delivered { IfOk result (DeliversLine moment place (stored_in N space.old) (stored_in N space.new)) }
+    ensures delivered { IfOk result (λ row. LeavesStore N space.old space.new (DeliversLine moment place row)) }
     ensures writes { WritesStore N space.old space.new undo.old undo.new }
     ensures no_frame { IsErrOf result Shortage.NoFrame → IsOutOfFrames space.new }
 {
@@ -73,18 +65,15 @@ fn deliver_lines<const N: usize>(
     moment: u64,
     entries: &[Entry<LineKey>],
 ) -> Result<i64, Shortage>
-    requires store { HasStore N (owner_bytes space.old) }
-    requires undo_log { IsUndoLog N space.old undo.old }
+    requires writable { IsWritableStore N space.old undo.old }
     requires there { All (λ (entry : Entry LineKey). entry.slot < length (stored_in N space.old).tables.order_lines)
         entries.now }
     requires amounts { All (λ (row : OrderLine). IsLineAmount row.amount)
         (stored_in N space.old).tables.order_lines }
     requires few { length entries.now ≤ max_lines }
-    ensures store { OnOk result (HasStore N (owner_bytes space.new)) }
-    ensures delivered { OnOk result (stored_in N space.new ≡ with_lines (stored_in N space.old)
-        (walk_over moment (map (λ (entry : Entry LineKey). entry.slot) entries.now) (stored_in N space.old)).rows) }
+    ensures delivered { OnOk result (ChangesStore N space.old space.new (with_walked moment (places_of entries.now))) }
     ensures cents { IfOk result (λ cents. cents
-        ≡ (walk_over moment (map (λ (entry : Entry LineKey). entry.slot) entries.now) (stored_in N space.old)).cents) }
+        ≡ (walk_over moment (places_of entries.now) (stored_in N space.old)).cents) }
     ensures writes { WritesStore N space.old space.new undo.old undo.new }
     ensures no_frame { IsErrOf result Shortage.NoFrame → IsOutOfFrames space.new }
 {
@@ -116,14 +105,10 @@ fn deliver_order_lines<const N: usize>(
     order: &Order,
     entries: &mut Vec<Entry<LineKey>>,
 ) -> Result<i64, Shortage>
-    requires store { HasStore N (owner_bytes space.old) }
-    requires undo_log { IsUndoLog N space.old undo.old }
+    requires writable { IsWritableStore N space.old undo.old }
     requires lines { HasLinesOf order.now.warehouse order.now (stored_in N space.old) }
     requires district { order.now.district ≤ 10 }
-    ensures store { OnOk result (HasStore N (owner_bytes space.new)) }
-    ensures delivered { OnOk result (stored_in N space.new ≡ with_lines (stored_in N space.old)
-        (with_all_changed (is_line_of order.now) (delivered_line moment)
-        (stored_in N space.old).tables.order_lines)) }
+    ensures delivered { OnOk result (ChangesStore N space.old space.new (with_lines_of moment order.now)) }
     ensures cents { IfOk result (λ cents. cents
         ≡ order_cents order.now (stored_in N space.old).tables.order_lines) }
     ensures writes { WritesStore N space.old space.new undo.old undo.new }
@@ -149,19 +134,11 @@ fn take_waiting<const N: usize>(
     undo: &mut Undo<N>,
     waiting: &Entry<WaitingKey>,
 ) -> Result<(), Shortage>
-    requires store { HasStore N (owner_bytes space.old) }
-    requires undo_log { IsUndoLog N space.old undo.old }
+    requires writable { IsWritableStore N space.old undo.old }
     requires live { IsLive (stored_in N space.old).new_order_slots waiting.now.slot }
-    ensures store { OnOk result (HasStore N (owner_bytes space.new)) }
-    ensures taken { OnOk result (stored_in N space.new ≡ record (stored_in N space.old) {
-      tables = record (stored_in N space.old).tables {
-        new_orders = live_rows (slice_set (stored_in N space.old).new_order_slots waiting.now.slot None);
-      };
-      new_order_slots = slice_set (stored_in N space.old).new_order_slots waiting.now.slot None;
-      waiting = without is_lesser_waiting waiting.now.key (stored_in N space.old).waiting;
-    }) }
+    ensures taken { OnOk result (ChangesStore N space.old space.new (without_waiting waiting.now)) }
     ensures writes { WritesStore N space.old space.new undo.old undo.new }
-    ensures no_frame { IsErrOf result Shortage.NoFrame → free_of space.new.frames ≡ 0 }
+    ensures no_frame { IsErrOf result Shortage.NoFrame → IsOutOfFrames space.new }
 {
     erase_new_order(space, undo, waiting.slot)?;
     remove_entry(space, undo, &waiting.key)
@@ -169,7 +146,7 @@ fn take_waiting<const N: usize>(
 
 /// The customer after an order of some cents was delivered.
 fn customer_after(row: &Customer, cents: i64) -> Customer
-    requires row { IsCustomerUpTo most_commits (10 * most_commits) row.now }
+    requires row { IsCustomerUpTo most_applied (10 * most_applied) row.now }
     requires low { pos 0 ≤ℤ cents }
     requires high { cents ≤ℤ pos max_order_cents }
     ensures { result ≡ customer_delivered cents row.now }
@@ -193,15 +170,13 @@ fn charge<const N: usize>(
     place: u64,
     cents: i64,
 ) -> Result<(), Shortage>
-    requires store { HasStore N (owner_bytes space.old) }
-    requires undo_log { IsUndoLog N space.old undo.old }
+    requires writable { IsWritableStore N space.old undo.old }
     requires there { place < length (stored_in N space.old).tables.customers }
-    requires customers { All (IsCustomerUpTo most_commits (10 * most_commits))
+    requires customers { All (IsCustomerUpTo most_applied (10 * most_applied))
         (stored_in N space.old).tables.customers }
     requires low { pos 0 ≤ℤ cents }
     requires high { cents ≤ℤ pos max_order_cents }
-    ensures store { OnOk result (HasStore N (owner_bytes space.new)) }
-    ensures charged { OnOk result (ChargesCustomer cents place (stored_in N space.old) (stored_in N space.new)) }
+    ensures charged { OnOk result (LeavesStore N space.old space.new (ChargesCustomer cents place)) }
     ensures writes { WritesStore N space.old space.new undo.old undo.new }
     ensures no_frame { IsErrOf result Shortage.NoFrame → IsOutOfFrames space.new }
 {
@@ -229,17 +204,14 @@ fn deliver_order<const N: usize>(
     waiting: &Entry<WaitingKey>,
     entries: &mut Vec<Entry<LineKey>>,
 ) -> Result<(), Shortage>
-    requires store { HasStore N (owner_bytes space.old) }
+    requires writable { IsWritableStore N space.old undo.old }
     requires sound { IsSoundStore layout.now (stored_in N space.old) }
     requires waiting { IsWaiting layout.now.warehouse (stored_in N space.old) waiting.now }
     requires delivery { IsBegunDelivery layout.now.warehouse delivery.now }
-    requires undo_log { IsUndoLog N space.old undo.old }
-    ensures store { OnOk result (HasStore N (owner_bytes space.new)) }
-    ensures delivered { OnOk result (stored_in N space.new ≡ with_delivery delivery.now
-        (order_of_entry layout.now.warehouse (stored_in N space.old) waiting.now) waiting.now.slot
-        (stored_in N space.old)) }
+    ensures delivered { OnOk result (ChangesStore N space.old space.new
+        (with_entry_delivered layout.now.warehouse delivery.now waiting.now)) }
     ensures writes { WritesStore N space.old space.new undo.old undo.new }
-    ensures no_frame { IsErrOf result Shortage.NoFrame → free_of space.new.frames ≡ 0 }
+    ensures no_frame { IsErrOf result Shortage.NoFrame → IsOutOfFrames space.new }
 {
     know_store(space);
     know_entries::<OrderKey, N>(space);
@@ -305,18 +277,14 @@ pub fn deliver_in<const N: usize>(
     district: u8,
     entries: &mut Vec<Entry<LineKey>>,
 ) -> Result<u32, Shortage>
-    requires store { HasStore N (owner_bytes space.old) }
+    requires writable { IsWritableStore N space.old undo.old }
     requires sound { IsSoundStore layout.now (stored_in N space.old) }
     requires delivery { IsBegunDelivery layout.now.warehouse delivery.now }
-    requires undo_log { IsUndoLog N space.old undo.old }
-    ensures store { OnOk result (HasStore N (owner_bytes space.new)) }
-    ensures delivered { OnOk result ((stored_in N space.new).tables
-        ≡ delivered_in delivery.now (stored_in N space.old).tables district) }
-    ensures indexes { OnOk result (HasIndexes (stored_in N space.new)) }
+    ensures delivered { OnOk result (LeavesStore N space.old space.new (DeliversOldest delivery.now district)) }
     ensures number { IfOk result (λ number. number
         ≡ oldest layout.now.warehouse district (stored_in N space.old).tables) }
     ensures writes { WritesStore N space.old space.new undo.old undo.new }
-    ensures no_frame { IsErrOf result Shortage.NoFrame → free_of space.new.frames ≡ 0 }
+    ensures no_frame { IsErrOf result Shortage.NoFrame → IsOutOfFrames space.new }
 {
     know_store(space);
     know_entries::<OrderKey, N>(space);
@@ -339,9 +307,7 @@ fn waiting_in<const N: usize>(
     requires store { HasStore N (owner_bytes space.now) }
     requires sound { IsSoundStore layout.now (stored_in N space.now) }
     ensures waiting { IfSome result (IsWaiting layout.now.warehouse (stored_in N space.now)) }
-    ensures oldest { MatchOption result (oldest layout.now.warehouse district (stored_in N space.now).tables ≡ 0)
-        (λ waiting. (waiting.key.district ≡ district)
-        × (oldest layout.now.warehouse district (stored_in N space.now).tables ≡ waiting.key.order)) }
+    ensures oldest { IsOldest layout.now.warehouse district (stored_in N space.now).tables result }
 {
     know_store(space);
     know_entries::<WaitingKey, N>(space);

@@ -1,6 +1,6 @@
 //! Rows that stand at a place that never changes.
 
-ghost use Rattle.std.specs.Prelude.{◌≡◌, ◌-◌, ◌<◌, Some, length, map, slice_get};
+ghost use Rattle.std.specs.Prelude.{◌-◌, length, map};
 ghost use Rattle.hy_rows.specs.Finding.{is_district, is_warehouse};
 ghost use Rattle.hy_rows.specs.Ranges.{IsBetween};
 ghost use Rattle.hy_schema.specs.Keys.{AreUnique, IsOneWarehouse};

@@ -1,23 +1,18 @@
 //! Payment (TPC-C clause 2.5): the home warehouse, its district and the history; then the customer.
 
-ghost use Rattle.std.specs.Prelude.{◌≡◌, ◌+◌, ◌*◌, ◌≤◌, ◌+ℤ◌, ◌-ℤ◌, ◌<◌, pos, ◌++◌, codes, length, OnOk, IfOk, IsErrOf};
+ghost use Rattle.std.specs.Prelude.{◌≡◌, ◌+◌, ◌*◌, ◌≤◌, ◌+ℤ◌, ◌<◌, pos, ◌++◌, codes, length, OnOk, IfOk, IsErrOf};
 ghost use Rattle.arrayvec.specs.ArrayVec.{array_vec_len};
 ghost use Rattle.hy_frames.specs.FrameTable.{free_of};
 ghost use Rattle.hy_rows.specs.Limits.{max_payment};
-ghost use Rattle.hy_schema.specs.Keys.{IsOneWarehouse};
-ghost use Rattle.hy_space.specs.Space.{owner_bytes};
-ghost use Rattle.hy_undo.specs.PrivatePages.{IsUndoLog};
 ghost use Rattle.hy_undo.specs.Writes.{IsOutOfFrames};
 ghost use Rattle.hy_commands.specs.declared.reply.Reply.{Reply};
 ghost use Rattle.hy_commands.specs.Growth.{IsCustomerUpTo, IsDistrictUpTo, IsMoneyUpTo, IsWarehouseUpTo};
-ghost use Rattle.hy_commands.specs.Payments.{customer_paid, district_paid, paid_by, paid_in, warehouse_paid};
+ghost use Rattle.hy_commands.specs.Payments.{customer_paid, district_paid, warehouse_paid};
 ghost use Rattle.hy_commands.specs.Transactions.{payer};
-ghost use Rattle.hy_layout.specs.Layout.{IsMeantAt};
-ghost use Rattle.hy_store.specs.Stored.{HasStore};
-ghost use Rattle.hy_store.specs.Writes.{WritesStore, stored_in};
+ghost use Rattle.hy_store.specs.Writes.{ChangesStore, IsWritableStore, WritesStore, stored_in};
 ghost use Rattle.hy_writers.specs.Begun.{IsBegunPayment};
-ghost use Rattle.hy_writers.specs.Limits.{AreInBounds, most_commits};
-ghost use Rattle.hy_writers.specs.Payments.{history_for, payment_reply};
+ghost use Rattle.hy_writers.specs.Limits.{most_applied};
+ghost use Rattle.hy_writers.specs.Payments.{CanPay, history_for, payment_reply, with_customer_paid, with_home_paid};
 
 use crate::finds::{own_district, own_warehouse};
 use arrayvec::ArrayVec;
@@ -31,7 +26,7 @@ use hy_undo::Undo;
 
 /// An amount that rises by some cents.
 fn raised(amount: i64, cents: u64) -> i64
-    requires amount { IsMoneyUpTo (max_payment * most_commits) amount }
+    requires amount { IsMoneyUpTo (max_payment * most_applied) amount }
     requires cents { cents ≤ max_payment }
     ensures { result ≡ amount +ℤ pos cents }
 {
@@ -40,7 +35,7 @@ fn raised(amount: i64, cents: u64) -> i64
 
 /// A warehouse after a payment of some cents.
 fn warehouse_after(row: &Warehouse, cents: u64) -> Warehouse
-    requires row { IsWarehouseUpTo most_commits row.now }
+    requires row { IsWarehouseUpTo most_applied row.now }
     requires cents { cents ≤ max_payment }
     ensures { result ≡ warehouse_paid cents row.now }
 {
@@ -52,7 +47,7 @@ fn warehouse_after(row: &Warehouse, cents: u64) -> Warehouse
 
 /// A district after a payment of some cents.
 fn district_after(row: &District, cents: u64) -> District
-    requires row { IsDistrictUpTo most_commits row.now }
+    requires row { IsDistrictUpTo most_applied row.now }
     requires cents { cents ≤ max_payment }
     ensures { result ≡ district_paid cents row.now }
 {
@@ -64,7 +59,7 @@ fn district_after(row: &District, cents: u64) -> District
 
 /// A customer after a payment of some cents.
 fn customer_after(row: &Customer, cents: u64) -> Customer
-    requires row { IsCustomerUpTo most_commits (10 * most_commits) row.now }
+    requires row { IsCustomerUpTo most_applied (10 * most_applied) row.now }
     requires cents { cents ≤ max_payment }
     ensures { result ≡ customer_paid cents row.now }
 {
@@ -143,17 +138,9 @@ pub fn pay_home<const N: usize>(
     payment: &Payment,
     place: u64,
 ) -> Result<(), Shortage>
-    requires store { HasStore N (owner_bytes space.old) }
-    requires rows { IsOneWarehouse layout.now.warehouse (stored_in N space.old).tables }
-    requires bounds { AreInBounds (stored_in N space.old).tables }
-    requires undo_log { IsUndoLog N space.old undo.old }
-    requires payment { IsBegunPayment layout.now.warehouse payment.now }
-    requires payer { IsMeantAt layout.now.warehouse payment.now.customer_district payment.now.who
-        (stored_in N space.old).tables.customers place }
-    ensures store { OnOk result (HasStore N (owner_bytes space.new)) }
-    ensures paid { OnOk result (stored_in N space.new ≡ record (stored_in N space.old) {
-      tables = paid_in payment.now (payer payment.now (stored_in N space.old).tables).id (stored_in N space.old).tables;
-    }) }
+    requires writable { IsWritableStore N space.old undo.old }
+    requires can { CanPay layout.now payment.now place (stored_in N space.old) }
+    ensures paid { OnOk result (ChangesStore N space.old space.new (with_home_paid payment.now)) }
     ensures writes { WritesStore N space.old space.new undo.old undo.new }
     ensures no_frame { IsErrOf result Shortage.NoFrame → free_of space.new.frames ≡ 0 }
 {
@@ -184,17 +171,9 @@ pub fn pay_customer<const N: usize>(
     payment: &Payment,
     place: u64,
 ) -> Result<Reply, Shortage>
-    requires store { HasStore N (owner_bytes space.old) }
-    requires rows { IsOneWarehouse layout.now.warehouse (stored_in N space.old).tables }
-    requires bounds { AreInBounds (stored_in N space.old).tables }
-    requires undo_log { IsUndoLog N space.old undo.old }
-    requires payment { IsBegunPayment layout.now.warehouse payment.now }
-    requires payer { IsMeantAt layout.now.warehouse payment.now.customer_district payment.now.who
-        (stored_in N space.old).tables.customers place }
-    ensures store { OnOk result (HasStore N (owner_bytes space.new)) }
-    ensures paid { OnOk result (stored_in N space.new ≡ record (stored_in N space.old) {
-      tables = paid_by payment.now (payer payment.now (stored_in N space.old).tables).id (stored_in N space.old).tables;
-    }) }
+    requires writable { IsWritableStore N space.old undo.old }
+    requires can { CanPay layout.now payment.now place (stored_in N space.old) }
+    ensures paid { OnOk result (ChangesStore N space.old space.new (with_customer_paid payment.now)) }
     ensures reply { IfOk result (λ reply. reply
         ≡ payment_reply payment.now (payer payment.now (stored_in N space.old).tables)) }
     ensures writes { WritesStore N space.old space.new undo.old undo.new }

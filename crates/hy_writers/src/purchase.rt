@@ -1,26 +1,20 @@
 //! New-Order (TPC-C clause 2.4): the head of an order; then its lines, one by one.
 
-ghost use Rattle.std.specs.Prelude.{◌≡◌, ◌+◌, ◌*◌, ◌-◌, ◌≤◌, ◌<◌, ◌^◌, ◌++◌, ◌∷◌, [], Some, true, false, find, length, map, All, OnOk, IsErrOf};
+ghost use Rattle.std.specs.Prelude.{◌≡◌, ◌*◌, ◌≤◌, ◌<◌, ◌^◌, true, false, length, All, OnOk, IsErrOf};
 ghost use Rattle.hy_frames.specs.FrameTable.{free_of};
-ghost use Rattle.hy_rows.specs.Limits.{max_items, max_line_cents, max_lines, max_price, max_quantity, max_stock};
-ghost use Rattle.hy_rows.specs.Ranges.{IsBetween};
-ghost use Rattle.hy_schema.specs.Keys.{AreUnique, IsOneWarehouse};
-ghost use Rattle.hy_schema.specs.Related.{is_item};
+ghost use Rattle.hy_rows.specs.Limits.{max_line_cents, max_lines, max_price, max_quantity, max_stock};
+ghost use Rattle.hy_schema.specs.Keys.{IsOneWarehouse};
 ghost use Rattle.hy_space.specs.Space.{owner_bytes};
-ghost use Rattle.hy_undo.specs.PrivatePages.{IsUndoLog};
 ghost use Rattle.hy_commands.specs.declared.command.Who.{Who};
 ghost use Rattle.hy_commands.specs.Growth.{IsDistrictUpTo, IsStockUpTo, max_order_cents};
-ghost use Rattle.hy_commands.specs.Invariant.{stock_key};
 ghost use Rattle.hy_commands.specs.NewOrders.{has_item, is_all_local, line_cents, new_order_row, order_row, purchase_cents, purchase_total, quantity_left, sold, total_of, with_next_order};
-ghost use Rattle.hy_index.specs.Index.{with_entry};
 ghost use Rattle.hy_commands.proofs.GrowthLaws.{ItemsFit};
-ghost use Rattle.hy_layout.specs.Layout.{IsMeantAt, KeepsPlaces, own_rows};
-ghost use Rattle.hy_store.specs.Keys.{is_lesser_customer, is_lesser_order, is_lesser_waiting};
+ghost use Rattle.hy_layout.specs.Layout.{IsMeantAt};
 ghost use Rattle.hy_store.specs.Stored.{HasStore};
-ghost use Rattle.hy_store.specs.Writes.{WritesStore, stored_in};
+ghost use Rattle.hy_store.specs.Writes.{ChangesStore, IsWritableStore, WritesStore, stored_in};
 ghost use Rattle.hy_writers.specs.Begun.{IsBegunLine, IsBegunPurchase};
-ghost use Rattle.hy_writers.specs.Limits.{AreInBounds, most_commits};
-ghost use Rattle.hy_writers.specs.Purchases.{line_for, with_order, with_order_line};
+ghost use Rattle.hy_writers.specs.Limits.{most_applied};
+ghost use Rattle.hy_writers.specs.Purchases.{CanAddLine, CanAddOrder, line_for, with_order, with_order_entries, with_order_line, with_waiting};
 
 use crate::finds::{own_district, own_stock, own_warehouse};
 use hy_commands::{Purchase, PurchaseLine};
@@ -36,7 +30,7 @@ use hy_undo::Undo;
 
 /// A district after an order.
 fn district_after(row: &District) -> District
-    requires { IsDistrictUpTo most_commits row.now }
+    requires { IsDistrictUpTo most_applied row.now }
     ensures { result ≡ with_next_order row.now }
 {
     District {
@@ -94,18 +88,10 @@ fn enter_order<const N: usize>(
     number: u32,
     place: u64,
 ) -> Result<(), Shortage>
-    requires store { HasStore N (owner_bytes space.old) }
-    requires undo_log { IsUndoLog N space.old undo.old }
+    requires writable { IsWritableStore N space.old undo.old }
     requires order { IsBegunPurchase order.now.warehouse order.now }
     requires customer { order.now.customer < 2 ^ 16 }
-    ensures store { OnOk result (HasStore N (owner_bytes space.new)) }
-    ensures entered { OnOk result (stored_in N space.new ≡ record (stored_in N space.old) {
-      orders = with_entry is_lesser_order (record { order = number; district = order.now.district }) place
-          (stored_in N space.old).orders;
-      last_orders = with_entry is_lesser_customer
-          (record { district = order.now.district; customer = order.now.customer }) place
-          (stored_in N space.old).last_orders;
-    }) }
+    ensures entered { OnOk result (ChangesStore N space.old space.new (with_order_entries order.now number place)) }
     ensures writes { WritesStore N space.old space.new undo.old undo.new }
     ensures no_frame { IsErrOf result Shortage.NoFrame → free_of space.new.frames ≡ 0 }
 {
@@ -130,18 +116,9 @@ fn add_waiting<const N: usize>(
     home: u8,
     number: u32,
 ) -> Result<(), Shortage>
-    requires store { HasStore N (owner_bytes space.old) }
-    requires undo_log { IsUndoLog N space.old undo.old }
+    requires writable { IsWritableStore N space.old undo.old }
     requires order { IsBegunPurchase home order.now }
-    ensures store { OnOk result (HasStore N (owner_bytes space.new)) }
-    ensures added { OnOk result (stored_in N space.new ≡ record (stored_in N space.old) {
-      tables = record (stored_in N space.old).tables {
-        new_orders = (stored_in N space.old).tables.new_orders ++ new_order_row order.now number ∷ [];
-      };
-      new_order_slots = (stored_in N space.old).new_order_slots ++ Some (new_order_row order.now number) ∷ [];
-      waiting = with_entry is_lesser_waiting (record { district = order.now.district; order = number })
-          (length (stored_in N space.old).new_order_slots) (stored_in N space.old).waiting;
-    }) }
+    ensures added { OnOk result (ChangesStore N space.old space.new (with_waiting order.now number)) }
     ensures writes { WritesStore N space.old space.new undo.old undo.new }
     ensures no_frame { IsErrOf result Shortage.NoFrame → free_of space.new.frames ≡ 0 }
 {
@@ -160,14 +137,9 @@ pub fn add_order<const N: usize>(
     undo: &mut Undo<N>,
     order: &Purchase,
 ) -> Result<(), Shortage>
-    requires store { HasStore N (owner_bytes space.old) }
-    requires rows { IsOneWarehouse layout.now.warehouse (stored_in N space.old).tables }
-    requires bounds { AreInBounds (stored_in N space.old).tables }
-    requires undo_log { IsUndoLog N space.old undo.old }
-    requires order { IsBegunPurchase layout.now.warehouse order.now }
-    requires customer { order.now.customer < 2 ^ 16 }
-    ensures store { OnOk result (HasStore N (owner_bytes space.new)) }
-    ensures added { OnOk result (stored_in N space.new ≡ with_order order.now (stored_in N space.old)) }
+    requires writable { IsWritableStore N space.old undo.old }
+    requires can { CanAddOrder layout.now order.now (stored_in N space.old) }
+    ensures added { OnOk result (ChangesStore N space.old space.new (with_order order.now)) }
     ensures writes { WritesStore N space.old space.new undo.old undo.new }
     ensures no_frame { IsErrOf result Shortage.NoFrame → free_of space.new.frames ≡ 0 }
 {
@@ -195,7 +167,7 @@ fn quantity_left(stock: u16, quantity: u16) -> u16
 
 /// A row of STOCK after a line of the home warehouse.
 fn stock_after(row: &Stock, quantity: u64) -> Stock
-    requires row { IsStockUpTo (max_lines * most_commits) row.now }
+    requires row { IsStockUpTo (max_lines * most_applied) row.now }
     requires quantity { quantity ≤ max_quantity }
     ensures { result ≡ sold false quantity row.now }
 {
@@ -255,23 +227,10 @@ pub fn add_line<const N: usize>(
     line: &PurchaseLine,
     item: &Item,
 ) -> Result<(), Shortage>
-    requires store { HasStore N (owner_bytes space.old) }
-    requires rows { IsOneWarehouse layout.now.warehouse (stored_in N space.old).tables }
-    requires stock { AreUnique (map stock_key (stored_in N space.old).tables.stock) }
-    requires places { KeepsPlaces (own_rows layout.now) (stored_in N space.old).tables }
-    requires bounds { AreInBounds (stored_in N space.old).tables }
-    requires next { All (λ row. 0 < row.next_order) (stored_in N space.old).tables.districts }
-    requires undo_log { IsUndoLog N space.old undo.old }
-    requires order { IsBegunPurchase layout.now.warehouse order.now }
-    requires lines { lines < max_lines }
-    requires line { IsBegunLine layout.now.warehouse line.now }
-    requires item { find (is_item line.now.item) layout.now.load.items ≡ Some item.now }
-    requires number { IsBetween 1 (length layout.now.load.items) line.now.item }
-    requires small { line.now.item ≤ max_items }
-    requires price { item.now.price ≤ max_price }
-    ensures store { OnOk result (HasStore N (owner_bytes space.new)) }
-    ensures added { OnOk result (stored_in N space.new ≡ with_order_line layout.now.load.items layout.now.warehouse
-        order.now lines line.now (stored_in N space.old)) }
+    requires writable { IsWritableStore N space.old undo.old }
+    requires can { CanAddLine layout.now order.now lines line.now item.now (stored_in N space.old) }
+    ensures added { OnOk result (ChangesStore N space.old space.new
+        (with_order_line layout.now.load.items layout.now.warehouse order.now lines line.now)) }
     ensures writes { WritesStore N space.old space.new undo.old undo.new }
     ensures no_frame { IsErrOf result Shortage.NoFrame → free_of space.new.frames ≡ 0 }
 {

@@ -1,26 +1,38 @@
 -- Pages that are being filled.
 use Rattle.std.specs.Prelude.{◌≡◌, ℕ, Bool, if◌then◌else◌, List, [], ◌∷◌, ◌++◌, length, map, Option, Some}
 use Rattle.hy_index.specs.declared.key.Entry.{Entry}
+use Rattle.hy_rows.specs.declared.new_order.NewOrder.{NewOrder}
 use Rattle.hy_rows.specs.Tables.{Tables}
 use Rattle.hy_space.specs.Space.{SpaceState, owner_bytes}
-use Rattle.hy_undo.specs.PrivatePages.{IsUndoLog}
-use Rattle.hy_undo.specs.UndoLog.{UndoLog}
-use Rattle.hy_store.specs.Stored.{HasStore, Stored, nothing_stored}
+use Rattle.hy_store.specs.Pages.{HasPagesUpTo}
+use Rattle.hy_store.specs.Stored.{Stored, nothing_stored}
 use Rattle.hy_layout.specs.Finds.{IsIn}
-
--- the pages, of n bytes each, are a store, and the log is that of the space
-pub record IsReady (n : ℕ) (space : SpaceState) (undo : UndoLog) : Type 0 where
-  pub store : HasStore n (owner_bytes space)
-  pub undo_log : IsUndoLog n space undo
+use Rattle.hy_fill.specs.Frames.{most_of}
 
 -- no child comes or goes, and the limit of frames stays
 pub record StaysOpen (old new : SpaceState) : Type 0 where
   pub children : new.children ≡ old.children
   pub limit : new.frames.max ≡ old.frames.max
 
+-- no page comes but for the rows of a warehouse and their entries
+abbrev pub StaysWithin : ℕ → Tables → SpaceState → SpaceState → Type 0
+StaysWithin n tables old new =
+    HasPagesUpTo n (most_of tables) (owner_bytes old) → HasPagesUpTo n (most_of tables) (owner_bytes new)
+
 -- a store with these rows and no entry of an index
 abbrev pub without_indexes : Tables → Stored
 without_indexes tables = record nothing_stored { tables = tables; new_order_slots = map Some tables.new_orders }
+
+-- a store with more rows behind those of a table
+abbrev pub with_more : {Row : Type 0} → (Tables → List Row) → (Tables → List Row → Tables) → List Row → Stored → Stored
+with_more rows_in with_rows more old = record old { tables = with_rows old.tables (rows_in old.tables ++ more) }
+
+-- the same of NEW-ORDER
+abbrev pub with_new_orders : List NewOrder → Stored → Stored
+with_new_orders more old = record old {
+  tables = record old.tables { new_orders = old.tables.new_orders ++ more };
+  new_order_slots = old.new_order_slots ++ map Some more;
+}
 
 -- no two rows have the same key
 abbrev pub TellsApart : {Key Row : Type 0} → (Row → Key) → (ℕ → Option Row) → Type 0

@@ -5,6 +5,7 @@ use Rattle.hy_index.specs.declared.key.Entry.{Entry}
 use Rattle.hy_index.specs.Index.{found, with_entry}
 use Rattle.hy_store.specs.declared.keys.CustomerKey.{CustomerKey}
 use Rattle.hy_store.specs.Keys.{is_lesser_customer}
+use Rattle.hy_store.specs.Stored.{Stored}
 use Rattle.hy_layout.specs.Finds.{IsIn}
 
 -- the number of the order at a place
@@ -25,6 +26,10 @@ abbrev pub with_order : List Order → Entry CustomerKey → List (Entry Custome
 with_order orders entry entries =
     if is_later orders entry (found is_lesser_customer entry.key entries) then entries
     else with_entry is_lesser_customer entry.key entry.slot entries
+
+-- the store after one more order was given to its customer
+abbrev pub with_last_order : Entry CustomerKey → Stored → Stored
+with_last_order entry old = record old { last_orders = with_order old.tables.orders entry old.last_orders }
 
 -- of the orders that were given, each customer has one with the greatest number
 pub record AreLastOf (orders : List Order) (given entries : List (Entry CustomerKey)) : Type 0 where

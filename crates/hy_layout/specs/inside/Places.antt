@@ -1,5 +1,5 @@
 -- Where the customers of a warehouse stand, by number and by last name.
-use Rattle.std.specs.Prelude.{◌≡◌, ℕ, ◌+◌, ◌-◌, ◌<◌, ◌≤◌, ◌==◌, ◌&&◌, ◌⊎◌, Bool, IfSome, List, length, map, filter, Some, slice_get, slice_index}
+use Rattle.std.specs.Prelude.{◌≡◌, ℕ, ◌+◌, ◌-◌, ◌/◌, ◌<◌, ◌≤◌, ◌==◌, ◌&&◌, ◌⊎◌, Bool, IfSome, List, Option, length, map, filter, Some, slice_get, slice_index}
 use Rattle.std.specs.Cmp.Lexicographic.{slice_cmp}
 use Rattle.std.specs.List.Sorted.{IsPermutation, IsSortedBy}
 use Rattle.std.specs.Ordering.{is_lt, nat_cmp, ordering_then}
@@ -38,6 +38,10 @@ compare_name district name customer =
 -- whether a customer of a district has a last name
 abbrev pub is_called : ℕ → List ℕ → NamedCustomer → Bool
 is_called district name customer = (customer.district == district) && bytes_eq customer.last name
+
+-- the one in the middle: of n, that at place (n + 1) / 2, counted from 1
+abbrev pub middle_of : List NamedCustomer → Option NamedCustomer
+middle_of customers = slice_get customers ((length customers + 1) / 2 - 1)
 
 -- behind a customer of a warehouse stands the next number of the same district, or customer 1 of the next district
 abbrev pub IsNext : Customer → Customer → Type 0

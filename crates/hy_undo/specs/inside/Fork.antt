@@ -4,18 +4,18 @@ use Rattle.std.specs.List.{list_any}
 use Rattle.hy_frames.specs.FrameTable.{count_of, lent_at}
 use Rattle.hy_space.specs.Space.{SpaceState, HasPage, HasChildPage, SameForOwner, SameForOthers, IsChildPrivate, times, child_table, child_bytes, frame_no, page_count}
 use Rattle.hy_undo.specs.UndoLog.{Image, UndoLog}
-use Rattle.hy_undo.specs.Touched.{PagePlace, is_same_place, place_of, was_there}
+use Rattle.hy_undo.specs.Touched.{PageAddress, is_same_address, address_of, was_there}
 
 -- the table of an open child
 abbrev pub rows_of : SpaceState → ℕ → List (List ℕ)
 rows_of s child = unwrap_or (child_table s child) []
 
--- the places of the pages of some images
-abbrev pub places : List Image → List PagePlace
-places images = map place_of images
+-- the addresses of the pages of some images
+abbrev pub addresses : List Image → List PageAddress
+addresses images = map address_of images
 
-abbrev pub place_at : List Image → ℕ → PagePlace
-place_at images i = slice_index_or (places images) i (record { segment = 0; page = 0 })
+abbrev pub address_at : List Image → ℕ → PageAddress
+address_at images i = slice_index_or (addresses images) i (record { segment = 0; page = 0 })
 
 -- an open child has a table beside the owner's, and each has a frame once at most
 pub record IsBeside (s : SpaceState) (child : ℕ) : Type 0 where
@@ -42,25 +42,25 @@ pub record ChangesChild (old new : SpaceState) (child : ℕ) : Type 0 where
   pub limit : new.frames.max ≡ old.frames.max
 
 -- the child has not the owner's page
-abbrev pub IsApart : SpaceState → ℕ → PagePlace → Type 0
-IsApart s child place = times (frame_no s place.segment place.page) (rows_of s child) ≡ 0
+abbrev pub IsApart : SpaceState → ℕ → PageAddress → Type 0
+IsApart s child address = times (frame_no s address.segment address.page) (rows_of s child) ≡ 0
 
 -- owner and child have a page each, and the child's is private
-pub record IsSplit (s : SpaceState) (child : ℕ) (place : PagePlace) : Type 0 where
-  pub apart : IsApart s child place
-  pub private : IsChildPrivate s child place.segment place.page
+pub record IsSplit (s : SpaceState) (child : ℕ) (address : PageAddress) : Type 0 where
+  pub apart : IsApart s child address
+  pub private : IsChildPrivate s child address.segment address.page
 
 -- each page that the log touched is split
 abbrev pub AllSplit : UndoLog → SpaceState → ℕ → Type 0
 AllSplit log s child =
-    (place : PagePlace) → HasPage s place.segment place.page → was_there log.counts place ≡ true
-    → list_any (is_same_place place) (places log.images) ≡ true → IsSplit s child place
+    (address : PageAddress) → HasPage s address.segment address.page → was_there log.counts address ≡ true
+    → list_any (is_same_address address) (addresses log.images) ≡ true → IsSplit s child address
 
 -- the child has no page that was grown
 abbrev pub AllGrownApart : UndoLog → SpaceState → ℕ → Type 0
 AllGrownApart log s child =
-    (place : PagePlace) → HasPage s place.segment place.page → was_there log.counts place ≡ false
-    → IsApart s child place
+    (address : PageAddress) → HasPage s address.segment address.page → was_there log.counts address ≡ false
+    → IsApart s child address
 
 -- the pages that an open child sees
 abbrev pub child_pages : SpaceState → ℕ → List (List (List ℕ))

@@ -2,7 +2,7 @@
 use Rattle.std.specs.Prelude.{ℕ, List, [], ◌∷◌, length, map, take, drop, sum_by, slice_index_or}
 use Rattle.hy_undo.specs.declared.images.Piece.{Piece}
 use Rattle.hy_undo.specs.UndoLog.{Image}
-use Rattle.hy_undo.specs.Touched.{PagePlace, different, was_there}
+use Rattle.hy_undo.specs.Touched.{PageAddress, different, was_there}
 use Rattle.std.specs.List.{filter}
 
 -- how many bytes some pieces have together
@@ -17,13 +17,13 @@ images_of bytes (piece ∷ later) =
     ∷ images_of (drop piece.count bytes) later
 
 -- the page of a piece
-abbrev pub place_of_piece : Piece → PagePlace
-place_of_piece piece = record { segment = piece.segment; page = piece.page }
+abbrev pub address_of_piece : Piece → PageAddress
+address_of_piece piece = record { segment = piece.segment; page = piece.page }
 
 -- how many different pages pieces are of, among those that were there when segments had so many pages
 abbrev pub touched_by : List Piece → List ℕ → ℕ
-touched_by pieces counts = length (filter (was_there counts) (different (map place_of_piece pieces)))
+touched_by pieces counts = length (filter (was_there counts) (different (map address_of_piece pieces)))
 
 -- the page of the piece of one number
-abbrev pub piece_at : List Piece → ℕ → PagePlace
-piece_at pieces i = slice_index_or (map place_of_piece pieces) i (record { segment = 0; page = 0 })
+abbrev pub piece_at : List Piece → ℕ → PageAddress
+piece_at pieces i = slice_index_or (map address_of_piece pieces) i (record { segment = 0; page = 0 })

@@ -2,15 +2,15 @@ use Rattle.std.specs.Prelude.{◌++◌, codes, decimal}
 use Rattle.hy_events.proofs.WriterLaws.{appends-last, appends-then}
 use Rattle.hy_events.proofs.reply.write_customer.Goals as goal
 
-pub returns : goal.returns
-returns g c =
-    let start = g.O.Write.contents c.args.out.now in
-    let one = g.O.Write.contents c.write.new.self in
-    let two = g.O.Write.contents c.write_all.new.self in
-    let three = g.O.Write.contents c.write_all-2.new.self in
-    let four = g.O.Write.contents c.write_all-3.new.self in
-    let five = g.O.Write.contents c.write_all-4.new.self in
-    let six = g.O.Write.contents c.write_all-5.new.self in
+pub returns-clause-written : goal.returns-clause-written
+returns-clause-written g c =
+    let start = g.O.Output.contents c.args.out.now in
+    let one = g.O.Output.contents c.write.new.self in
+    let two = g.O.Output.contents c.write_all.new.self in
+    let three = g.O.Output.contents c.write_all-2.new.self in
+    let four = g.O.Output.contents c.write_all-3.new.self in
+    let five = g.O.Output.contents c.write_all-4.new.self in
+    let six = g.O.Output.contents c.write_all-5.new.self in
     let number = codes "status customer " ++ decimal c.args.customer ++ codes " " in
     let first = number ++ c.as_bytes.result.now in
     let to_first = appends-then start one two number c.as_bytes.result.now c.in_ok-write.ensures.bytes c.in_ok-write_all.ensures.bytes in

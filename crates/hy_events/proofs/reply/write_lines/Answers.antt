@@ -17,6 +17,6 @@ loop-line-preserved g c =
       quantity = 0;
       amount = pos 0;
     } in
-    appends-more line_text c.args.lines.now c.loop-line.line-index blank (g.O.Write.contents c.args.out.now)
-    (g.O.Write.contents c.loop-line.out) (g.O.Write.contents c.write_line.new.out) c.loop-line-test.true
-    c.loop-line.invariant c.in_ok-write_line.ensures
+    appends-more line_text c.args.lines.now c.loop-line.line-index blank (g.O.Output.contents c.args.out.now)
+    (g.O.Output.contents c.loop-line.out) (g.O.Output.contents c.write_line.new.out) c.loop-line-test.true
+    c.loop-line.invariant c.in_ok-write_line.ensures.written

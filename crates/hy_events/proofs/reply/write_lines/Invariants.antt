@@ -6,4 +6,4 @@ use Rattle.hy_events.proofs.reply.write_lines.Given as goal
 
 abbrev pub invariant-loop-line : goal.invariant-loop-line
 invariant-loop-line g l =
-    Appends (g.O.Write.contents l.initial.out) (g.O.Write.contents l.out) (flat_map line_text (take l.line-index l.lines))
+    Appends (g.O.Output.contents l.initial.out) (g.O.Output.contents l.out) (flat_map line_text (take l.line-index l.lines))

@@ -1,5 +1,6 @@
-use Rattle.std.proofs.Common.{lit<, slice_get, filter, subst, sym}
+use Rattle.std.proofs.Common.{lit<, length, slice_get, filter, subst, sym, ap, ◌∙◌}
 use Rattle.std.proofs.lemmas.Result.{on_ok_weaker}
+use Rattle.hy_store.specs.Pages.{KeepsPagesUpTo}
 use Rattle.hy_store.specs.Writes.{stored_in}
 use Rattle.hy_fill.specs.inside.Filling.{HasOneSlotEach, HasSameEntries}
 use Rattle.hy_fill.proofs.EntryLaws.{index-same, slots-apart}
@@ -12,13 +13,13 @@ insert_entries-requires g c =
       (
         lit< tt,
         (
-          c.requires.ready,
+          c.requires.writable,
           (
             c.requires.order,
             (
               c.requires.empty,
               subst HasOneSlotEach (sym c.as_slice.ensures.value)
-                  (slots-apart g.R.Keyed.key_of row_at c.in_ok-entries.entries.items c.requires.apart c.in_ok-entries.ensures),
+                  (slots-apart g.R.Keyed.key_of row_at c.in_ok-entries.entries.items c.requires.apart c.in_ok-entries.ensures.index),
             ),
           ),
         ),
@@ -33,4 +34,9 @@ returns-clause-index g c =
     (g.K.Indexed.entries_in (stored_in g.row.N c.insert_entries.new.space))
     (subst (λ entries. HasSameEntries entries (g.K.Indexed.entries_in (stored_in g.row.N c.insert_entries.new.space)))
     c.as_slice.ensures.value same)
-    c.in_ok-entries.ensures) c.insert_entries.ensures.same
+    c.in_ok-entries.ensures.index) c.insert_entries.ensures.same
+
+pub returns-clause-pages : goal.returns-clause-pages
+returns-clause-pages g c =
+    subst (λ count. KeepsPagesUpTo g.row.N g.K.Indexed.SEGMENT count c.args.space.now c.insert_entries.new.space)
+    (ap length c.as_slice.ensures.value ∙ c.in_ok-entries.ensures.count) c.insert_entries.ensures.pages

@@ -1,4 +1,4 @@
-use Rattle.std.proofs.Common.{ℕ, take, filter, slice_get, subst, sym, ◌+◌}
+use Rattle.std.proofs.Common.{ℕ, take, filter, length, slice_get, subst, sym, ap, ◌+◌, ◌∙◌}
 use Rattle.std.proofs.lemmas.List.{take_all}
 use Rattle.hy_indexes.specs.Finds.{IsIndexOf}
 use Rattle.hy_fill.specs.inside.Filling.{with_row}
@@ -26,7 +26,12 @@ after g c =
 pub loop-row-preserved : goal.loop-row-preserved
 loop-row-preserved g c = record { index = (after g c).index; count = (after g c).count }
 
-pub returns : goal.returns
-returns g c =
+pub returns-clause-index : goal.returns-clause-index
+returns-clause-index g c =
     subst (λ rows. IsIndexOf g.R.Keyed.key_of (slice_get (filter (g.R.Row.is_of c.args.warehouse) rows)) c.loop-row.entries.items)
     (take_all c.loop-row.row-index c.args.rows.now c.loop-row-test.false) c.loop-row.invariant.index
+
+pub returns-clause-count : goal.returns-clause-count
+returns-clause-count g c =
+    c.loop-row.invariant.count
+    ∙ ap (λ rows. length (filter (g.R.Row.is_of c.args.warehouse) rows)) (take_all c.loop-row.row-index c.args.rows.now c.loop-row-test.false)

@@ -1,14 +1,16 @@
-use Rattle.std.proofs.Common.{◌≡◌, ◌==◌, ◌∙◌, ℕ, List, filter, slice_get, lit<, sym, ap, ap₂, subst}
+use Rattle.std.proofs.Common.{◌≡◌, ◌==◌, ◌∙◌, ℕ, List, filter, length, slice_get, lit<, sym, ap, ap₂, subst, arith}
 use Rattle.hy_rows.specs.declared.new_order.NewOrder.{NewOrder}
 use Rattle.hy_rows.specs.declared.order.Order.{Order}
 use Rattle.hy_rows.specs.declared.order_line.OrderLine.{OrderLine}
 use Rattle.hy_rows.specs.Tables.{Lists, Tables}
+use Rattle.hy_space.specs.Space.{SpaceState}
 use Rattle.hy_layout.specs.Layout.{LayoutState, own_rows}
 use Rattle.hy_store.specs.Stored.{Stored}
 use Rattle.hy_store.specs.Writes.{stored_in}
 use Rattle.hy_indexes.specs.Finds.{IsIndexOf}
 use Rattle.hy_indexes.specs.Indexes.{line_key_at, order_key_at, waiting_key_at}
 use Rattle.hy_fill.specs.inside.Filling.{TellsApart}
+use Rattle.hy_fill.proofs.CountLaws.{stays-within}
 use Rattle.hy_fill.proofs.FilledLaws.{has_indexes}
 use Rattle.hy_indexes.proofs.KeyOrders.{order-of_lines, order-of_orders, order-of_waiting}
 use Rattle.hy_fill.proofs.fill.fill_indexes.Goals as goal
@@ -29,7 +31,7 @@ fill_index-requires g c = (
   (
     lit< tt,
     (
-      c.requires.ready,
+      c.requires.writable,
       (
         order-of_orders,
         (
@@ -50,13 +52,13 @@ fill_last_orders-requires g c = (
   (
     lit< tt,
     (
-      c.in_ok-fill_index.ensures.ready,
+      record { store = c.in_ok-fill_index.ensures.only.store; undo_log = c.in_ok-fill_index.ensures.undo_log },
       (
-        ap (λ (s : Stored). s.tables.orders) c.in_ok-fill_index.ensures.only ∙ ap (λ (s : Stored). s.tables.orders) c.requires.rows
+        ap (λ (s : Stored). s.tables.orders) c.in_ok-fill_index.ensures.only.changed ∙ ap (λ (s : Stored). s.tables.orders) c.requires.rows
             ∙ sym (own (λ (row : Order). row.warehouse) (λ tables. tables.orders) c.args.layout.now c.load.result.now
             c.tables-tables.result.now c.warehouse-warehouse.result c.list-2.result.now
             c.load.ensures c.tables-tables.ensures c.warehouse-warehouse.ensures c.list-2.ensures),
-        ap (λ (s : Stored). s.last_orders) c.in_ok-fill_index.ensures.only ∙ ap (λ (s : Stored). s.last_orders) c.requires.rows,
+        ap (λ (s : Stored). s.last_orders) c.in_ok-fill_index.ensures.only.changed ∙ ap (λ (s : Stored). s.last_orders) c.requires.rows,
       ),
     ),
   ),
@@ -68,12 +70,12 @@ fill_index-requires-2 g c = (
   (
     lit< tt,
     (
-      c.in_ok-fill_last_orders.ensures.ready,
+      record { store = c.in_ok-fill_last_orders.ensures.only.store; undo_log = c.in_ok-fill_last_orders.ensures.undo_log },
       (
         order-of_waiting,
         (
-          ap (λ (s : Stored). s.waiting) c.in_ok-fill_last_orders.ensures.only
-              ∙ ap (λ (s : Stored). s.waiting) c.in_ok-fill_index.ensures.only ∙ ap (λ (s : Stored). s.waiting) c.requires.rows,
+          ap (λ (s : Stored). s.waiting) c.in_ok-fill_last_orders.ensures.only.changed
+              ∙ ap (λ (s : Stored). s.waiting) c.in_ok-fill_index.ensures.only.changed ∙ ap (λ (s : Stored). s.waiting) c.requires.rows,
           subst (λ rows. TellsApart waiting_key_at (slice_get rows))
               (sym (own (λ (row : NewOrder). row.warehouse) (λ tables. tables.new_orders) c.args.layout.now c.load.result.now
               c.tables-tables.result.now c.warehouse-warehouse.result c.list-3.result.now
@@ -90,13 +92,13 @@ fill_index-requires-3 g c = (
   (
     lit< tt,
     (
-      c.in_ok-fill_index-2.ensures.ready,
+      record { store = c.in_ok-fill_index-2.ensures.only.store; undo_log = c.in_ok-fill_index-2.ensures.undo_log },
       (
         order-of_lines,
         (
-          ap (λ (s : Stored). s.lines) c.in_ok-fill_index-2.ensures.only
-              ∙ ap (λ (s : Stored). s.lines) c.in_ok-fill_last_orders.ensures.only
-              ∙ ap (λ (s : Stored). s.lines) c.in_ok-fill_index.ensures.only ∙ ap (λ (s : Stored). s.lines) c.requires.rows,
+          ap (λ (s : Stored). s.lines) c.in_ok-fill_index-2.ensures.only.changed
+              ∙ ap (λ (s : Stored). s.lines) c.in_ok-fill_last_orders.ensures.only.changed
+              ∙ ap (λ (s : Stored). s.lines) c.in_ok-fill_index.ensures.only.changed ∙ ap (λ (s : Stored). s.lines) c.requires.rows,
           subst (λ rows. TellsApart line_key_at (slice_get rows))
               (sym (own (λ (row : OrderLine). row.warehouse) (λ tables. tables.order_lines) c.args.layout.now c.load.result.now
               c.tables-tables.result.now c.warehouse-warehouse.result c.list-4.result.now
@@ -106,6 +108,115 @@ fill_index-requires-3 g c = (
     ),
   ),
 )
+
+-- how many pages the store has after each step, also where that was refused
+pub returns-clause-pages : goal.returns-clause-pages
+returns-clause-pages g c had =
+    let n : ℕ = g.row.N in
+    let rows : Tables = own_rows c.args.layout.now in
+    let first : SpaceState = c.args.space.now in
+    let within_1 = stays-within n 8 (length (filter (λ (row : Order). row.warehouse == c.warehouse-warehouse.result) c.list.result.now)) rows
+    first c.fill_index.new.space (omega (
+      arith,
+      ap length (own (λ (row : Order). row.warehouse) (λ t. t.orders) c.args.layout.now c.load.result.now
+          c.tables-tables.result.now c.warehouse-warehouse.result c.list.result.now
+          c.load.ensures c.tables-tables.ensures c.warehouse-warehouse.ensures c.list.ensures),
+    )) c.fill_index.ensures.pages had in
+    let within_2 = stays-within n 9 (length (stored_in n c.fill_index.new.space).tables.orders) rows
+    c.fill_index.new.space c.fill_last_orders.new.space (omega (arith, ap (λ (s : Stored). length s.tables.orders) c.in_ok-fill_index.ensures.only.changed, ap (λ (s : Stored). length s.tables.orders) c.requires.rows)) c.fill_last_orders.ensures.pages within_1 in
+    let within_3 = stays-within n 10 (length (filter (λ (row : NewOrder). row.warehouse == c.warehouse-warehouse.result) c.list-3.result.now)) rows
+    c.fill_last_orders.new.space c.fill_index-2.new.space (omega (
+      arith,
+      ap length (own (λ (row : NewOrder). row.warehouse) (λ t. t.new_orders) c.args.layout.now c.load.result.now
+          c.tables-tables.result.now c.warehouse-warehouse.result c.list-3.result.now
+          c.load.ensures c.tables-tables.ensures c.warehouse-warehouse.ensures c.list-3.ensures),
+    )) c.fill_index-2.ensures.pages within_2 in
+    stays-within n 11 (length (filter (λ (row : OrderLine). row.warehouse == c.warehouse-warehouse.result) c.list-4.result.now)) rows
+    c.fill_index-2.new.space c.fill_index-3.new.space (omega (
+      arith,
+      ap length (own (λ (row : OrderLine). row.warehouse) (λ t. t.order_lines) c.args.layout.now c.load.result.now
+          c.tables-tables.result.now c.warehouse-warehouse.result c.list-4.result.now
+          c.load.ensures c.tables-tables.ensures c.warehouse-warehouse.ensures c.list-4.ensures),
+    )) c.fill_index-3.ensures.pages within_3
+
+pub returns-in_err-fill_index-clause-pages : goal.returns-in_err-fill_index-clause-pages
+returns-in_err-fill_index-clause-pages g c had =
+    let n : ℕ = g.row.N in
+    let rows : Tables = own_rows c.args.layout.now in
+    let first : SpaceState = c.args.space.now in
+    stays-within n 8 (length (filter (λ (row : Order). row.warehouse == c.warehouse-warehouse.result) c.list.result.now)) rows
+    first c.fill_index.new.space (omega (
+      arith,
+      ap length (own (λ (row : Order). row.warehouse) (λ t. t.orders) c.args.layout.now c.load.result.now
+          c.tables-tables.result.now c.warehouse-warehouse.result c.list.result.now
+          c.load.ensures c.tables-tables.ensures c.warehouse-warehouse.ensures c.list.ensures),
+    )) c.fill_index.ensures.pages had
+
+pub returns-in_err-fill_last_orders-clause-pages : goal.returns-in_err-fill_last_orders-clause-pages
+returns-in_err-fill_last_orders-clause-pages g c had =
+    let n : ℕ = g.row.N in
+    let rows : Tables = own_rows c.args.layout.now in
+    let first : SpaceState = c.args.space.now in
+    let within_1 = stays-within n 8 (length (filter (λ (row : Order). row.warehouse == c.warehouse-warehouse.result) c.list.result.now)) rows
+    first c.fill_index.new.space (omega (
+      arith,
+      ap length (own (λ (row : Order). row.warehouse) (λ t. t.orders) c.args.layout.now c.load.result.now
+          c.tables-tables.result.now c.warehouse-warehouse.result c.list.result.now
+          c.load.ensures c.tables-tables.ensures c.warehouse-warehouse.ensures c.list.ensures),
+    )) c.fill_index.ensures.pages had in
+    stays-within n 9 (length (stored_in n c.fill_index.new.space).tables.orders) rows
+    c.fill_index.new.space c.fill_last_orders.new.space (omega (arith, ap (λ (s : Stored). length s.tables.orders) c.in_ok-fill_index.ensures.only.changed, ap (λ (s : Stored). length s.tables.orders) c.requires.rows)) c.fill_last_orders.ensures.pages within_1
+
+pub returns-in_err-fill_index-2-clause-pages : goal.returns-in_err-fill_index-2-clause-pages
+returns-in_err-fill_index-2-clause-pages g c had =
+    let n : ℕ = g.row.N in
+    let rows : Tables = own_rows c.args.layout.now in
+    let first : SpaceState = c.args.space.now in
+    let within_1 = stays-within n 8 (length (filter (λ (row : Order). row.warehouse == c.warehouse-warehouse.result) c.list.result.now)) rows
+    first c.fill_index.new.space (omega (
+      arith,
+      ap length (own (λ (row : Order). row.warehouse) (λ t. t.orders) c.args.layout.now c.load.result.now
+          c.tables-tables.result.now c.warehouse-warehouse.result c.list.result.now
+          c.load.ensures c.tables-tables.ensures c.warehouse-warehouse.ensures c.list.ensures),
+    )) c.fill_index.ensures.pages had in
+    let within_2 = stays-within n 9 (length (stored_in n c.fill_index.new.space).tables.orders) rows
+    c.fill_index.new.space c.fill_last_orders.new.space (omega (arith, ap (λ (s : Stored). length s.tables.orders) c.in_ok-fill_index.ensures.only.changed, ap (λ (s : Stored). length s.tables.orders) c.requires.rows)) c.fill_last_orders.ensures.pages within_1 in
+    stays-within n 10 (length (filter (λ (row : NewOrder). row.warehouse == c.warehouse-warehouse.result) c.list-3.result.now)) rows
+    c.fill_last_orders.new.space c.fill_index-2.new.space (omega (
+      arith,
+      ap length (own (λ (row : NewOrder). row.warehouse) (λ t. t.new_orders) c.args.layout.now c.load.result.now
+          c.tables-tables.result.now c.warehouse-warehouse.result c.list-3.result.now
+          c.load.ensures c.tables-tables.ensures c.warehouse-warehouse.ensures c.list-3.ensures),
+    )) c.fill_index-2.ensures.pages within_2
+
+pub returns-in_err-fill_index-3-clause-pages : goal.returns-in_err-fill_index-3-clause-pages
+returns-in_err-fill_index-3-clause-pages g c had =
+    let n : ℕ = g.row.N in
+    let rows : Tables = own_rows c.args.layout.now in
+    let first : SpaceState = c.args.space.now in
+    let within_1 = stays-within n 8 (length (filter (λ (row : Order). row.warehouse == c.warehouse-warehouse.result) c.list.result.now)) rows
+    first c.fill_index.new.space (omega (
+      arith,
+      ap length (own (λ (row : Order). row.warehouse) (λ t. t.orders) c.args.layout.now c.load.result.now
+          c.tables-tables.result.now c.warehouse-warehouse.result c.list.result.now
+          c.load.ensures c.tables-tables.ensures c.warehouse-warehouse.ensures c.list.ensures),
+    )) c.fill_index.ensures.pages had in
+    let within_2 = stays-within n 9 (length (stored_in n c.fill_index.new.space).tables.orders) rows
+    c.fill_index.new.space c.fill_last_orders.new.space (omega (arith, ap (λ (s : Stored). length s.tables.orders) c.in_ok-fill_index.ensures.only.changed, ap (λ (s : Stored). length s.tables.orders) c.requires.rows)) c.fill_last_orders.ensures.pages within_1 in
+    let within_3 = stays-within n 10 (length (filter (λ (row : NewOrder). row.warehouse == c.warehouse-warehouse.result) c.list-3.result.now)) rows
+    c.fill_last_orders.new.space c.fill_index-2.new.space (omega (
+      arith,
+      ap length (own (λ (row : NewOrder). row.warehouse) (λ t. t.new_orders) c.args.layout.now c.load.result.now
+          c.tables-tables.result.now c.warehouse-warehouse.result c.list-3.result.now
+          c.load.ensures c.tables-tables.ensures c.warehouse-warehouse.ensures c.list-3.ensures),
+    )) c.fill_index-2.ensures.pages within_2 in
+    stays-within n 11 (length (filter (λ (row : OrderLine). row.warehouse == c.warehouse-warehouse.result) c.list-4.result.now)) rows
+    c.fill_index-2.new.space c.fill_index-3.new.space (omega (
+      arith,
+      ap length (own (λ (row : OrderLine). row.warehouse) (λ t. t.order_lines) c.args.layout.now c.load.result.now
+          c.tables-tables.result.now c.warehouse-warehouse.result c.list-4.result.now
+          c.load.ensures c.tables-tables.ensures c.warehouse-warehouse.ensures c.list-4.ensures),
+    )) c.fill_index-3.ensures.pages within_3
 
 pub returns-clause-indexes : goal.returns-clause-indexes
 returns-clause-indexes g c =
@@ -119,10 +230,10 @@ returns-clause-indexes g c =
     (stored_in n c.fill_index-3.new.space)
     (record {
       begin = c.requires.rows;
-      only_orders = c.in_ok-fill_index.ensures.only;
-      only_last_orders = c.in_ok-fill_last_orders.ensures.only;
-      only_waiting = c.in_ok-fill_index-2.ensures.only;
-      only_lines = c.in_ok-fill_index-3.ensures.only;
+      only_orders = c.in_ok-fill_index.ensures.only.changed;
+      only_last_orders = c.in_ok-fill_last_orders.ensures.only.changed;
+      only_waiting = c.in_ok-fill_index-2.ensures.only.changed;
+      only_lines = c.in_ok-fill_index-3.ensures.only.changed;
     })
     (subst (λ rows. IsIndexOf order_key_at (slice_get rows) (stored_in n c.fill_index.new.space).orders)
     (own (λ (row : Order). row.warehouse) (λ t. t.orders) layout lists tables number c.list.result.now

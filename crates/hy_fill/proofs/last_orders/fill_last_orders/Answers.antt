@@ -1,6 +1,8 @@
-use Rattle.std.proofs.Common.{lit<, slice_get, subst, sym}
+use Rattle.std.proofs.Common.{lit<, length, slice_get, subst, sym, ap, ◌∙◌}
 use Rattle.hy_indexes.specs.Finds.{IsIndexOf}
 use Rattle.hy_indexes.specs.Indexes.{buyer_key_at}
+use Rattle.hy_store.specs.Pages.{KeepsPagesUpTo}
+use Rattle.hy_store.specs.Stored.{last_order_index}
 use Rattle.hy_store.specs.Writes.{stored_in}
 use Rattle.hy_fill.proofs.last_orders.fill_last_orders.Goals as goal
 
@@ -10,13 +12,18 @@ give_orders-requires g c = (
   (
     lit< tt,
     (
-      c.requires.ready,
+      c.requires.writable,
       (
         subst (IsIndexOf buyer_key_at (slice_get (stored_in g.row.N c.args.space.now).tables.orders)) (sym c.as_slice.ensures.value)
             (subst (λ orders. IsIndexOf buyer_key_at (slice_get orders) c.in_ok-entries.entries.items) (sym c.requires.orders)
-            c.in_ok-entries.ensures),
+            c.in_ok-entries.ensures.index),
         c.requires.empty,
       ),
     ),
   ),
 )
+
+pub returns-clause-pages : goal.returns-clause-pages
+returns-clause-pages g c =
+    subst (λ count. KeepsPagesUpTo g.row.N last_order_index count c.args.space.now c.give_orders.new.space)
+    (ap length c.as_slice.ensures.value ∙ c.in_ok-entries.ensures.count ∙ sym (ap length c.requires.orders)) c.give_orders.ensures.pages

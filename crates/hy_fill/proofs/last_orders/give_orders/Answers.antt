@@ -1,14 +1,15 @@
-use Rattle.std.proofs.Common.{rules, ◌≡◌, ◌++◌, ◌∷◌, [], ℕ, ◌<◌, List, length, take, get_or, lit<, sym, ap, subst, ◌∙◌}
+use Rattle.std.proofs.Common.{rules, ◌≡◌, ◌++◌, ◌∷◌, [], ℕ, ◌+◌, ◌<◌, List, length, take, get_or, lit<, sym, ap, subst, arith, ◌∙◌}
 use Rattle.std.proofs.lemmas.List.{take_all, take_more}
 use Rattle.std.proofs.lemmas.Option.{slice_get-get_or}
 use Rattle.hy_rows.specs.declared.order.Order.{Order}
 use Rattle.hy_index.specs.declared.key.Entry.{Entry}
 use Rattle.hy_store.specs.declared.keys.CustomerKey.{CustomerKey}
-use Rattle.hy_store.specs.Stored.{Stored}
+use Rattle.hy_store.specs.Stored.{Stored, last_order_index}
 use Rattle.hy_store.specs.Writes.{stored_in}
 use Rattle.hy_layout.specs.Finds.{IsIn}
 use Rattle.hy_indexes.specs.Indexes.{AreLastOrders}
 use Rattle.hy_fill.specs.inside.LastOrders.{AreLastOf, with_order}
+use Rattle.hy_fill.proofs.CountLaws.{keeps-then, length-with_order}
 use Rattle.hy_fill.proofs.EntryLaws.{in-take}
 use Rattle.hy_fill.proofs.LastOrderLaws.{found-within, last-all, last-given, slot-within}
 use Rattle.hy_layout.proofs.MemberLaws.{in-place}
@@ -29,7 +30,7 @@ give_order-requires g c =
       (
         lit< tt,
         (
-          c.loop-entry.invariant.ready,
+          c.loop-entry.invariant.writable,
           (
             subst (λ (orders : List Order). entry.slot < length orders) same
                 (slot-within first.tables.orders entries c.requires.orders entry here),
@@ -53,21 +54,32 @@ loop-entry-preserved g c =
     let entry : Entry CustomerKey = get_or entries index none in
     let same : s.tables.orders ≡ first.tables.orders = ap (λ (x : Stored). x.tables.orders) c.loop-entry.invariant.only in
     let last : now.last_orders ≡ with_order first.tables.orders entry s.last_orders =
-    ap (λ (x : Stored). x.last_orders) c.in_ok-give_order.ensures.given
+    ap (λ (x : Stored). x.last_orders) c.in_ok-give_order.ensures.given.changed
     ∙ ap (λ (orders : List Order). with_order orders entry s.last_orders) same in
     record {
-      ready = c.in_ok-give_order.ensures.ready;
+      writable = record { store = c.in_ok-give_order.ensures.given.store; undo_log = c.in_ok-give_order.ensures.undo_log };
       last_orders = subst (λ (given : List (Entry CustomerKey)). AreLastOf first.tables.orders given now.last_orders)
           (sym (take_more entries index none c.loop-entry-test.true))
           (subst (AreLastOf first.tables.orders (take index entries ++ entry ∷ [])) (sym last)
           (last-given first.tables.orders (take index entries) s.last_orders entry c.loop-entry.invariant.last_orders));
-      only = c.in_ok-give_order.ensures.given
+      count = omega (
+        arith,
+        ap length last,
+        length-with_order first.tables.orders entry s.last_orders,
+        c.loop-entry.invariant.count,
+      );
+      only = c.in_ok-give_order.ensures.given.changed
           ∙ ap (λ (x : Stored). record x { last_orders = with_order s.tables.orders entry s.last_orders })
           c.loop-entry.invariant.only
           ∙ ap (λ (last : List (Entry CustomerKey)). record first { last_orders = last })
-          (sym (ap (λ (x : Stored). x.last_orders) c.in_ok-give_order.ensures.given));
+          (sym (ap (λ (x : Stored). x.last_orders) c.in_ok-give_order.ensures.given.changed));
       stays = search rules;
+      pages = keeps-then g.row.N last_order_index (length s.last_orders + 1) (length entries) c.args.space.now c.loop-entry.space c.give_order.new.space
+          (omega (arith, c.loop-entry.invariant.count, c.loop-entry-test.true)) c.loop-entry.invariant.pages c.give_order.ensures.pages;
     }
+
+pub returns-clause-only : goal.returns-clause-only
+returns-clause-only g c = record { store = c.loop-entry.invariant.writable.store; changed = c.loop-entry.invariant.only }
 
 pub returns-clause-last_orders : goal.returns-clause-last_orders
 returns-clause-last_orders g c =
@@ -79,3 +91,9 @@ returns-clause-last_orders g c =
     (last-all first.tables.orders entries s.last_orders c.requires.orders
     (subst (λ (given : List (Entry CustomerKey)). AreLastOf first.tables.orders given s.last_orders)
     (take_all c.loop-entry.entry-index entries c.loop-entry-test.false) c.loop-entry.invariant.last_orders))
+
+pub returns-in_err-give_order-clause-pages : goal.returns-in_err-give_order-clause-pages
+returns-in_err-give_order-clause-pages g c =
+    keeps-then g.row.N last_order_index (length (stored_in g.row.N c.loop-entry.space).last_orders + 1) (length c.args.entries.now)
+    c.args.space.now c.loop-entry.space c.give_order.new.space
+    (omega (arith, c.loop-entry.invariant.count, c.loop-entry-test.true)) c.loop-entry.invariant.pages c.give_order.ensures.pages

@@ -4,5 +4,5 @@ use Rattle.hy_program.proofs.check.run_check.Goals as goal
 
 pub returns-in-Err-clause-fault : goal.returns-in-Err-clause-fault
 returns-in-Err-clause-fault g c =
-    check_fault c.args.directory.now (g.F.Place.files c.args.place.now) (c.args.out.now ≡ c.args.out.now) c.in-Err.found
-    c.of_files.result c.of_files.ensures c.in-Err.ensures.load (search rules)
+    check_fault c.args.directory.now (g.F.FileSystem.files c.args.system.now) (c.args.out.now ≡ c.args.out.now) c.in-Err.found
+    c.of_files.result c.of_files.ensures.about c.in-Err.ensures.load (search rules)

@@ -21,3 +21,11 @@ returns-in-Ok-clause-refused g c = λ ended. (
 pub returns-in-Ok-clause-writer_failed : goal.returns-in-Ok-clause-writer_failed
 returns-in-Ok-clause-writer_failed g c = λ ended.
     inr (c.in-Err.fault, inr (c.in-Ok.line, c.in-Ok.ensures.read, c.in-Err.ensures.files, c.in-Err.ensures.fault))
+
+pub returns-in-Ok-clause-failed : goal.returns-in-Ok-clause-failed
+returns-in-Ok-clause-failed g c = λ ended.
+    c.explain.ensures.failed (g.O.Output.has_failed c.run_line.new.out) c.in-Err.ensures.failed ended
+
+pub returns-clause-failed : goal.returns-clause-failed
+returns-clause-failed g c = λ ended.
+    c.explain-in-Err-NoMemory.ensures.failed (g.O.Output.has_failed c.args.out.now) tt ended

@@ -6,7 +6,7 @@ use Rattle.hy_program.proofs.script.read_all.Goals as goal
 pub returns-in_ok-_script-in-Err-Refused-BadLoad-clause-fault :
     goal.returns-in_ok-_script-in-Err-Refused-BadLoad-clause-fault
 returns-in_ok-_script-in-Err-Refused-BadLoad-clause-fault g c =
-    let known = g.F.Place.files c.args.place.now in
+    let known = g.F.FileSystem.files c.args.system.now in
     let script = c.in_ok-_script-in-Err-Refused-BadLoad in
     inr (
       (script._script.items, rw c.in-Err-Refused-BadLoad.ensures.files at script.ensures.read),

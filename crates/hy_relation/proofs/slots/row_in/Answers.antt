@@ -3,7 +3,7 @@ use Rattle.hy_page.specs.Bytes.{bytes_at}
 use Rattle.hy_rows.specs.Spelling.{row_of_slot, slot_at, slot_width}
 use Rattle.hy_space.specs.Space.{page_bytes}
 use Rattle.hy_relation.specs.Relation.{owner_pages}
-use Rattle.hy_relation.specs.inside.Places.{slot_offset, slot_page}
+use Rattle.hy_relation.specs.inside.Addresses.{slot_offset, slot_page}
 use Rattle.hy_relation.proofs.PageLaws.{slot_at-on_page}
 use Rattle.hy_relation.proofs.SpaceLaws.{pages_sized, slot_page-below}
 use Rattle.hy_relation.proofs.slots.row_in.Goals as goal
@@ -16,12 +16,12 @@ returns g c =
     let pages : List (List ℕ) = owner_pages c.args.space.now g.R.Row.SEGMENT in
     let room : slot_width width ≤ n = omega (arith, g.met.R.Row.fits, c.sound.ensures.size.smallest) in
     let there = slot_page-below n width pages k room c.requires.slots c.requires.used in
-    let fits : slot_offset n width k + slot_width width ≤ n = omega (arith, c.place_in-place.ensures.offset, c.place_in-place.ensures.fits) in
+    let fits : slot_offset n width k + slot_width width ≤ n = omega (arith, c.address_in-address.ensures.offset, c.address_in-address.ensures.fits) in
     let page : c.page.result.now ≡ page_bytes c.args.space.now g.R.Row.SEGMENT (slot_page n width k) = c.page.ensures.bytes
-    ∙ ap (λ (s : ℕ). page_bytes c.args.space.now s c.place_in-place.result.page) c.SEGMENT.ensures
-    ∙ ap (page_bytes c.args.space.now g.R.Row.SEGMENT) c.place_in-place.ensures.page in
-    let slot : bytes_at c.page.result.now c.place_in-place.result.offset (slot_width width) ≡ slot_at n width pages k =
-    ap (λ (bytes : List ℕ). bytes_at bytes c.place_in-place.result.offset (slot_width width)) page
-    ∙ ap (λ (o : ℕ). bytes_at (page_bytes c.args.space.now g.R.Row.SEGMENT (slot_page n width k)) o (slot_width width)) c.place_in-place.ensures.offset
+    ∙ ap (λ (s : ℕ). page_bytes c.args.space.now s c.address_in-address.result.page) c.SEGMENT.ensures
+    ∙ ap (page_bytes c.args.space.now g.R.Row.SEGMENT) c.address_in-address.ensures.page in
+    let slot : bytes_at c.page.result.now c.address_in-address.result.offset (slot_width width) ≡ slot_at n width pages k =
+    ap (λ (bytes : List ℕ). bytes_at bytes c.address_in-address.result.offset (slot_width width)) page
+    ∙ ap (λ (o : ℕ). bytes_at (page_bytes c.args.space.now g.R.Row.SEGMENT (slot_page n width k)) o (slot_width width)) c.address_in-address.ensures.offset
     ∙ sym (slot_at-on_page n width pages k (pages_sized n g.R.Row.SEGMENT c.args.space.now c.sound.ensures c.requires.slots.first) there fits) in
     c.row_at.ensures ∙ ap (row_of_slot g.R.Row.row_of_bytes) slot

@@ -1,5 +1,5 @@
 use Rattle.std.proofs.Common.{◌≡◌, take}
-use Rattle.hy_words.specs.CommandLine.{texts_of}
+use Rattle.hy_cli.specs.CommandLine.{texts_of}
 use Rattle.hy_scenarios.proofs.commands.as_texts.Given as goal
 
 abbrev pub invariant-loop-word : goal.invariant-loop-word

@@ -1,5 +1,5 @@
 use Rattle.std.proofs.Common.{◌≡◌, ◌++◌, ◌==◌, filter, length, not}
-use Rattle.hy_words.specs.CommandLine.{texts_of}
+use Rattle.hy_cli.specs.CommandLine.{texts_of}
 use Rattle.hy_scenarios.specs.Commands.{unquoted_words}
 use Rattle.hy_scenarios.proofs.commands.push_unquoted.Given as goal
 

@@ -1,5 +1,5 @@
 use Rattle.std.proofs.Common.{◌≡◌, ◌++◌, length}
-use Rattle.hy_words.specs.CommandLine.{texts_of}
+use Rattle.hy_cli.specs.CommandLine.{texts_of}
 use Rattle.hy_scenarios.specs.Commands.{words_between, words_of}
 use Rattle.hy_scenarios.proofs.commands.words_of.Given as goal
 

@@ -1,6 +1,6 @@
 use Rattle.std.proofs.Common.{◌≡◌, drop, is_some}
 use Rattle.std.specs.List.{list_any}
-use Rattle.hy_words.specs.CommandLine.{texts_of}
+use Rattle.hy_cli.specs.CommandLine.{texts_of}
 use Rattle.hy_scenarios.specs.Marks.{behind}
 use Rattle.hy_scenarios.proofs.marks.has_mark.Given as goal
 

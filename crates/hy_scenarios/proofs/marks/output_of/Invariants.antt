@@ -1,5 +1,5 @@
 use Rattle.std.proofs.Common.{◌≡◌, ◌++◌, drop}
-use Rattle.hy_words.specs.CommandLine.{texts_of}
+use Rattle.hy_cli.specs.CommandLine.{texts_of}
 use Rattle.hy_scenarios.specs.Marks.{output_of}
 use Rattle.hy_scenarios.proofs.marks.output_of.Given as goal
 

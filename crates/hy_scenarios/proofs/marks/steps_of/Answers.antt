@@ -1,5 +1,5 @@
 use Rattle.std.proofs.Common.{◌∙◌, append-nil, sym}
-use Rattle.hy_words.specs.CommandLine.{texts_of}
+use Rattle.hy_cli.specs.CommandLine.{texts_of}
 use Rattle.hy_events.specs.Lines.{lines}
 use Rattle.hy_scenarios.proofs.MarkLaws.{filter_map-numbered}
 use Rattle.hy_scenarios.proofs.marks.steps_of.Goals as goal

@@ -1,6 +1,6 @@
 use Rattle.std.proofs.Common.{◌≡◌, ◌++◌}
 use Rattle.std.specs.List.{filter_map}
-use Rattle.hy_words.specs.CommandLine.{texts_of}
+use Rattle.hy_cli.specs.CommandLine.{texts_of}
 use Rattle.hy_events.specs.Lines.{lines, numbered}
 use Rattle.hy_scenarios.specs.Marks.{step_in, steps_of}
 use Rattle.hy_scenarios.proofs.marks.steps_of.Given as goal

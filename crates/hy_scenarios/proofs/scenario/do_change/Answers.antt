@@ -1,11 +1,11 @@
-use Rattle.hy_words.specs.CommandLine.{texts_of}
-use Rattle.hy_place.specs.Shelves.{files_on}
+use Rattle.hy_cli.specs.CommandLine.{texts_of}
+use Rattle.hy_files.specs.MemoryFiles.{files_on}
 use Rattle.hy_scenarios.proofs.ScenarioLaws.{changed-is}
 use Rattle.hy_scenarios.proofs.scenario.do_change.Goals as goal
 
 pub returns : goal.returns
-returns c = changed-is c.args.path.now (texts_of c.args.body.now) (files_on c.args.shelf.now)
-    (files_on c.file_at.new.shelf) (files_on c.put.new.shelf) c.in-Some.bytes.items c.in-Some-2.changed.items
+returns c = changed-is c.args.path.now (texts_of c.args.body.now) (files_on c.args.stored.now)
+    (files_on c.file_at.new.stored) (files_on c.put.new.stored) c.in-Some.bytes.items c.in-Some-2.changed.items
     (rw c.in-Some.is at c.in_ok-bytes.ensures.file)
     (rw (
       c.in-Some-2.is,

@@ -1,9 +1,9 @@
-use Rattle.std.proofs.Common.{◌≡◌, ◌+◌, ◌≤◌, ℕ, length, rules, vec_capacity, vec_len}
+use Rattle.std.proofs.Common.{◌≡◌, ◌+◌, ◌≤◌, ℕ, length, rules, ap, arith, vec_capacity, vec_len}
 use Rattle.hy_script.specs.Databases.{WarehouseState}
 use Rattle.hy_script.specs.Steps.{Starts}
 use Rattle.hy_script.specs.inside.Open.{AllStart}
 use Rattle.hy_script.proofs.EachLaws.{each_push}
-use Rattle.hy_script.proofs.RowLaws.{row_number}
+use Rattle.hy_script.proofs.RowLaws.{row_number, why_unstarted}
 use Rattle.hy_script.proofs.database.warehouses_of.Goals as goal
 
 pub loop-row-preserved : goal.loop-row-preserved
@@ -21,3 +21,12 @@ loop-row-preserved g c =
     (λ (place : ℕ) (it : WarehouseState). Starts c.args.load.now (place + 1) c.args.max_frames c.args.max_kept it)
     c.loop-row.made.items c.in-Ok.warehouse c.loop-row.invariant.2 starts) in
     (count, capacity, each)
+
+-- one warehouse that isn't made
+pub returns-in-Err-clause-refused : goal.returns-in-Err-clause-refused
+returns-in-Err-clause-refused g c =
+    let rows : c.deref.result.now ≡ c.args.load.now.tables.warehouses = search rules in
+    let number = row_number c.deref.result.now c.loop-row.row-index c.row-item.result c.loop-row-test.true c.row-item.is
+    (rw rows c.sound.ensures.warehouses.each) in
+    why_unstarted g.row.N c.args.load.now c.row-item.result.id c.args.max_frames c.in-Err.refusal
+    (omega (arith, number)) (omega (arith, number, c.loop-row-test.true, ap length rows)) c.in-Err.ensures.refused

@@ -6,5 +6,5 @@ use Rattle.hy_script.proofs.database.write_commits.Given as goal
 
 abbrev pub invariant-loop-warehouse : goal.invariant-loop-warehouse
 invariant-loop-warehouse g l =
-    Appends (g.O.Write.contents l.initial.out) (g.O.Write.contents l.out)
+    Appends (g.O.Output.contents l.initial.out) (g.O.Output.contents l.out)
     (flat_map commits_text (take l.warehouse-index l.warehouses))

@@ -3,5 +3,5 @@ use Rattle.hy_slices.proofs.GrowingSlices.{grown-between}
 use Rattle.hy_slices.proofs.theorem.numbers_stay_small_between.Goals as goal
 
 pub returns : goal.returns
-returns c = λ lists number commits command done is_load between begins within known.
-    grown-between lists is_load number commits command done between begins within known
+returns c = λ lists number commits command done begun.
+    grown-between lists begun.load number commits command done begun.warehouse begun.begins begun.within begun.known

@@ -4,5 +4,5 @@ use Rattle.hy_slices.proofs.BetweenSlices.{whole-slices}
 use Rattle.hy_slices.proofs.theorem.rows_stay_whole.Goals as goal
 
 pub returns : goal.returns
-returns c = λ items number command tables done sound begins within known.
-    whole-slices items number command tables done sound begins within known
+returns c = λ items number command tables done under_way.
+    whole-slices items number command tables done under_way.sound under_way.begins under_way.within under_way.known

@@ -11,5 +11,5 @@ returns-clause-accepted c =
 
 pub returns-clause-refused : goal.returns-clause-refused
 returns-clause-refused c =
-    λ items number command tables done begins within unknown.
-    slices-refused items number command tables done begins unknown
+    λ items number command tables done begins lacks.
+    slices-refused items number command tables done begins lacks.lacks

@@ -3,7 +3,7 @@ use Rattle.std.proofs.lemmas.List.{length-map}
 use Rattle.hy_frames.specs.FrameTable.{page_of}
 use Rattle.hy_space.specs.Space.{owner_bytes, table_bytes, with_new_page}
 use Rattle.hy_store.specs.Stored.{all_segments}
-use Rattle.hy_store.proofs.EmptyLaws.{filled-all, filled-more, length-filled, store-zero, stored-zero, zero_segments}
+use Rattle.hy_store.proofs.EmptyLaws.{filled-all, filled-more, length-filled, pages-zero, store-zero, stored-zero, zero_segments}
 use Rattle.hy_store.proofs.create.empty_store.Goals as goal
 use Rattle.hy_store.proofs.create.empty_store.Goals.{After-loop-segment}
 use Rattle.hy_store.proofs.create.empty_store.Given as given
@@ -49,3 +49,6 @@ returns-clause-store g c = store-zero g.row.N c.requires.size.smallest c.loop-se
 
 pub returns-clause-empty : goal.returns-clause-empty
 returns-clause-empty g c = stored-zero g.row.N c.requires.size.smallest c.loop-segment.space (after g c)
+
+pub returns-clause-pages : goal.returns-clause-pages
+returns-clause-pages g c = pages-zero g.row.N c.requires.size.smallest c.loop-segment.space (after g c)

@@ -8,15 +8,12 @@ use Rattle.hy_store.specs.Writes.{stored_in}
 use Rattle.hy_store.proofs.StoreLaws.{store-new_orders, stored-new_orders}
 use Rattle.hy_store.proofs.rows.erase_new_order.Goals as goal
 
-pub returns-clause-store : goal.returns-clause-store
-returns-clause-store g c = on_ok_weaker c.erase.result
-    (λ done. store-new_orders g.row.N (owner_bytes c.args.space.now) (owner_bytes c.erase.new.space) c.requires.store done.0 done.1)
-    (both_on_ok _ _ c.erase.result c.erase.ensures.only c.erase.ensures.slots)
-
 pub returns-clause-erased : goal.returns-clause-erased
 returns-clause-erased g c =
     let old : Stored = stored_in g.row.N c.args.space.now in
     let slots : List (Option NewOrder) = set old.new_order_slots c.args.slot None in
-    on_ok_weaker c.erase.result (λ done.
-    stored-new_orders g.row.N (owner_bytes c.args.space.now) (owner_bytes c.erase.new.space) c.requires.store done.0.0 done.0.1 slots done.1)
+    on_ok_weaker c.erase.result (λ done. record {
+      store = store-new_orders g.row.N (owner_bytes c.args.space.now) (owner_bytes c.erase.new.space) c.requires.writable.store done.0.0 done.0.1;
+      changed = stored-new_orders g.row.N (owner_bytes c.args.space.now) (owner_bytes c.erase.new.space) c.requires.writable.store done.0.0 done.0.1 slots done.1;
+    })
     (both_on_ok _ _ c.erase.result (both_on_ok _ _ c.erase.result c.erase.ensures.only c.erase.ensures.slots) c.erase.ensures.erased)

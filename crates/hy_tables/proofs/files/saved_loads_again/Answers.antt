@@ -1,6 +1,6 @@
 use Rattle.std.proofs.Common.{length}
-use Rattle.hy_records.specs.Tables.{CustomerFits, DistrictFits, HistoryFits, ItemFits, NewOrderFits, OrderFits, OrderLineFits, StockFits, WarehouseFits}
-use Rattle.hy_records.proofs.InRangeLaws.{customer-fits, district-fits, history-fits, item-fits, new_order-fits, order-fits, order_line-fits, stock-fits, warehouse-fits}
+use Rattle.hy_csv.specs.Tables.{CustomerFits, DistrictFits, HistoryFits, ItemFits, NewOrderFits, OrderFits, OrderLineFits, StockFits, WarehouseFits}
+use Rattle.hy_csv.proofs.InRangeLaws.{customer-fits, district-fits, history-fits, item-fits, new_order-fits, order-fits, order_line-fits, stock-fits, warehouse-fits}
 use Rattle.hy_schema.specs.Loads.{IsCustomerAt, IsDistrictAt, IsHistoryAt, IsItemAt, IsNewOrderAt, IsOrderAt, IsOrderLineAt, IsStockAt, IsWarehouseAt}
 use Rattle.hy_tables.proofs.FilesLaws.{All-each, AllReadBack, ends-read_back, lists-read_back, read_back-sound}
 use Rattle.hy_tables.proofs.files.saved_loads_again.Goals as goal

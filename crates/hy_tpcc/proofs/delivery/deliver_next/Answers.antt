@@ -12,21 +12,26 @@ deliver_in-requires g c =
       (
         lit< tt,
         (
-          c.requires.store,
+          c.requires.writable,
           (
             sound-delivering layout c.args.delivery.now c.args.place c.args.done before
                 (stored_in g.row.N c.args.space.now) c.requires.next now,
-            (delivery-begun layout.warehouse c.args.delivery.now before now.begun.begun, c.requires.undo_log),
+            delivery-begun layout.warehouse c.args.delivery.now before now.begun.begun,
           ),
         ),
       ),
     )
 
 pub returns-clause-done : goal.returns-clause-done
-returns-clause-done g c = λ before now.
-    delivered-done c.args.layout.now c.args.delivery.now c.args.place c.args.done before
-    (stored_in g.row.N c.args.space.now) (stored_in g.row.N c.deliver_in.new.space) c.in_ok-number.ensures.delivered
-    c.in_ok-number.ensures.indexes now
+returns-clause-done g c =
+    let delivered = c.in_ok-number.ensures.delivered in
+    record {
+      store = delivered.store;
+      step = λ before now.
+          delivered-done c.args.layout.now c.args.delivery.now c.args.place c.args.done before
+          (stored_in g.row.N c.args.space.now) (stored_in g.row.N c.deliver_in.new.space) delivered.step.rows
+          delivered.step.indexes now;
+    }
 
 pub returns-clause-number : goal.returns-clause-number
 returns-clause-number g c = λ before now.

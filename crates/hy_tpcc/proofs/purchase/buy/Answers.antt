@@ -12,7 +12,7 @@ returns-clause-reply g c = λ before now.
     let lines : c.as_slice.result.now ≡ c.args.order.now.lines = c.as_slice.ensures in
     let at_end : length c.args.order.now.lines ≤ c.args.done = subst (λ rows. length rows ≤ c.args.done) lines c.if-done-as_slice.false in
     let last : c.args.done ≡ length c.args.order.now.lines = omega (arith, at_end, c.requires.next) in
-    let after = c.in_ok-place_line.ensures.done before now in
+    let after = c.in_ok-place_line.ensures.done.step before now in
     ap Some (c.reply_to_order.ensures before
     (subst (λ n. HasDone layout (commands.NewOrder c.args.order.now) c.args.place (n + 1) before
     (stored_in g.row.N c.place_line.new.space)) last after))

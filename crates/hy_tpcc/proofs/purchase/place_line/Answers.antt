@@ -14,47 +14,19 @@ add_line-requires g c =
     let can = can-add_line c.args.layout.now c.args.order.now c.args.place c.args.done c.requires.done.0
     (stored_in g.row.N c.args.space.now) c.line_behind-line.result c.in-Some.item.now
     (subst IsLoad c.load.ensures c.sound.ensures) c.requires.behind c.requires.next c.line_behind-line.ensures
-    c.in-Some.ensures.item c.requires.done.1 in (
-      lit< tt,
-      (
-        lit< tt,
-        (
-          c.requires.store,
-          (
-            can.rows,
-            (
-              can.stock,
-              (
-                can.places,
-                (
-                  can.bounds,
-                  (
-                    can.next,
-                    (
-                      c.requires.undo_log,
-                      (
-                        can.begun,
-                        (
-                          can.lines,
-                          (can.passed, (c.in-Some.ensures.item, (c.in-Some.ensures.number, (can.small, can.price)))),
-                        ),
-                      ),
-                    ),
-                  ),
-                ),
-              ),
-            ),
-          ),
-        ),
-      ),
-    )
+    c.in-Some.ensures.item c.in-Some.ensures.number c.requires.done.1 in
+    (lit< tt, (lit< tt, (c.requires.writable, can)))
 
 pub returns-in-Ok-clause-done : goal.returns-in-Ok-clause-done
-returns-in-Ok-clause-done g c = λ before now.
-    line-next c.args.layout.now c.args.order.now c.args.place c.args.done before (stored_in g.row.N c.args.space.now)
-    (stored_in g.row.N c.add_line.new.space) c.line_behind-line.result c.requires.behind c.line_behind-line.ensures
-    (sym (found-any (is_item c.line_behind-line.result.item) c.args.layout.now.load.items) ∙ ap is_some c.in-Some.ensures.item)
-    c.in-Ok.ensures.added now
+returns-in-Ok-clause-done g c = record {
+  store = c.in-Ok.ensures.added.store;
+  step = λ before now.
+      line-next c.args.layout.now c.args.order.now c.args.place c.args.done before
+      (stored_in g.row.N c.args.space.now) (stored_in g.row.N c.add_line.new.space) c.line_behind-line.result
+      c.requires.behind c.line_behind-line.ensures
+      (sym (found-any (is_item c.line_behind-line.result.item) c.args.layout.now.load.items)
+      ∙ ap is_some c.in-Some.ensures.item) c.in-Ok.ensures.added.changed now;
+}
 
 pub returns-in-Ok-clause-no_item : goal.returns-in-Ok-clause-no_item
 returns-in-Ok-clause-no_item g c =

@@ -1,6 +1,7 @@
 use Rattle.std.proofs.Common.{lit<}
 use Rattle.hy_commands.specs.declared.command.Command.TheVariants as commands
 use Rattle.hy_store.specs.Writes.{stored_in}
+use Rattle.hy_writers.specs.Purchases.{CanAddOrder}
 use Rattle.hy_writers.proofs.WritesLaws.{on_ok-then}
 use Rattle.hy_tpcc.proofs.PurchaseLaws.{customer-small, head-done, purchase-begun}
 use Rattle.hy_tpcc.proofs.SliceLaws.{sound-begun}
@@ -15,12 +16,17 @@ add_order-requires g c =
     (stored_in g.row.N c.args.space.now) now in
     let begun = purchase-begun layout.warehouse c.args.order.now before now.begun.begun in
     let small = customer-small layout c.args.order.now c.args.place before now.begun in
-    (lit< tt, (lit< tt, (c.requires.store, (sound.sound.rows, (sound.bounds, (c.requires.undo_log, (begun, small)))))))
+    let can : CanAddOrder layout c.args.order.now (stored_in g.row.N c.args.space.now) =
+    record { rows = sound.sound.rows; bounds = sound.bounds; begun = begun; customer = small } in
+    (lit< tt, (lit< tt, (c.requires.writable, can)))
 
 pub returns-clause-done : goal.returns-clause-done
 returns-clause-done g c =
     on_ok-then c.add_order.result
-    (λ added before now.
-    head-done c.args.layout.now c.args.order.now c.args.place before (stored_in g.row.N c.args.space.now)
-    (stored_in g.row.N c.add_order.new.space) c.know_store.ensures.new_orders added now)
+    (λ added. record {
+      store = added.store;
+      step = λ before now.
+          head-done c.args.layout.now c.args.order.now c.args.place before (stored_in g.row.N c.args.space.now)
+          (stored_in g.row.N c.add_order.new.space) c.know_store.ensures.new_orders added.changed now;
+    })
     c.add_order.ensures.added

@@ -2,8 +2,8 @@ use Rattle.std.proofs.Common.{◌<◌, ◌+◌, ◌&&◌, ℕ, Bool, not, cond, 
 use Rattle.std.specs.List.{list_any}
 use Rattle.std.proofs.lemmas.List.{take_rest}
 use Rattle.hy_undo.specs.declared.images.Piece.{Piece}
-use Rattle.hy_undo.specs.Touched.{is_same_place}
-use Rattle.hy_undo.specs.inside.Pieces.{place_of_piece}
+use Rattle.hy_undo.specs.Touched.{is_same_address}
+use Rattle.hy_undo.specs.inside.Pieces.{address_of_piece}
 use Rattle.hy_undo.proofs.PieceLaws.{touched_by-drop_more}
 use Rattle.hy_undo.proofs.images.touched_pieces.Goals as goal
 use Rattle.hy_undo.proofs.images.touched_pieces.Goals.{then-was_there+then-not-is_page_among, else-was_there, else-was_there-via-then-was_there+else-not-is_page_among, else-was_there-via-else-was_there}
@@ -15,7 +15,7 @@ loop-i-preserved c =
     let none : Piece = record { segment = 0; page = 0; offset = 0; count = 0 } in
     let piece = get_or pieces i none in
     let later = drop (i + 1) pieces in
-    let same = λ (other : Piece). is_same_place (place_of_piece piece) (place_of_piece other) in
+    let same = λ (other : Piece). is_same_address (address_of_piece piece) (address_of_piece other) in
     let counted = λ (there among : Bool). cond {A = ℕ} (there && not among) 1 0 in
     let within : i < length pieces = omega arith in
     let more = touched_by-drop_more pieces c.args.counts.now i none within in

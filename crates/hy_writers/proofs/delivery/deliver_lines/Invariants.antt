@@ -1,15 +1,13 @@
 -- The lines of the entries so far are delivered, and those of the others are still to be.
-use Rattle.std.proofs.Common.{◌≡◌, ◌*◌, pos, ◌≤ℤ◌, drop, length, map}
+use Rattle.std.proofs.Common.{◌≡◌, ◌*◌, pos, ◌≤ℤ◌, drop, length}
 use Rattle.std.specs.Prelude.{All}
 use Rattle.hy_rows.specs.declared.order_line.OrderLine.{OrderLine}
 use Rattle.hy_rows.specs.Limits.{max_line_cents}
 use Rattle.hy_rows.specs.Ranges.{IsLineAmount}
 use Rattle.hy_space.specs.Space.{owner_bytes}
-use Rattle.hy_index.specs.declared.key.Entry.{Entry}
-use Rattle.hy_store.specs.declared.keys.LineKey.{LineKey}
 use Rattle.hy_store.specs.Stored.{HasStore}
 use Rattle.hy_store.specs.Writes.{WritesStore, stored_in}
-use Rattle.hy_writers.specs.Deliveries.{walk_over, walked, with_lines}
+use Rattle.hy_writers.specs.Deliveries.{places_of, walk_over, walked, with_lines}
 use Rattle.hy_writers.proofs.delivery.deliver_lines.Given as goal
 
 abbrev pub invariant-loop-entry : goal.invariant-loop-entry
@@ -18,9 +16,9 @@ invariant-loop-entry g l = record {
   writes : WritesStore g.row.N l.initial.space l.space l.initial.undo l.undo;
   stored : stored_in g.row.N l.space
       ≡ with_lines (stored_in g.row.N l.initial.space) (stored_in g.row.N l.space).tables.order_lines;
-  walk : walked l.moment (map (λ (entry : Entry LineKey). entry.slot) (drop l.entry-index l.entries))
+  walk : walked l.moment (places_of (drop l.entry-index l.entries))
       (record { rows = (stored_in g.row.N l.space).tables.order_lines; cents = l.cents })
-      ≡ walk_over l.moment (map (λ (entry : Entry LineKey). entry.slot) l.entries) (stored_in g.row.N l.initial.space);
+      ≡ walk_over l.moment (places_of l.entries) (stored_in g.row.N l.initial.space);
   many : length (stored_in g.row.N l.space).tables.order_lines
       ≡ length (stored_in g.row.N l.initial.space).tables.order_lines;
   amounts : All (λ (row : OrderLine). IsLineAmount row.amount) (stored_in g.row.N l.space).tables.order_lines;

@@ -1,11 +1,11 @@
-use Rattle.std.proofs.Common.{◌<◌, ◌≤◌, ◌∙◌, List, ap, length, lit<, map, subst, sym}
+use Rattle.std.proofs.Common.{◌<◌, ◌≤◌, ◌∙◌, List, ap, length, lit<, subst, sym}
 use Rattle.std.specs.Prelude.{All}
 use Rattle.hy_rows.specs.Limits.{max_lines}
 use Rattle.hy_index.specs.declared.key.Entry.{Entry}
 use Rattle.hy_store.specs.declared.keys.LineKey.{LineKey}
 use Rattle.hy_store.specs.Stored.{Stored}
 use Rattle.hy_store.specs.Writes.{stored_in}
-use Rattle.hy_writers.specs.Deliveries.{walk_over, with_lines}
+use Rattle.hy_writers.specs.Deliveries.{places_of, walk_over, with_lines, with_walked}
 use Rattle.hy_writers.proofs.DeliveryLaws.{entries-few, entries-there, walk-cents, walk-rows}
 use Rattle.hy_writers.proofs.WritesLaws.{if_ok-then, on_ok-then}
 use Rattle.hy_writers.proofs.delivery.deliver_order_lines.Goals as goal
@@ -20,7 +20,7 @@ deliver_lines-requires g c =
     (entries-there c.args.moment order s c.know_entries.ensures lines) in
     let few = subst (λ (entries : List (Entry LineKey)). length entries ≤ max_lines) (sym are)
     (entries-few c.args.moment order s c.know_entries.ensures lines) in
-    (lit< tt, (lit< tt, (c.requires.store, (c.requires.undo_log, (there, (lines.amounts, few))))))
+    (lit< tt, (lit< tt, (c.requires.writable, (there, (lines.amounts, few)))))
 
 pub returns-clause-delivered : goal.returns-clause-delivered
 returns-clause-delivered g c =
@@ -28,10 +28,12 @@ returns-clause-delivered g c =
     let order = c.args.order.now in
     let are = c.deref.ensures.value ∙ c.in_ok-read_entries.ensures in
     on_ok-then c.deliver_lines.result (λ is.
-    is
-    ∙ ap (λ (entries : List (Entry LineKey)). with_lines s
-    (walk_over c.args.moment (map (λ (entry : Entry LineKey). entry.slot) entries) s).rows) are
-    ∙ ap (with_lines s) (walk-rows c.args.moment order s c.know_entries.ensures c.requires.lines))
+    record {
+      store = is.store;
+      changed = is.changed
+          ∙ ap (λ (entries : List (Entry LineKey)). with_walked c.args.moment (places_of entries) s) are
+          ∙ ap (with_lines s) (walk-rows c.args.moment order s c.know_entries.ensures c.requires.lines);
+    })
     c.deliver_lines.ensures.delivered
 
 pub returns-clause-cents : goal.returns-clause-cents
@@ -42,6 +44,6 @@ returns-clause-cents g c =
     if_ok-then c.deliver_lines.result (λ cents is.
     is
     ∙ ap (λ (entries : List (Entry LineKey)).
-    (walk_over c.args.moment (map (λ (entry : Entry LineKey). entry.slot) entries) s).cents) are
+    (walk_over c.args.moment (places_of entries) s).cents) are
     ∙ walk-cents c.args.moment order s c.know_entries.ensures c.requires.lines)
     c.deliver_lines.ensures.cents

@@ -3,7 +3,7 @@ use Rattle.hy_rows.specs.declared.customer.Customer.{Customer}
 use Rattle.hy_commands.specs.Payments.{paid_in}
 use Rattle.hy_commands.specs.Growth.{IsDistrictUpTo, IsWarehouseUpTo}
 use Rattle.hy_store.specs.Writes.{stored_in}
-use Rattle.hy_writers.specs.Limits.{most_commits}
+use Rattle.hy_writers.specs.Limits.{most_applied}
 use Rattle.hy_writers.proofs.PaymentLaws.{home-paid, payer-at}
 use Rattle.hy_writers.proofs.WritesLaws.{all-at, writes-then}
 use Rattle.hy_writers.proofs.payment.pay_home.Goals as goal
@@ -12,15 +12,15 @@ use Rattle.hy_writers.proofs.payment.pay_home.Goals as goal
 pub warehouse_after-requires-clause-row : goal.warehouse_after-requires-clause-row
 warehouse_after-requires-clause-row g c =
     let tables = (stored_in g.row.N c.args.space.now).tables in
-    all-at (IsWarehouseUpTo most_commits) tables.warehouses 0 c.own_warehouse-warehouse.result c.requires.bounds.warehouses
+    all-at (IsWarehouseUpTo most_applied) tables.warehouses 0 c.own_warehouse-warehouse.result c.requires.can.bounds.warehouses
     c.own_warehouse-warehouse.ensures.here
 
 -- src/payment.rt:166:10
 pub district_after-requires-clause-row : goal.district_after-requires-clause-row
 district_after-requires-clause-row g c =
     let tables = (stored_in g.row.N c.args.space.now).tables in
-    all-at (IsDistrictUpTo most_commits) tables.districts (c.args.payment.now.district - 1) c.own_district-district.result
-    c.requires.bounds.districts c.own_district-district.ensures.here
+    all-at (IsDistrictUpTo most_applied) tables.districts (c.args.payment.now.district - 1) c.own_district-district.result
+    c.requires.can.bounds.districts c.own_district-district.ensures.here
 
 -- src/payment.rt:162:5
 pub returns-in_err-put_row-2-clause-writes : goal.returns-in_err-put_row-2-clause-writes
@@ -37,15 +37,18 @@ returns-clause-paid g c =
     let payment = c.args.payment.now in
     let number = c.args.layout.now.warehouse in
     let s = stored_in g.row.N c.args.space.now in
-    let payer_is = payer-at number payment s.tables c.args.place c.row_at-payer.result c.requires.payment c.requires.payer
+    let payer_is = payer-at number payment s.tables c.args.place c.row_at-payer.result c.requires.can.begun c.requires.can.payer
     c.row_at-payer.ensures in
-    home-paid number (payment.district - 1) c.row_at-payer.result.id payment c.requires.payment s
+    let paid = home-paid number (payment.district - 1) c.row_at-payer.result.id payment c.requires.can.begun s
     (stored_in g.row.N c.put_row.new.space) (stored_in g.row.N c.put_row-2.new.space)
     (stored_in g.row.N c.push_row.new.space) c.own_warehouse-warehouse.result c.warehouse_after.result
     c.own_district-district.result c.district_after.result c.history_for.result c.own_warehouse-warehouse.ensures
     c.own_district-district.ensures c.warehouse_after.ensures c.district_after.ensures c.history_for.ensures
-    c.in_ok-put_row.ensures.put c.in_ok-put_row-2.ensures.put c.in_ok-push_row.ensures.pushed
-    ∙ ap (λ (row : Customer). record s { tables = paid_in payment row.id s.tables }) (sym payer_is)
+    c.in_ok-put_row.ensures.put.changed c.in_ok-put_row-2.ensures.put.changed c.in_ok-push_row.ensures.pushed.changed in
+    record {
+      store = c.in_ok-push_row.ensures.pushed.store;
+      changed = paid ∙ ap (λ (row : Customer). record s { tables = paid_in payment row.id s.tables }) (sym payer_is);
+    }
 
 -- src/payment.rt:137:1
 pub returns-clause-writes : goal.returns-clause-writes

@@ -11,14 +11,17 @@ returns-in_err-place-clause-writes g c = writes-then c.put_row.ensures.writes c.
 -- src/purchase.rt:242:1
 pub returns-clause-added : goal.returns-clause-added
 returns-clause-added g c =
-    on_ok-then c.insert_entry.result (line-added c.args.layout.now.load.items c.args.layout.now.warehouse
-    (c.args.order.now.district - 1) c.in_ok-place.place (c.own_district-number.result.next_order - 1) c.args.lines
-    c.cents_of-cents.result c.args.order.now c.args.line.now c.args.item.now (stored_in g.row.N c.args.space.now)
-    (stored_in g.row.N c.put_row.new.space) (stored_in g.row.N c.push_row.new.space)
-    (stored_in g.row.N c.insert_entry.new.space) c.own_district-number.result c.own_stock-stock.result c.stock_after.result
-    c.line_for-row.result c.requires.order.home c.requires.line.home c.own_district-number.ensures refl c.own_stock-stock.ensures
-    c.stock_after.ensures c.requires.item c.cents_of-cents.ensures.cents c.line_for-row.ensures c.in_ok-place.ensures.place
-    c.in_ok-put_row.ensures.put c.in_ok-place.ensures.pushed) c.insert_entry.ensures.inserted
+    on_ok-then c.insert_entry.result (λ inserted. record {
+      store = inserted.store;
+      changed = line-added c.args.layout.now.load.items c.args.layout.now.warehouse
+          (c.args.order.now.district - 1) c.in_ok-place.place (c.own_district-number.result.next_order - 1) c.args.lines
+          c.cents_of-cents.result c.args.order.now c.args.line.now c.args.item.now (stored_in g.row.N c.args.space.now)
+          (stored_in g.row.N c.put_row.new.space) (stored_in g.row.N c.push_row.new.space)
+          (stored_in g.row.N c.insert_entry.new.space) c.own_district-number.result c.own_stock-stock.result c.stock_after.result
+          c.line_for-row.result c.requires.can.begun.home c.requires.can.passed.home c.own_district-number.ensures refl c.own_stock-stock.ensures
+          c.stock_after.ensures c.requires.can.found c.cents_of-cents.ensures.cents c.line_for-row.ensures c.in_ok-place.ensures.place
+          c.in_ok-put_row.ensures.put.changed c.in_ok-place.ensures.pushed.changed inserted.changed;
+    }) c.insert_entry.ensures.inserted
 
 -- src/purchase.rt:242:1
 pub returns-clause-writes : goal.returns-clause-writes

@@ -1,5 +1,6 @@
 use Rattle.std.proofs.Common.{rules, ◌<◌, length, lit<}
-use Rattle.hy_script.proofs.OpenLaws.{AreOpen-at, AreOpen-others, AreOpen-remove, item_at}
+use Rattle.hy_script.specs.inside.Open.{IsOpenIn}
+use Rattle.hy_script.proofs.OpenLaws.{AreOpen-at, AreOpen-others, AreOpen-remove, IsOpenIn-other, item_at}
 use Rattle.hy_hyper.proofs.snapshot_tests.Forked.close.Goals as goal
 
 -- the snapshot at the place is open
@@ -12,8 +13,8 @@ close-requires g c =
       lit< tt,
       (
         lit< tt,
-        λ mine. (AreOpen-at c.self.inside.partition.warehouse c.self.inside.partition.snapshots held c.args.place
-            snapshot item c.self.invariant).commits,
+        λ mine. (AreOpen-at (IsOpenIn c.self.inside.partition.warehouse c.self.inside.partition.snapshots) held
+            c.args.place snapshot item c.self.invariant).commits,
       ),
     )
 
@@ -27,6 +28,8 @@ invariant_of-self g c =
     let snapshot = c.remove-snapshot.result in
     let within : c.args.place < length held = search rules in
     let item = item_at held c.args.place snapshot within c.remove-snapshot.ensures.value in
-    let later = AreOpen-remove number old held c.args.place snapshot item c.self.invariant in
+    let new = c.close.new.self.snapshots in
+    let later = AreOpen-remove (IsOpenIn number old) held c.args.place snapshot item c.self.invariant in
     rw (c.remove-snapshot.ensures.items, closes.job.warehouse)
-    (AreOpen-others number old c.close.new.self.snapshots snapshot.child closes.others.commits _ later.0 later.1)
+    (AreOpen-others (IsOpenIn number old) (IsOpenIn number new) snapshot.child
+    (IsOpenIn-other number old new snapshot.child closes.others.commits) _ later.0 later.1)

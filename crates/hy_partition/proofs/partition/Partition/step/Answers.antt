@@ -28,7 +28,7 @@ invariant_of-self-in-Ok-None g c =
     let under_way : (before : Tables)
     → IsUnderWay executor job.command job.slices before (stored g.row.N (owner_bytes p.space))
     → IsUnderWay next job.command (job.slices + 1) before (stored g.row.N (owner_bytes space)) =
-    rw (c.command.ensures, c.slices-done.ensures) at c.in-Ok-None.ensures.under_way in
+    rw (c.command.ensures, c.slices-done.ensures) at c.in-Ok-None.ensures.under_way.step in
     let answered : (before : Tables)
     → IsUnderWay executor job.command job.slices before (stored g.row.N (owner_bytes p.space))
     → None ≡ answer_of executor.layout job.command job.slices before =
@@ -40,7 +40,7 @@ invariant_of-self-in-Ok-None g c =
     relaid (IsSound g.row.N (vec_capacity c.self.inside.kept) next) after next.layout c.slice.ensures.layout
     (subst (λ (place : Option RunningJob). IsSound g.row.N (vec_capacity c.self.inside.kept) next (record after { running = place })) put
     (sound-continued g.row.N _ executor p c.self.invariant next space job running c.slice.ensures.layout
-    c.in-Ok-None.ensures.store under_way writes.children c.slice.new.undo c.next.result c.next.ensures
+    c.in-Ok-None.ensures.under_way.store under_way writes.children c.slice.new.undo c.next.result c.next.ensures
     writes.undoes.undo_log writes.undoes.undone
     (not_last job (slices-running g.row.N _ executor p c.self.invariant job running) more)))
 
@@ -55,7 +55,7 @@ returns-in-Ok-None g c =
     let under_way : (before : Tables)
     → IsUnderWay executor job.command job.slices before (stored g.row.N (owner_bytes p.space))
     → IsUnderWay next job.command (job.slices + 1) before (stored g.row.N (owner_bytes space)) =
-    rw (c.command.ensures, c.slices-done.ensures) at c.in-Ok-None.ensures.under_way in
+    rw (c.command.ensures, c.slices-done.ensures) at c.in-Ok-None.ensures.under_way.step in
     let answered : (before : Tables)
     → IsUnderWay executor job.command job.slices before (stored g.row.N (owner_bytes p.space))
     → None ≡ answer_of executor.layout job.command job.slices before =
@@ -81,7 +81,7 @@ invariant_of-self-in-Ok-Some g c =
     let under_way : (before : Tables)
     → IsUnderWay executor job.command job.slices before (stored g.row.N (owner_bytes p.space))
     → IsUnderWay next job.command (job.slices + 1) before (stored g.row.N (owner_bytes space)) =
-    rw (c.command.ensures, c.slices-done.ensures) at c.in-Ok-Some.ensures.under_way in
+    rw (c.command.ensures, c.slices-done.ensures) at c.in-Ok-Some.ensures.under_way.step in
     let answered : (before : Tables)
     → IsUnderWay executor job.command job.slices before (stored g.row.N (owner_bytes p.space))
     → Some c.in-Ok-Some.reply ≡ answer_of executor.layout job.command job.slices before =
@@ -99,7 +99,7 @@ invariant_of-self-in-Ok-Some g c =
     relaid (IsSound g.row.N (vec_capacity c.keep_command.new.kept) next) after next.layout c.slice.ensures.layout
     (subst (λ (place : Option RunningJob). IsSound g.row.N (vec_capacity c.keep_command.new.kept) next (record after { running = place })) (sym c.take.ensures.after)
     (sound-accepted g.row.N _ executor p c.self.invariant next space job running c.slice.ensures.layout
-    c.in-Ok-Some.ensures.store under_way c.slice.ensures.writes.children last _ c.commit.new.self
+    c.in-Ok-Some.ensures.under_way.store under_way c.slice.ensures.writes.children last _ c.commit.new.self
     c.keep_command.new.kept.items c.put-in-Ok-Some.new.place c.commit.ensures.log c.commit.ensures.undo_log kept))
 
 pub returns-in-Ok-Some : goal.returns-in-Ok-Some
@@ -113,7 +113,7 @@ returns-in-Ok-Some g c =
     let under_way : (before : Tables)
     → IsUnderWay executor job.command job.slices before (stored g.row.N (owner_bytes p.space))
     → IsUnderWay next job.command (job.slices + 1) before (stored g.row.N (owner_bytes space)) =
-    rw (c.command.ensures, c.slices-done.ensures) at c.in-Ok-Some.ensures.under_way in
+    rw (c.command.ensures, c.slices-done.ensures) at c.in-Ok-Some.ensures.under_way.step in
     let answered : (before : Tables)
     → IsUnderWay executor job.command job.slices before (stored g.row.N (owner_bytes p.space))
     → Some c.in-Ok-Some.reply ≡ answer_of executor.layout job.command job.slices before =
@@ -130,7 +130,7 @@ returns-in-Ok-Some g c =
     let steps : StepsTo job p (record after { running = None; finished = Some c.new.result }) progress.Finished =
     steps-accepted g.row.N _ executor p c.self.invariant job running next space c.slice.new.undo c.slice.ensures.layout
     c.slice.ensures.writes c.commit.new.self c.keep_command.new.kept.items c.in-Ok-Some.reply c.new.result
-    c.in-Ok-Some.ensures.store under_way answered c.commit.ensures.log kept c.new.ensures in
+    c.in-Ok-Some.ensures.under_way.store under_way answered c.commit.ensures.log kept c.new.ensures in
     let placed : StepsTo job p after progress.Finished =
     subst (λ (place : Option RunningJob). StepsTo job p (record after { running = place }) progress.Finished)
     (sym c.take.ensures.after)

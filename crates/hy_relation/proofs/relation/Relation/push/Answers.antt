@@ -2,7 +2,7 @@ use Rattle.std.proofs.Common.{◌≡◌, ℕ, ◌<◌, ◌≤◌, List, [], ◌�
 use Rattle.hy_rows.specs.Spelling.{slot_width, slots_of}
 use Rattle.hy_space.specs.Space.{SpaceState, owner_bytes}
 use Rattle.hy_relation.specs.Relation.{HasFewPages, HasRelation, owner_pages, relation_slots}
-use Rattle.hy_relation.specs.inside.Places.{WritesSlot, slot_page}
+use Rattle.hy_relation.specs.inside.Addresses.{WritesSlot, slot_page}
 use Rattle.hy_relation.proofs.FewPages.{few-kept}
 use Rattle.hy_relation.proofs.RelationLaws.{has_slots-behind, has_slots-grown, has_slots-pushed, length-slots_of, on_err, slots_of-behind, slots_of-grown, slots_of-pushed}
 use Rattle.hy_relation.proofs.SpaceLaws.{changes-none, changes-then, pages_sized}

@@ -2,7 +2,7 @@ use Rattle.std.proofs.Common.{◌≡◌, ℕ, ◌<◌, ◌≤◌, List, ◌∷�
 use Rattle.std.proofs.lemmas.Result.{on_ok_weaker}
 use Rattle.hy_rows.specs.Spelling.{slot_width, slots_of, used_slots}
 use Rattle.hy_relation.specs.Relation.{owner_pages}
-use Rattle.hy_relation.specs.inside.Places.{WritesSlot}
+use Rattle.hy_relation.specs.inside.Addresses.{WritesSlot}
 use Rattle.hy_relation.proofs.RelationLaws.{live-used, slots_of-put}
 use Rattle.hy_relation.proofs.SpaceLaws.{pages_sized, slot_page-below}
 use Rattle.hy_relation.proofs.relation.Relation.put.Goals as goal

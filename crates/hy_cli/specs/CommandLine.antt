@@ -1,0 +1,171 @@
+-- The command line of the program: what it takes, and what its words say.
+use Rattle.std.specs.Prelude.{◌≡◌, ◌≢◌, ◌≤◌, ⊤, ℕ, true, false, List, [], ◌∷◌, Some, Ok, codes, map}
+use Rattle.std.specs.Prelude.{IsSomeAnd, MatchOption}
+use Rattle.std.specs.Borrow.{Bor}
+use Rattle.std.specs.Str.Parse.{ParsesUnsigned}
+use Rattle.std.specs.declared.num.ParseIntError.{ParseIntError}
+use Rattle.clap.specs.Walk.{first_of}
+use Rattle.clap.specs.Words.{App, Row, Rule, Shape, Text, new_rule, one_of, subcommand_of, IsAmong, IsUnsignedIn}
+use Rattle.clap.specs.Values.{kind_of}
+use Rattle.clap.specs.Faults.{fault_of}
+use Rattle.clap.specs.Simple.{new_shape}
+use Rattle.clap.specs.declared.builder.value_parser.ValueParser.TheVariants as parser
+use Rattle.clap.specs.declared.error.Error.{Error}
+use Rattle.clap.specs.declared.error.kind.ErrorKind.TheVariants as kind
+use Rattle.hy_cli.specs.declared.words.Line.{Line}
+use Rattle.hy_cli.specs.declared.words.Line.TheVariants as line
+use Rattle.hy_cli.specs.declared.words.LineFault.{LineFault}
+use Rattle.hy_cli.specs.declared.words.LineFault.TheVariants as fault
+
+-- ---- what the program takes
+
+-- a parameter of a command: any word at its place, `--name NUMBER`, `--name NUMBER` that may be left out, or this with a
+-- number that is at least the first and at most the second of two others
+pub data Parameter : Type 0 where
+  required_text : Text → Parameter
+  required_number : Text → Parameter
+  optional_number : Text → Parameter
+  bounded_number : ℕ → ℕ → Text → Parameter
+
+-- a word at its place; where several have one, they come in the order of the parameters
+abbrev pub text_rule : Text → Rule
+text_rule name = record (new_rule name) { value_names = 1 }
+
+-- `--name NUMBER`, where the number is within bounds
+abbrev pub bounded_rule : ℕ → ℕ → Text → Rule
+bounded_rule low high name = record (new_rule name) {
+  long = Some name;
+  value_names = 1;
+  parser = Some (parser.Unsigned low high);
+}
+
+-- `--name NUMBER`, where the number is one of 64 bits
+abbrev pub number_rule : Text → Rule
+number_rule = bounded_rule 0 18446744073709551615
+
+-- it has to be given
+abbrev pub required : Rule → Rule
+required rule = record rule { required = true }
+
+-- what the parser knows of a parameter
+abbrev pub rule_for : Parameter → Rule
+rule_for (required_text name) = required (text_rule name)
+rule_for (required_number name) = required (number_rule name)
+rule_for (optional_number name) = number_rule name
+rule_for (bounded_number low high name) = bounded_rule low high name
+
+-- `first [--amount CENTS]`
+abbrev pub first_parameters : List Parameter
+first_parameters = optional_number (codes "amount") ∷ []
+
+-- `gen DIR --warehouses W --customers C --items I`
+abbrev pub generate_parameters : List Parameter
+generate_parameters = required_text (codes "directory") ∷ required_number (codes "warehouses")
+    ∷ required_number (codes "customers") ∷ required_number (codes "items") ∷ []
+
+-- `check DIR`
+abbrev pub check_parameters : List Parameter
+check_parameters = required_text (codes "directory") ∷ []
+
+-- how many frames each partition may have at most, and how many commits it may keep
+abbrev pub most_frames : ℕ
+most_frames = 10_000_000
+
+abbrev pub most_kept : ℕ
+most_kept = 100_000_000
+
+-- `script DIR FILE [--frames F] [--kept K]`
+abbrev pub script_parameters : List Parameter
+script_parameters = required_text (codes "directory") ∷ required_text (codes "file")
+    ∷ bounded_number 1 most_frames (codes "frames") ∷ bounded_number 1 most_kept (codes "kept") ∷ []
+
+-- what the parser knows of a command
+abbrev pub command_of : Text → List Parameter → Shape
+command_of name parameters = record (new_shape name) { rules = map rule_for parameters }
+
+-- the commands with their parameters
+abbrev pub commands : List (Text × List Parameter)
+commands = (codes "first", first_parameters) ∷ (codes "gen", generate_parameters) ∷ (codes "check", check_parameters)
+    ∷ (codes "script", script_parameters) ∷ []
+
+-- the program, which wants one of its commands
+abbrev pub program_app : App
+program_app = record {
+  top = record (new_shape (codes "hyper")) {
+    is_leaf = false;
+    no_binary_name = true;
+    subcommand_required = true;
+    disable_help_subcommand = true;
+  };
+  subs = map (λ command. command_of command.0 command.1) commands;
+}
+
+-- ---- what the words say
+
+-- the texts behind references
+abbrev pub texts_of : List (Bor Text) → List Text
+texts_of = map (λ word. word.now)
+
+-- the parser takes the words
+abbrev pub AreTaken : List Text → Type 0
+AreTaken words = fault_of program_app words ≡ []
+
+-- the text spells a number of 64 bits
+abbrev pub IsNumber : Text → Type 0
+IsNumber = IsUnsignedIn 0 18446744073709551615
+
+-- the text spells this number
+abbrev pub Spells : ℕ → Text → Type 0
+Spells number text = ParsesUnsigned {E = ParseIntError} 64 10 text (Ok number)
+
+-- what is given for the name is this text
+abbrev pub SaysText : Text → List Row → Text → Type 0
+SaysText name rows text = first_of name rows ≡ Some text
+
+-- what is given for the name spells this number
+abbrev pub SaysNumber : Text → List Row → ℕ → Type 0
+SaysNumber name rows number = IsSomeAnd (one_of name rows) (Spells number)
+
+-- what is given for the name spells this number, or where nothing is, it is `default`
+abbrev pub SaysNumberOr : ℕ → Text → List Row → ℕ → Type 0
+SaysNumberOr default name rows number = MatchOption (one_of name rows) (number ≡ default) (Spells number)
+
+-- a command's name and what is given to it say this command line
+abbrev pub SaysLine : Text × List Row → Line → Type 0
+SaysLine command (line.First amount) = (command.0 ≡ codes "first")
+    × SaysNumberOr 100 (codes "amount") command.1 amount
+SaysLine command (line.Generate directory warehouses customers items) = (command.0 ≡ codes "gen")
+    × SaysText (codes "directory") command.1 directory.now
+    × SaysNumber (codes "warehouses") command.1 warehouses
+    × SaysNumber (codes "customers") command.1 customers
+    × SaysNumber (codes "items") command.1 items
+SaysLine command (line.Check directory) = (command.0 ≡ codes "check")
+    × SaysText (codes "directory") command.1 directory.now
+SaysLine command (line.Script directory file frames kept) = (command.0 ≡ codes "script")
+    × SaysText (codes "directory") command.1 directory.now
+    × SaysText (codes "file") command.1 file.now
+    × SaysNumberOr 100_000 (codes "frames") command.1 frames
+    × SaysNumberOr 1_000_000 (codes "kept") command.1 kept
+
+-- a number is at least one and at most another
+abbrev pub IsIn : ℕ → ℕ → ℕ → Type 0
+IsIn low high number = (low ≤ number) × (number ≤ high)
+
+-- a command line's limits are ones that a partition may have
+abbrev pub HasLimits : Line → Type 0
+HasLimits (line.Script directory file frames kept) = IsIn 1 most_frames frames × IsIn 1 most_kept kept
+HasLimits other = ⊤
+
+-- the words say this command line
+abbrev pub Says : List Text → Line → Type 0
+Says words said = AreTaken words × IsSomeAnd (subcommand_of program_app words) (λ command. SaysLine command said)
+
+-- the words have this fault; memory may be refused at any words
+abbrev pub HasFault : List Text → LineFault → Type 0
+HasFault words (fault.Parser error) = IsAmong (kind_of error) (fault_of program_app words)
+HasFault words fault.NoMemory = ⊤
+
+-- the fault behind an error of the parser: it keeps each error but the one that says that memory ran out
+abbrev pub IsBehind : Error → LineFault → Type 0
+IsBehind error (fault.Parser kept) = (kept ≡ error) × (kind_of error ≢ kind.OutOfMemory)
+IsBehind error fault.NoMemory = kind_of error ≡ kind.OutOfMemory

@@ -1,0 +1,152 @@
+-- Worked examples, which the checker computes: what words say, and which faults they have.
+use Rattle.std.specs.Prelude.{◌≡◌, Option, Some, List, [], ◌∷◌, codes, option_map, refl}
+use Rattle.clap.specs.Walk.{first_of}
+use Rattle.clap.specs.Words.{Text, one_of, subcommand_of}
+use Rattle.clap.specs.Faults.{fault_of}
+use Rattle.clap.proofs.OnLiterals.{clap_on_literals}
+use Rattle.clap.specs.declared.error.kind.ErrorKind.TheVariants as kind
+use Rattle.hy_cli.specs.declared.words.Line.TheVariants as line
+use Rattle.hy_cli.specs.CommandLine.{Says, program_app}
+
+-- the command that words name, with the text of `--amount`
+abbrev pub amount_text : List Text → Option (Text × Option Text)
+amount_text words =
+    option_map (λ command. (command.0, one_of (codes "amount") command.1)) (subcommand_of program_app words)
+
+-- the command that words name, with the text of `DIR`
+abbrev pub directory_text : List Text → Option (Text × Option Text)
+directory_text words =
+    option_map (λ command. (command.0, first_of (codes "directory") command.1)) (subcommand_of program_app words)
+
+-- the texts of the three numbers of `gen`
+abbrev pub number_texts : List Text → Option (Option Text × Option Text × Option Text)
+number_texts words = option_map (λ command. (
+  one_of (codes "warehouses") command.1,
+  one_of (codes "customers") command.1,
+  one_of (codes "items") command.1,
+)) (subcommand_of program_app words)
+
+-- `first` alone is a payment of 1.00
+pub first-says : Says (codes "first" ∷ []) (line.First 100)
+unfolding clap_on_literals
+first-says = (refl, (refl, refl))
+
+-- an amount behind a space, or behind `=`
+pub amount-taken : fault_of program_app (codes "first" ∷ codes "--amount" ∷ codes "7" ∷ []) ≡ []
+unfolding clap_on_literals
+amount-taken = refl
+
+pub amount-text : amount_text (codes "first" ∷ codes "--amount" ∷ codes "7" ∷ [])
+    ≡ Some (codes "first", Some (codes "7"))
+unfolding clap_on_literals
+amount-text = refl
+
+pub equals-taken : fault_of program_app (codes "first" ∷ codes "--amount=7" ∷ []) ≡ []
+unfolding clap_on_literals
+equals-taken = refl
+
+pub equals-text : amount_text (codes "first" ∷ codes "--amount=7" ∷ []) ≡ Some (codes "first", Some (codes "7"))
+unfolding clap_on_literals
+equals-text = refl
+
+-- 2^64 is no number of 64 bits, and `x` is no number
+pub large-refused : fault_of program_app (codes "first" ∷ codes "--amount" ∷ codes "18446744073709551616" ∷ [])
+    ≡ kind.ValueValidation ∷ []
+unfolding clap_on_literals
+large-refused = refl
+
+pub letter-refused : fault_of program_app (codes "first" ∷ codes "--amount" ∷ codes "x" ∷ [])
+    ≡ kind.ValueValidation ∷ []
+unfolding clap_on_literals
+letter-refused = refl
+
+-- a folder and three numbers, in any order
+abbrev pub four_given : List Text
+four_given = codes "gen" ∷ codes "--items=4" ∷ codes "d" ∷ codes "--customers" ∷ codes "3" ∷ codes "--warehouses=2"
+    ∷ []
+
+pub four-taken : fault_of program_app four_given ≡ []
+unfolding clap_on_literals
+four-taken = refl
+
+pub four-directory : directory_text four_given ≡ Some (codes "gen", Some (codes "d"))
+unfolding clap_on_literals
+four-directory = refl
+
+pub four-numbers : number_texts four_given ≡ Some (Some (codes "2"), Some (codes "3"), Some (codes "4"))
+unfolding clap_on_literals
+four-numbers = refl
+
+-- one of them is missing
+pub items-missing : fault_of program_app
+    (codes "gen" ∷ codes "d" ∷ codes "--warehouses=2" ∷ codes "--customers=3" ∷ []) ≡ kind.MissingRequiredArgument ∷ []
+unfolding clap_on_literals
+items-missing = refl
+
+pub directory-missing : fault_of program_app (codes "check" ∷ []) ≡ kind.MissingRequiredArgument ∷ []
+unfolding clap_on_literals
+directory-missing = refl
+
+-- the folder is any word, also the empty one, and behind `--` also one with two hyphens
+pub check-taken : fault_of program_app (codes "check" ∷ [] ∷ []) ≡ []
+unfolding clap_on_literals
+check-taken = refl
+
+pub check-directory : directory_text (codes "check" ∷ [] ∷ []) ≡ Some (codes "check", Some [])
+unfolding clap_on_literals
+check-directory = refl
+
+pub hyphens-directory : directory_text (codes "check" ∷ codes "--" ∷ codes "--d" ∷ [])
+    ≡ Some (codes "check", Some (codes "--d"))
+unfolding clap_on_literals
+hyphens-directory = refl
+
+-- no word, another word, and the words for help
+pub nothing-refused : fault_of program_app [] ≡ kind.MissingSubcommand ∷ []
+unfolding clap_on_literals
+nothing-refused = refl
+
+pub other-refused : fault_of program_app (codes "second" ∷ []) ≡ kind.UnknownArgument ∷ kind.InvalidSubcommand ∷ []
+unfolding clap_on_literals
+other-refused = refl
+
+pub help-refused : fault_of program_app (codes "help" ∷ []) ≡ kind.UnknownArgument ∷ kind.InvalidSubcommand ∷ []
+unfolding clap_on_literals
+help-refused = refl
+
+pub help_option-refused : fault_of program_app (codes "--help" ∷ []) ≡ kind.DisplayHelp ∷ []
+unfolding clap_on_literals
+help_option-refused = refl
+
+-- a folder, a file and two limits, the greatest that there are
+abbrev pub script_given : List Text
+script_given = codes "script" ∷ codes "d" ∷ codes "--kept=100000000" ∷ codes "f" ∷ codes "--frames" ∷ codes "10000000" ∷ []
+
+pub script-taken : fault_of program_app script_given ≡ []
+unfolding clap_on_literals
+script-taken = refl
+
+-- the texts of the folder, of the file and of both limits
+abbrev pub script_texts : List Text → Option (Option Text × Option Text × Option Text × Option Text)
+script_texts words = option_map (λ command. (
+  first_of (codes "directory") command.1,
+  first_of (codes "file") command.1,
+  one_of (codes "frames") command.1,
+  one_of (codes "kept") command.1,
+)) (subcommand_of program_app words)
+
+pub script-texts : script_texts script_given
+    ≡ Some (Some (codes "d"), Some (codes "f"), Some (codes "10000000"), Some (codes "100000000"))
+unfolding clap_on_literals
+script-texts = refl
+
+-- one frame more than the greatest limit, and a limit of no commits
+pub frames-refused : fault_of program_app
+    (codes "script" ∷ codes "d" ∷ codes "f" ∷ codes "--frames" ∷ codes "10000001" ∷ []) ≡ kind.ValueValidation ∷ []
+unfolding clap_on_literals
+frames-refused = refl
+
+pub kept-refused : fault_of program_app (codes "script" ∷ codes "d" ∷ codes "f" ∷ codes "--kept" ∷ codes "0" ∷ [])
+    ≡ kind.ValueValidation ∷ []
+unfolding clap_on_literals
+kept-refused = refl

@@ -1,0 +1,40 @@
+//! Reads what is given for a parameter, where the parser takes the words.
+
+ghost use Rattle.std.specs.Prelude.{ℕ, IfSome, IsSome, IsSomeAnd};
+ghost use Rattle.clap.specs.Walk.{first_of, one_of};
+ghost use Rattle.clap.specs.Words.{IsUnsignedIn, found_of, rows_of};
+ghost use Rattle.hy_cli.specs.CommandLine.{IsIn, IsNumber, SaysNumber, SaysNumberOr, SaysText};
+
+use clap::ArgMatches;
+
+/// The text that is given for `name`.
+pub fn text_given<'a>(given: &ArgMatches<'a>, name: &str) -> &'a str
+    requires { IsSome (first_of name.now (rows_of (found_of given.now))) }
+    ensures { SaysText name.now (rows_of (found_of given.now)) result.now }
+{
+    let Some(text) = given.get_str(name) else {
+        unreachable!()
+    };
+    text
+}
+
+/// The number that is given for `name`.
+pub fn number_given(given: &ArgMatches<'_>, name: &str) -> u64
+    requires { IsSomeAnd (one_of name.now (rows_of (found_of given.now))) IsNumber }
+    ensures { SaysNumber name.now (rows_of (found_of given.now)) result }
+{
+    let Some(number) = given.get_one(name) else {
+        unreachable!()
+    };
+    number
+}
+
+/// The number that is given for `name`, or `default` where none is.
+pub fn number_or(given: &ArgMatches<'_>, name: &str, default: u64) -> u64
+    requires { IfSome (one_of name.now (rows_of (found_of given.now))) IsNumber }
+    ensures says { SaysNumberOr default name.now (rows_of (found_of given.now)) result }
+    ensures bounds { (low high : ℕ) → IsIn low high default
+        → IfSome (one_of name.now (rows_of (found_of given.now))) (IsUnsignedIn low high) → IsIn low high result }
+{
+    given.get_one(name).unwrap_or(default)
+}

@@ -1,0 +1,146 @@
+//! What the parser knows of the program.
+
+ghost use Rattle.std.specs.Prelude.{◌≡◌, IfOk, codes, false, true};
+ghost use Rattle.clap.specs.Words.{app_of, rule_of, shape_of};
+ghost use Rattle.clap.specs.declared.builder.command.Command.TheViews.{out-Command as fields_of};
+ghost use Rattle.hy_cli.specs.CommandLine.{bounded_number, check_parameters, command_of, first_parameters, generate_parameters, optional_number, program_app, required_number, required_text, rule_for, script_parameters};
+
+use clap::builder::ValueParser;
+use clap::{Arg, Command, value_parser};
+use std::alloc::{AllocError, Global};
+
+/// How many frames a partition may have at most.
+const MAX_FRAMES: u64 = 10_000_000;
+
+/// How many commits a partition may keep at most.
+const MAX_KEPT: u64 = 100_000_000;
+
+/// The program, which wants one of its commands.
+pub fn program<'a>(alloc: Global) -> Result<Command<'a>, AllocError>
+    ensures { IfOk result (λ command. (app_of command ≡ program_app)
+        × ((fields_of command).has_globals ≡ false)
+        × ((fields_of command).subcommand_required ≡ true)) }
+{
+    Command::new(alloc, "hyper")
+        .about("An in-memory order-entry database")
+        .no_binary_name(true)
+        .subcommand_required(true)
+        .disable_help_subcommand(true)
+        .subcommand(first(alloc)?)?
+        .subcommand(generate(alloc)?)?
+        .subcommand(check(alloc)?)?
+        .subcommand(script(alloc)?)
+}
+
+/// `first [--amount CENTS]`.
+fn first<'a>(alloc: Global) -> Result<Command<'a>, AllocError>
+    ensures { IfOk result (λ command. (shape_of command ≡ command_of (codes "first") first_parameters)
+        × ((fields_of command).has_globals ≡ false)) }
+{
+    Command::new(alloc, "first")
+        .about("Runs one payment on a generated warehouse and prints its year-to-date total")
+        .arg(option(
+            alloc,
+            "amount",
+            "CENTS",
+            "What the customer pays, in cents: 100 if it isn't given",
+        ))
+}
+
+/// `gen DIR --warehouses W --customers C --items I`.
+fn generate<'a>(alloc: Global) -> Result<Command<'a>, AllocError>
+    ensures { IfOk result (λ command. (shape_of command ≡ command_of (codes "gen") generate_parameters)
+        × ((fields_of command).has_globals ≡ false)) }
+{
+    Command::new(alloc, "gen")
+        .about("Writes a generated database as nine files")
+        .arg(positional(alloc, "directory", "DIR", "The folder of the files"))?
+        .arg(required_option(alloc, "warehouses", "W", "How many warehouses there are"))?
+        .arg(required_option(
+            alloc,
+            "customers",
+            "C",
+            "How many customers each district has",
+        ))?
+        .arg(required_option(alloc, "items", "I", "How many items there are"))
+}
+
+/// `check DIR`.
+fn check<'a>(alloc: Global) -> Result<Command<'a>, AllocError>
+    ensures { IfOk result (λ command. (shape_of command ≡ command_of (codes "check") check_parameters)
+        × ((fields_of command).has_globals ≡ false)) }
+{
+    Command::new(alloc, "check")
+        .about("Tests the database in nine files")
+        .arg(positional(alloc, "directory", "DIR", "The folder of the files"))
+}
+
+/// `script DIR FILE [--frames F] [--kept K]`.
+fn script<'a>(alloc: Global) -> Result<Command<'a>, AllocError>
+    ensures { IfOk result (λ command. (shape_of command ≡ command_of (codes "script") script_parameters)
+        × ((fields_of command).has_globals ≡ false)) }
+{
+    Command::new(alloc, "script")
+        .about("Runs the events of a file on the database in nine files, and prints their answers")
+        .arg(positional(alloc, "directory", "DIR", "The folder of the files"))?
+        .arg(positional(alloc, "file", "FILE", "The file of events, one a line"))?
+        .arg(bounded_option(
+            alloc,
+            "frames",
+            "F",
+            "How many frames each warehouse may have: 100,000 if it isn't given",
+            MAX_FRAMES,
+        ))?
+        .arg(bounded_option(
+            alloc,
+            "kept",
+            "K",
+            "How many commits each warehouse may keep: 1,000,000 if it isn't given",
+            MAX_KEPT,
+        ))
+}
+
+/// A word at its place, which has to be given; help calls it `value`.
+fn positional<'a>(alloc: Global, name: &'a str, value: &'a str, help: &'a str) -> Arg<'a>
+    ensures { (rule_of result ≡ rule_for (required_text name.entry.now)) × (result.global ≡ false) }
+{
+    Arg::new(alloc, name)
+        .value_name(value)
+        .required(true)
+        .help(help)
+}
+
+/// `--name NUMBER`, a number of 64 bits that may be left out.
+fn option<'a>(alloc: Global, name: &'a str, value: &'a str, help: &'a str) -> Arg<'a>
+    ensures { (rule_of result ≡ rule_for (optional_number name.entry.now)) × (result.global ≡ false) }
+{
+    Arg::new(alloc, name)
+        .long(name)
+        .value_name(value)
+        .value_parser(value_parser!(u64))
+        .help(help)
+}
+
+/// `--name NUMBER`, a number from 1 to `most` that may be left out.
+fn bounded_option<'a>(
+    alloc: Global,
+    name: &'a str,
+    value: &'a str,
+    help: &'a str,
+    most: u64,
+) -> Arg<'a>
+    ensures { (rule_of result ≡ rule_for (bounded_number 1 most name.entry.now)) × (result.global ≡ false) }
+{
+    Arg::new(alloc, name)
+        .long(name)
+        .value_name(value)
+        .value_parser(ValueParser::unsigned(1, most))
+        .help(help)
+}
+
+/// `--name NUMBER`, a number of 64 bits that has to be given.
+fn required_option<'a>(alloc: Global, name: &'a str, value: &'a str, help: &'a str) -> Arg<'a>
+    ensures { (rule_of result ≡ rule_for (required_number name.entry.now)) × (result.global ≡ false) }
+{
+    option(alloc, name, value, help).required(true)
+}

@@ -1,0 +1,163 @@
+//! Reads a command line.
+
+ghost use Rattle.std.specs.Prelude.{◌≡◌, IfErr, IfOk, IfSome, MatchResult, codes, true};
+ghost use Rattle.clap.specs.Faults.{fault_of};
+ghost use Rattle.clap.specs.Words.{HasKind, found_of, has_subcommand, rows_of, subcommand_of, subcommand_rows_of};
+ghost use Rattle.hy_cli.specs.CommandLine.{AreTaken, HasFault, HasLimits, IsBehind, Says, SaysLine, check_parameters, first_parameters, generate_parameters, program_app, script_parameters, texts_of};
+ghost use Rattle.hy_cli.specs.inside.Given.{AreGiven, IsKnown};
+
+use crate::given::{number_given, number_or, text_given};
+use crate::program::program;
+use clap::ArgMatches;
+use clap::error::ErrorKind;
+use std::alloc::Global;
+use thiserror::Error;
+
+/// The amount of `first` where the words give none, in cents.
+const DEFAULT_AMOUNT: u64 = 100;
+
+/// How many frames a partition may have where the words say nothing of it.
+const DEFAULT_FRAMES: u64 = 100_000;
+
+/// How many commits a partition may keep where the words say nothing of it.
+const DEFAULT_KEPT: u64 = 1_000_000;
+
+/// A command line.
+#[derive(Clone, Copy, Debug, PartialEq, Eq)]
+pub enum Line<'a> {
+    /// One payment on a generated warehouse.
+    First {
+        /// The amount in cents.
+        amount: u64,
+    },
+    /// A generated database is written as files.
+    Generate {
+        /// The folder of the files.
+        directory: &'a str,
+        /// How many warehouses there are.
+        warehouses: u64,
+        /// How many customers each district has.
+        customers: u64,
+        /// How many items there are.
+        items: u64,
+    },
+    /// The database in files is tested.
+    Check {
+        /// The folder of the files.
+        directory: &'a str,
+    },
+    /// The events of a file are run on the database in files.
+    Script {
+        /// The folder of the files.
+        directory: &'a str,
+        /// The file of events.
+        file: &'a str,
+        /// How many frames each partition may have, from 1 to 10,000,000.
+        frames: u64,
+        /// How many commits each partition may keep, from 1 to 100,000,000.
+        kept: u64,
+    },
+}
+
+/// Why no command line was read.
+#[derive(Debug, Drop, Error)]
+pub enum LineFault {
+    /// The parser of command lines refuses the words, or answers them with a text, as at `--help`. Its text is for
+    /// the user.
+    #[error("{0}")]
+    Parser(clap::Error),
+    /// Memory was refused while the words were read.
+    #[error("memory was refused")]
+    NoMemory,
+}
+
+impl From<clap::Error> for LineFault {
+    ghost from_gives = { IsBehind };
+
+    fn from(error: clap::Error) -> LineFault {
+        match error.kind() {
+            ErrorKind::OutOfMemory => LineFault::NoMemory,
+            _ => LineFault::Parser(error),
+        }
+    }
+}
+
+/// Reads the words after the program's name.
+///
+/// # Errors
+///
+/// The parser's answer, where the words are no command line or ask for help, or that memory was refused.
+pub fn read_words<'a>(alloc: Global, words: &'a [&'a str]) -> Result<Line<'a>, LineFault>
+    ensures read { MatchResult result (Says (texts_of words.entry.now)) (HasFault (texts_of words.entry.now)) }
+    ensures limits { IfOk result HasLimits }
+{
+    let matches = parse(alloc, words)?;
+    let Some((name, given)) = matches.subcommand() else {
+        unreachable!()
+    };
+    match name {
+        "first" => Ok(read_first(given)),
+        "gen" => Ok(read_generate(given)),
+        "check" => Ok(read_check(given)),
+        "script" => Ok(read_script(given)),
+        _ => unreachable!(),
+    }
+}
+
+/// What the parser finds in the words.
+fn parse<'a>(alloc: Global, words: &'a [&'a str]) -> Result<ArgMatches<'a>, clap::Error>
+    ensures ok { IfOk result (λ matches. AreTaken (texts_of words.entry.now)
+        × (subcommand_rows_of matches ≡ subcommand_of program_app (texts_of words.entry.now))
+        × (has_subcommand matches ≡ true)) }
+    ensures known { IfOk result (λ matches. IfSome (subcommand_rows_of matches) IsKnown) }
+    ensures err { IfErr result (HasKind (fault_of program_app (texts_of words.entry.now))) }
+{
+    program(alloc)?.try_get_matches_from(words)
+}
+
+/// The line that what is given to `first` says.
+fn read_first<'a>(given: &ArgMatches<'a>) -> Line<'a>
+    requires { AreGiven (rows_of (found_of given.now)) first_parameters }
+    ensures { SaysLine (codes "first", rows_of (found_of given.now)) result }
+{
+    Line::First {
+        amount: number_or(given, "amount", DEFAULT_AMOUNT),
+    }
+}
+
+/// The line that what is given to `gen` says.
+fn read_generate<'a>(given: &ArgMatches<'a>) -> Line<'a>
+    requires { AreGiven (rows_of (found_of given.now)) generate_parameters }
+    ensures { SaysLine (codes "gen", rows_of (found_of given.now)) result }
+{
+    Line::Generate {
+        directory: text_given(given, "directory"),
+        warehouses: number_given(given, "warehouses"),
+        customers: number_given(given, "customers"),
+        items: number_given(given, "items"),
+    }
+}
+
+/// The line that what is given to `check` says.
+fn read_check<'a>(given: &ArgMatches<'a>) -> Line<'a>
+    requires { AreGiven (rows_of (found_of given.now)) check_parameters }
+    ensures { SaysLine (codes "check", rows_of (found_of given.now)) result }
+{
+    Line::Check {
+        directory: text_given(given, "directory"),
+    }
+}
+
+/// The line that what is given to `script` says.
+fn read_script<'a>(given: &ArgMatches<'a>) -> Line<'a>
+    requires { AreGiven (rows_of (found_of given.now)) script_parameters }
+    ensures says { SaysLine (codes "script", rows_of (found_of given.now)) result }
+    ensures limits { HasLimits result }
+{
+    Line::Script {
+        directory: text_given(given, "directory"),
+        file: text_given(given, "file"),
+        frames: number_or(given, "frames", DEFAULT_FRAMES),
+        kept: number_or(given, "kept", DEFAULT_KEPT),
+    }
+}

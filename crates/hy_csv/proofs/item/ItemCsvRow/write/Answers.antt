@@ -1,0 +1,11 @@
+use Rattle.std.proofs.Common.{◌∙◌}
+use Rattle.hy_csv.proofs.item.ItemCsvRow.write.Goals as goal
+
+pub returns : goal.returns
+returns c =
+    rw (
+      c.as_bytes.ensures.value ∙ c.format.ensures.text,
+      c.as_bytes-2.ensures.value ∙ c.format-2.ensures.text,
+      c.as_bytes-3.ensures.bytes,
+      c.as_bytes-4.ensures.value ∙ c.format-3.ensures.text,
+    ) at c.write_record.ensures

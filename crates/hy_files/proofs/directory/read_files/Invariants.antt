@@ -1,0 +1,16 @@
+use Rattle.std.proofs.Common.{◌≡◌, ◌≤◌, map, take}
+use Rattle.std.specs.Prelude.{vec_capacity, vec_len}
+use Rattle.hy_files.specs.Directory.{AreFiles, tables}
+use Rattle.hy_files.proofs.directory.read_files.Given as goal
+
+-- the texts so far are those of the first files
+abbrev pub invariant-loop-table : goal.invariant-loop-table
+invariant-loop-table g l = record {
+  files : g.F.FileSystem.files l.system ≡ g.F.FileSystem.files l.fn.system;
+  folders : g.F.FileSystem.folders l.system ≡ g.F.FileSystem.folders l.fn.system;
+  texts :
+      AreFiles (g.F.FileSystem.files l.fn.system) l.directory (take l.table-index tables)
+      (map (λ text. text.items) l.texts.items);
+  room : 9 ≤ vec_capacity l.texts;
+  len : vec_len l.texts ≡ l.table-index;
+}

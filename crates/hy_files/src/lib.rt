@@ -1,0 +1,12 @@
+//! The program's file system, and a load in the files of a directory.
+#![tactic(auto)]
+
+mod directory;
+mod file_system;
+mod load;
+mod memory;
+
+pub use directory::{FileFault, file_name};
+pub use file_system::{FileSystem, SystemFiles};
+pub use load::{read_load, write_load};
+pub use memory::MemoryFiles;

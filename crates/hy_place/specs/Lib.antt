@@ -1,6 +1,0 @@
-pub mod Directory
-pub mod Faults
-pub mod Files
-pub mod Loads
-pub mod Shelves
-pub mod WorkedRows
