@@ -42,8 +42,7 @@ pub fn run_first<'a, O: Output>(alloc: Global, amount: u64, out: &mut O) -> Resu
 }
 
 /// W_YTD of a generated warehouse after a payment of an amount in cents, in cents, as a snapshot behind the payment
-/// has it. E8 where the amount is out of range, E2 where the frames are too few for the rows, and E1 where memory is
-/// refused.
+/// has it. E8 where the amount is out of range, E2 where a frame lacks for the payment, and E1 where memory is refused.
 fn first(alloc: Global, amount: u64) -> Result<i64, Refusal>
     ensures ytd { IfOk result (IsYtdAfter amount) }
     ensures refused { IfErr result (IsFirstRefusal amount) }
