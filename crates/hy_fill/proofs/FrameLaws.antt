@@ -157,8 +157,8 @@ pages_in-bound n tables bytes size has =
     by_all_places (λ all. pages_in all ≤ frames_for n tables) bytes (omega (arith, has.all))
     (omega (arith, warehouses, districts, customers, history, new_orders, orders, lines, stock, of_orders, of_last, of_waiting, of_lines, none))
 
--- without rows there are two pages in each of twelve segments
-pub some_frames : (n : ℕ) (tables : Tables) → 24 ≤ frames_for n tables
+-- without rows there are two pages for each of eight tables, and three for each of four indexes
+pub some_frames : (n : ℕ) (tables : Tables) → 28 ≤ frames_for n tables
 unfolding frames_for
 some_frames n tables = omega arith
 

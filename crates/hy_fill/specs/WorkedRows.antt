@@ -33,13 +33,14 @@ last_backward = refl
 
 -- ---- frames
 
--- 100 orders: with pages of 256 bytes twelve rows of ORDER fit a page, 19 entries of their index and 23 of last orders.
--- So there are 8 + 2 pages of rows, 5 + 2 and 4 + 2 of entries, and two for each of nine other segments
-of_orders : frames_for 256 (record no_rows { orders = replicate 100 (order 1 2 7 30) }) ≡ 41
+-- 100 orders: with pages of 256 bytes twelve rows of ORDER fit a page. A page of their index has 4 of at most 19 entries
+-- at least, and one of last orders 5 of at most 22. So there are 8 + 2 pages of rows, 100 / 3 + 3 and 100 / 4 + 3 of
+-- entries, two for each of seven other tables and three for each of two other indexes
+of_orders : frames_for 256 (record no_rows { orders = replicate 100 (order 1 2 7 30) }) ≡ 94
 unfolding frames_for
 of_orders = refl
 
--- without rows two pages a segment
-of_none : frames_for 256 no_rows ≡ 24
+-- without rows two pages for each of eight tables, and three for each of four indexes
+of_none : frames_for 256 no_rows ≡ 28
 unfolding frames_for
 of_none = refl

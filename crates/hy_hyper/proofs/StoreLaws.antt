@@ -6,7 +6,8 @@ use Rattle.hy_undo.specs.UndoLog.{UndoLog, empty_log, undone}
 use Rattle.hy_undo.specs.PrivatePages.{GivesUpPages, IsUndoLog}
 use Rattle.hy_undo.proofs.PrivatePageLaws.{length-segment-owner_bytes}
 use Rattle.hy_undo.proofs.RollBackLaws.{undone-empty_log}
-use Rattle.hy_index.specs.Writes.{IsIndex, WritesSegment}
+use Rattle.hy_nodes.specs.Writes.{WritesSegment}
+use Rattle.hy_index.specs.Writes.{IsIndex}
 use Rattle.hy_relation.specs.Relation.{ChangesSegment}
 use Rattle.hy_hyper.specs.Stores.{AreStored, IsStore}
 

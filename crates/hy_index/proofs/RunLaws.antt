@@ -1,119 +1,119 @@
--- Entries one behind another in a list of bytes.
-use Rattle.std.proofs.Common.{◌≡◌, ℕ, ◌+◌, ◌-◌, ◌*◌, ◌%◌, ◌<◌, ◌≤◌, List, ◌++◌, length, take, drop, refl, sym, ap, ap₂, ◌∙◌, arith, inl, inr, length-drop}
-use Rattle.std.proofs.Math.Nat.{mul-le-mul_right}
-use Rattle.std.proofs.lemmas.Bool.{cases_lt, cases_eq}
-use Rattle.std.proofs.lemmas.List.{drop_at, drop-drop, drop-take, take-take, take-append-le, drop-append-le, take_all}
-use Rattle.hy_page.specs.Bytes.{bytes_at}
-use Rattle.hy_index.specs.inside.Layout.{entry_at, entry_offset, entry_page, list_at, per_page}
-use Rattle.hy_index.specs.inside.Moves.{IsRun, WritesRun}
-use Rattle.hy_index.proofs.LayoutLaws.{behind_on_page}
+-- Entries in order: of one page, and of the children of a page.
+use Rattle.std.proofs.Common.{◌≡◌, ℕ, zero, suc, ◌+◌, ◌-◌, ◌<◌, ◌≤◌, min, Bool, true, false, not, ◌&&◌, Option, None, Some, List, [], ◌∷◌, ◌++◌, length, map, flat_map, take, drop, slice_index_or, inl, inr, refl, sym, ap, ap₂, ◌∙◌, subst, arith, append_assoc, length-drop}
+use Rattle.std.proofs.lemmas.Bool.{cases_lt}
+use Rattle.std.proofs.Math.Seq.{drop-cons, take-suc}
+use Rattle.std.proofs.lemmas.List.{append-nil, drop-drop, get_or-drop, map-append, take-append-drop}
+use Rattle.std.proofs.lemmas.Grind.{flat_map-append}
+use Rattle.hy_trees.specs.Nodes.{Item, Node, no_item, node_at}
+use Rattle.hy_trees.specs.Trees.{BeginsFrom, IsFrom, IsSubtree, entries_under, is_less_bytes}
+use Rattle.hy_trees.specs.Searches.{between, first_from, is_between, is_from}
+use Rattle.hy_trees.proofs.PartLaws.{IsFrom-trans}
+use Rattle.hy_trees.proofs.PlaceLaws.{split_at}
+use Rattle.hy_trees.proofs.RangeLaws.{between-children, between-no_child}
+use Rattle.hy_trees.proofs.SearchLaws.{between-nothing}
+use Rattle.hy_nodes.specs.Nodes.{first_items, item_at, item_count, items_of, key_at}
+use Rattle.hy_nodes.specs.Places.{IsSought}
+use Rattle.hy_nodes.proofs.SequenceLaws.{filter-run, find-first, find-none, first_items-more}
 
--- a part of a part
-pub bytes_at-part : (bytes : List ℕ) (offset size from count : ℕ) → from + count ≤ size → bytes_at (bytes_at bytes offset size) from count ≡ bytes_at bytes (offset + from) count
-bytes_at-part bytes offset size from count within =
-    sym (drop-take from count (take size (drop offset bytes)))
-    ∙ ap (drop from) (take-take (from + count) size (drop offset bytes) within)
-    ∙ drop-take from count (drop offset bytes)
-    ∙ ap (take count) (drop-drop from offset bytes)
+never : (b : Bool) → (b && false) ≡ false
+never true = refl
+never false = refl
 
--- a part of the begin of a list
-pub bytes_at-front : (bytes : List ℕ) (size from count : ℕ) → from + count ≤ size → bytes_at (take size bytes) from count ≡ bytes_at bytes from count
-bytes_at-front bytes size from count within =
-    sym (drop-take from count (take size bytes))
-    ∙ ap (drop from) (take-take (from + count) size bytes within)
-    ∙ drop-take from count bytes
+-- the first item of a page from a key on
+module _ (kw : ℕ) (page key : List ℕ) (place : ℕ) (is_there : Bool) (sought : IsSought kw page key place is_there) where
+  pub first-in : place < item_count page → first_from key (items_of kw page) ≡ Some (item_at kw page place)
+  first-in within = find-first (is_from key) (item_at kw page) (item_count page) place within (λ k before. ap not (sought.bound.before k before)) (ap not (sought.bound.behind place (omega arith) within))
 
--- a part of the first of two lists, and of the second
-pub bytes_at-left : (one other : List ℕ) (from count : ℕ) → from + count ≤ length one → bytes_at (one ++ other) from count ≡ bytes_at one from count
-bytes_at-left one other from count within =
-    ap (take count) (drop-append-le from one other (omega arith))
-    ∙ take-append-le count (drop from one) other (omega (arith, length-drop from one))
+  pub first-out : item_count page ≤ place → first_from key (items_of kw page) ≡ None
+  first-out past = find-none (is_from key) (item_at kw page) (item_count page) (λ k within. ap not (sought.bound.before k (omega (arith, within, past))))
 
-pub bytes_at-right : (one other : List ℕ) (from count : ℕ) → bytes_at (one ++ other) (length one + from) count ≡ bytes_at other from count
-bytes_at-right one other from count =
-    ap (take count) (sym (drop-drop from (length one) (one ++ other)) ∙ ap (drop from) (drop_at one other (length one) refl))
+-- the items of a page between two keys
+pub between-in : (kw : ℕ) (page low high : List ℕ) (from to : ℕ) (from_there to_there : Bool) → IsSought kw page low from from_there → IsSought kw page high to to_there
+    → between low high (items_of kw page) ≡ first_items (λ k. item_at kw page (from + k)) (to - from)
+between-in kw page low high from to from_there to_there first last =
+    filter-run (is_between low high) (item_at kw page) from to (item_count page)
+    (λ k within before. ap (λ (b : Bool). not b && is_less_bytes (key_at kw page k) high) (first.bound.before k before))
+    (λ k within behind before. ap₂ (λ (b : Bool) (c : Bool). not b && c) (first.bound.behind k behind within) (last.bound.before k before))
+    (λ k within behind. ap (λ (c : Bool). is_from low (item_at kw page k) && c) (last.bound.behind k behind within) ∙ never (is_from low (item_at kw page k)))
+    ∙ ap (first_items (λ k. item_at kw page (from + k))) (let all : min to (item_count page) - from ≡ to - from = omega (arith, last.bound.within) in all)
 
--- the entries of a part of one page
-pub IsRun-page : (n width : ℕ) (pages : List (List ℕ)) (start end : ℕ) → start % per_page n width + (end - start) ≤ per_page n width → IsRun width (entry_at n width pages) start end (bytes_at (list_at pages (entry_page n width start)) (entry_offset n width start) ((end - start) * width))
-IsRun-page n width pages start end fits j within =
-    let per = per_page n width in
-    let place = behind_on_page per start j (omega arith) in
-    let ends : (j + 1) * width ≤ (end - start) * width = mul-le-mul_right width (omega arith) in
-    let offset : start % per * width + j * width ≡ (start + j) % per * width = omega arith ∙ ap (λ m. m * width) (sym place.1) in
-    bytes_at-part (list_at pages (entry_page n width start)) (entry_offset n width start) ((end - start) * width) (j * width) width (omega arith)
-    ∙ ap₂ (λ q from. bytes_at (list_at pages (1 + q)) from width) (sym place.0) offset
+-- one more item was appended
+pub pushed : {X Y : Type 0} (f : X → Y) (old now : List Y) (item : ℕ → X) (from k : ℕ) (y : Y) → from ≤ k → now ≡ old ++ map f (first_items (λ i. item (from + i)) (k - from)) → y ≡ f (item k)
+    → now ++ (y ∷ []) ≡ old ++ map f (first_items (λ i. item (from + i)) (k + 1 - from))
+pushed f old now item from k y within is_now is_y =
+    let before = first_items (λ i. item (from + i)) (k - from) in
+    ap₂ (λ front last. front ++ (last ∷ [])) is_now is_y
+    ∙ append_assoc old (map f before) (f (item k) ∷ [])
+    ∙ ap (λ all. old ++ all) (sym (map-append f before (item k ∷ [])) ∙ ap (map f) (first_items-more item from k before (item k) within refl refl))
 
--- so many entries, with the first or the last by itself
-pub run_split : (start end width : ℕ) → start < end → (end - 1 - start) * width + width ≡ (end - start) * width
-run_split start end width before =
-    let more : (end - 1 - start + 1) * width ≡ (end - start) * width = ap (λ m. m * width) (let one : end - 1 - start + 1 ≡ end - start = omega arith in one) in
-    omega (arith, more)
+-- what stands for the children from one place on, and for one more
+pub one_child_more : {Y : Type 0} (h : Item → List Y) (items : List Item) (from k : ℕ) → from ≤ k → k < length items
+    → flat_map h (take (k + 1 - from) (drop from items)) ≡ flat_map h (take (k - from) (drop from items)) ++ h (slice_index_or items k no_item)
+one_child_more h items from k within below =
+    let next : k + 1 - from ≡ suc (k - from) = omega (arith, within) in
+    let place : from + (k - from) ≡ k = omega (arith, within) in
+    ap (λ (count : ℕ). flat_map h (take count (drop from items))) next
+    ∙ ap (flat_map h) (take-suc (drop from items) (k - from) no_item (omega (arith, length-drop from items, within, below)))
+    ∙ flat_map-append h (take (k - from) (drop from items)) (slice_index_or (drop from items) (k - from) no_item ∷ [])
+    ∙ ap (λ (last : List _). flat_map h (take (k - from) (drop from items)) ++ last) (append-nil (h (slice_index_or (drop from items) (k - from) no_item)) ∙ ap h (get_or-drop from items (k - from) no_item ∙ ap (λ (at : ℕ). slice_index_or items at no_item) place))
 
-pub run_last : (start end width : ℕ) → start < end → (end - (start + 1)) * width + width ≡ (end - start) * width
-run_last start end width before =
-    let more : (end - (start + 1) + 1) * width ≡ (end - start) * width = ap (λ m. m * width) (let one : end - (start + 1) + 1 ≡ end - start = omega arith in one) in
-    omega (arith, more)
+-- those of one more child were appended
+pub more : {Y : Type 0} (f : Item → Y) (old now : List Y) (h : Item → List Item) (items : List Item) (from k : ℕ) → from ≤ k → k < length items → now ≡ old ++ map f (flat_map h (take (k - from) (drop from items)))
+    → (here : List Item) → here ≡ h (slice_index_or items k no_item) → now ++ map f here ≡ old ++ map f (flat_map h (take (k + 1 - from) (drop from items)))
+more f old now h items from k within below is_now here is_here =
+    let before = flat_map h (take (k - from) (drop from items)) in
+    ap₂ (λ front last. front ++ map f last) is_now is_here
+    ∙ append_assoc old (map f before) (map f (h (slice_index_or items k no_item)))
+    ∙ ap (λ all. old ++ all) (sym (map-append f before (h (slice_index_or items k no_item))) ∙ ap (map f) (sym (one_child_more h items from k within below)))
 
--- an entry, and others behind it
-pub IsRun-cons : (width : ℕ) (entry moved : ℕ → List ℕ) (start end : ℕ) (first behind page : List ℕ) → start < end → length first ≡ width → length behind ≡ (end - 1 - start) * width
-    → take (length first + length behind) page ≡ first ++ behind → first ≡ moved start → IsRun width entry start (end - 1) behind
-    → ((k : ℕ) → start ≤ k → k + 1 < end → entry k ≡ moved (k + 1)) → IsRun width moved start end page
-IsRun-cons width entry moved start end first behind page before one size begins is_first run same j within =
-    let split = run_split start end width before in
-    let total : length first + length behind ≡ (end - start) * width = omega (arith, one, size, split) in
-    let ends : (j + 1) * width ≤ (end - start) * width = mul-le-mul_right width (omega arith) in
-    sym (bytes_at-front page (length first + length behind) (j * width) width (omega arith))
-    ∙ ap (λ all. bytes_at all (j * width) width) begins
-    ∙ elim (cases_eq j 0) [
-      | inl none ↦
-          ap (λ from. bytes_at (first ++ behind) from width) (let begin : j * width ≡ 0 = ap (λ i. i * width) none ∙ omega arith in begin)
-          ∙ bytes_at-left first behind 0 width (omega arith)
-          ∙ take_all width first (omega arith)
-          ∙ is_first
-          ∙ ap moved (let here : start ≡ start + j = omega arith in here)
-      | inr some ↦
-          let offset : j * width ≡ length first + (j - 1) * width = (let back : (j - 1 + 1) * width ≡ j * width = ap (λ i. i * width) (omega arith) in omega arith) in
-          ap (λ from. bytes_at (first ++ behind) from width) offset
-          ∙ bytes_at-right first behind ((j - 1) * width) width
-          ∙ run (j - 1) (omega arith)
-          ∙ same (start + (j - 1)) (omega arith) (omega arith)
-          ∙ ap moved (let here : start + (j - 1) + 1 ≡ start + j = omega arith in here)
-    ]
+-- items behind a place begin from a key where the first of them does
+begins-at : (items : List Item) (to : ℕ) (end : List ℕ) → (to < length items → is_less_bytes (slice_index_or items to no_item).key end ≡ false) → BeginsFrom end (drop to items)
+begins-at [] zero end at_end = tt
+begins-at [] (suc to) end at_end = tt
+begins-at (item ∷ items) zero end at_end = at_end (omega arith)
+begins-at (item ∷ items) (suc to) end at_end = begins-at items to end (λ within. at_end (omega (arith, within)))
 
--- entries, and one behind them
-pub IsRun-snoc : (width : ℕ) (entry : ℕ → List ℕ) (start end : ℕ) (before last page : List ℕ) → start < end → length last ≡ width → length before ≡ (end - (start + 1)) * width
-    → take (length before + length last) page ≡ before ++ last → last ≡ entry end → IsRun width entry (start + 1) end before
-    → IsRun width (λ k. entry (k + 1)) start end page
-IsRun-snoc width entry start end before last page some one size begins is_last run j within =
-    let split = run_last start end width some in
-    let total : length before + length last ≡ (end - start) * width = omega (arith, one, size, split) in
-    let ends : (j + 1) * width ≤ (end - start) * width = mul-le-mul_right width (omega arith) in
-    sym (bytes_at-front page (length before + length last) (j * width) width (omega arith))
-    ∙ ap (λ all. bytes_at all (j * width) width) begins
-    ∙ elim (cases_lt (start + j + 1) end) [
-      | inl less ↦
-          let fits : (j + 1) * width ≤ (end - (start + 1)) * width = mul-le-mul_right width (omega arith) in
-          bytes_at-left before last (j * width) width (omega arith)
-          ∙ run j (omega arith)
-          ∙ ap entry (let here : start + 1 + j ≡ start + j + 1 = omega arith in here)
-      | inr behind ↦
-          let place : j ≡ end - (start + 1) = omega arith in
-          let offset : j * width ≡ length before + 0 = ap (λ i. i * width) place ∙ omega arith in
-          ap (λ from. bytes_at (before ++ last) from width) offset
-          ∙ bytes_at-right before last 0 width
-          ∙ take_all width last (omega arith)
-          ∙ is_last
-          ∙ ap entry (let here : end ≡ start + j + 1 = omega arith in here)
-    ]
+-- from one place to another
+run-is : (items : List Item) (from to : ℕ) → from < to → from < length items → take (to - from) (drop from items) ≡ slice_index_or items from no_item ∷ take (to - suc from) (drop (suc from) items)
+run-is items from to before within =
+    let more : to - from ≡ suc (to - suc from) = omega (arith, before) in
+    ap (λ (count : ℕ). take count (drop from items)) more
+    ∙ ap (take (suc (to - suc from))) (drop-cons items from no_item within)
 
--- only the begin of the bytes counts
-pub WritesRun-front : (n width : ℕ) (old new : List (List ℕ)) (start end : ℕ) (bytes : List ℕ) → WritesRun n width old new start end (take ((end - start) * width) bytes) → WritesRun n width old new start end bytes
-WritesRun-front n width old new start end bytes writes = record {
-  pages = writes.pages;
-  used = writes.used;
-  before = writes.before;
-  here = λ j within.
-      let ends : (j + 1) * width ≤ (end - start) * width = mul-le-mul_right width (omega arith) in
-      writes.here j within ∙ bytes_at-front bytes ((end - start) * width) (j * width) width (omega arith);
-  behind = writes.behind;
-}
+run-whole : (items : List Item) (from to : ℕ) → from < to → from < length items → items ≡ take from items ++ (slice_index_or items from no_item ∷ (take (to - suc from) (drop (suc from) items) ++ drop to items))
+run-whole items from to before within =
+    let rest = drop (suc from) items in
+    let at : suc from + (to - suc from) ≡ to = omega (arith, before) in
+    split_at items from within
+    ∙ ap (λ (all : List Item). take from items ++ (slice_index_or items from no_item ∷ all))
+    (sym (take-append-drop (to - suc from) rest) ∙ ap (λ (behind : List Item). take (to - suc from) rest ++ behind) (drop-drop (to - suc from) (suc from) items ∙ ap (λ (n : ℕ). drop n items) at))
+
+module _ (nodes : List Node) (fewest most : ℕ) (some : 0 < fewest) (depth top : ℕ) (low : List ℕ) (high : Option (List ℕ)) (page : ℕ) (tree : IsSubtree nodes fewest most (suc depth) top low high page) where
+  abbrev items : List Item
+  items = (node_at nodes page).items
+
+  -- the entries between two keys are those of the children from the place of one to that of the other
+  pub between-places : (start end : List ℕ) (from to : ℕ) → from < length items → to ≤ length items
+      → (0 < from → is_less_bytes start (slice_index_or items from no_item).key ≡ false)
+      → (to ≤ from → is_less_bytes (slice_index_or items from no_item).key end ≡ false)
+      → (to < length items → is_less_bytes (slice_index_or items to no_item).key end ≡ false)
+      → between start end (entries_under nodes (suc depth) page) ≡ flat_map (λ (i : Item). between start end (entries_under nodes depth i.number)) (take (to - from) (drop from items))
+  between-places start end from to within bound from_start past at_end = elim (cases_lt from to) [
+    | inl before ↦
+        between-children nodes fewest most some depth top low high page tree start end (take from items) (slice_index_or items from no_item) (take (to - suc from) (drop (suc from) items)) (drop to items)
+        (run-whole items from to before within)
+        (λ front. from_start (some_place items from front))
+        (begins-at items to end at_end)
+        ∙ ap (flat_map (λ (i : Item). between start end (entries_under nodes depth i.number))) (sym (run-is items from to before within))
+    | inr behind ↦
+        nothing from behind from_start (past behind)
+        ∙ ap (λ (count : ℕ). flat_map (λ (i : Item). between start end (entries_under nodes depth i.number)) (take count (drop from items))) (let none : 0 ≡ to - from = omega (arith, behind) in none)
+  ]
+    where
+      some_place : (items : List Item) (place : ℕ) → 0 < length (take place items) → 0 < place
+      some_place items zero front = absurd (omega (arith, front))
+      some_place items (suc place) front = omega arith
+
+      nothing : (at : ℕ) → to ≤ at → (0 < at → is_less_bytes start (slice_index_or items at no_item).key ≡ false) → is_less_bytes (slice_index_or items at no_item).key end ≡ false → between start end (entries_under nodes (suc depth) page) ≡ []
+      nothing zero behind above beyond = between-no_child nodes fewest most some depth top low high page tree start end (begins-at items 0 end (λ within. beyond))
+      nothing (suc at) behind above beyond = between-nothing start end (entries_under nodes (suc depth) page) (IsFrom-trans end (slice_index_or items (suc at) no_item).key start beyond (above (omega arith)))

@@ -1,14 +1,8 @@
 -- A finite map from keys to slots, as the list of its entries in the order of the keys.
 use Rattle.std.specs.Prelude.{◌≡◌, ℕ, Bool, true, not, ◌&&◌, List, ◌∷◌, ◌++◌, filter, find, Option}
-use Rattle.std.specs.Ordering.{is_lt, nat_cmp}
 use Rattle.std.specs.List.{AllPairs}
 use Rattle.std.specs.Option.{option_map}
-use Rattle.std.specs.Cmp.Lexicographic.{slice_cmp}
 use Rattle.hy_index.specs.declared.key.Entry.{Entry}
-
--- the first byte at which they differ is less, or one is a part of the other from its begin on and shorter
-abbrev pub is_less_bytes : List ℕ → List ℕ → Bool
-is_less_bytes one other = is_lt (slice_cmp nat_cmp one other)
 
 module _ {Key : Type 0} (is_less : Key → Key → Bool) where
   -- each key is less than all later ones, so that none is there twice

@@ -1,5 +1,7 @@
 pub mod Index
 pub mod KeyBytes
 pub mod Writes
+pub mod Searches
+pub mod Parts
 pub mod WorkedRows
-pub mod inside
+pub mod TreeRows

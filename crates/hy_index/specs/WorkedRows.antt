@@ -3,7 +3,8 @@ use Rattle.std.specs.Prelude.{◌≡◌, ℕ, Bool, true, None, Some, List, [], 
 use Rattle.std.proofs.Common.{refl}
 use Rattle.std.specs.Ordering.{is_lt, nat_cmp, ordering_then}
 use Rattle.hy_index.specs.declared.key.Entry.{Entry}
-use Rattle.hy_index.specs.Index.{between, first_from, found, is_less_bytes, with_entry, without}
+use Rattle.hy_index.specs.Index.{between, first_from, found, with_entry, without}
+use Rattle.hy_trees.specs.Trees.{is_less_bytes}
 use Rattle.hy_index.specs.KeyBytes.{high_bytes_of, high_number_of}
 
 record ExampleKey : Type 0 where

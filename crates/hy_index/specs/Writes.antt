@@ -1,40 +1,38 @@
--- The bytes of a segment as an index, and what writes into it leave.
-use Rattle.std.specs.Prelude.{◌≡◌, ◌≢◌, ℕ, ◌-◌, ◌*◌, ◌<◌, ◌≤◌, List, length, take}
-use Rattle.hy_space.specs.Space.{SpaceState, SameForChildren, owner_bytes}
-use Rattle.hy_undo.specs.UndoLog.{UndoLog}
-use Rattle.hy_undo.specs.PrivatePages.{UndoesTheSame}
+-- The bytes of a segment as an index, and the numbers of its pages.
+use Rattle.std.specs.Prelude.{◌≡◌, ℕ, ◌+◌, ◌≤◌, List, length, map, replicate}
+use Rattle.std.specs.List.{AllByRecursion}
+use Rattle.hy_trees.specs.Nodes.{Item, Node, capacity, least_items}
+use Rattle.hy_trees.specs.Trees.{IsTree, entries_under, height_of, most_pages, pages_under}
+use Rattle.hy_nodes.specs.Nodes.{nodes_of}
 use Rattle.hy_index.specs.declared.key.Entry.{Entry}
-use Rattle.hy_index.specs.inside.Layout.{HasEntries, IsSpelled, entry_at, entry_of, entry_width, first_items, list_at, most_pages, per_page, used}
 
--- the bytes of the owner's pages in one segment
-abbrev pub pages_of : SpaceState → ℕ → List (List ℕ)
-pages_of space segment = list_at (owner_bytes space) segment
+-- the items of the leaves, in order
+abbrev pub leaf_items : ℕ → List (List ℕ) → List Item
+leaf_items key_width pages = entries_under (nodes_of key_width pages) (height_of (nodes_of key_width pages)) 0
+
+-- an item as an entry
+abbrev pub entry_of : {Key : Type 0} → (List ℕ → Key) → Item → Entry Key
+entry_of key_of_bytes item = record { key = key_of_bytes item.key; slot = item.number }
 
 -- the entries that the pages of a segment say, of n bytes each, with keys of so many bytes
 unfoldable pub entries : {Key : Type 0} → ℕ → ℕ → (List ℕ → Key) → List (List ℕ) → List (Entry Key)
-entries n key_width key_of_bytes pages =
-    first_items (λ k. entry_of key_width key_of_bytes (entry_at n (entry_width key_width) pages k)) (used pages)
+entries n key_width key_of_bytes pages = map (entry_of key_of_bytes) (leaf_items key_width pages)
 
--- the pages of a segment are an index: they have entries in order, and each is that of a key
+-- bytes are those of a key
+pub record IsSpelled {Key : Type 0} (bytes_of_key : Key → List ℕ) (key_of_bytes : List ℕ → Key) (IsKey : Key → Type 0)
+    (bytes : List ℕ) : Type 0 where
+  pub is_key : IsKey (key_of_bytes bytes)
+  pub same : bytes_of_key (key_of_bytes bytes) ≡ bytes
+
+-- the pages of a segment are an index: they are a tree, whose entries are in order, and each entry is that of a key
 pub record IsIndex {Key : Type 0} (n key_width : ℕ) (bytes_of_key : Key → List ℕ) (key_of_bytes : List ℕ → Key)
     (IsKey : Key → Type 0) (pages : List (List ℕ)) : Type 0 where
-  pub has : HasEntries n key_width pages
-  pub keys : (k : ℕ) → k < used pages → IsSpelled bytes_of_key key_of_bytes IsKey
-      (take key_width (entry_at n (entry_width key_width) pages k))
-
--- writes through the undo log into one segment, also where the last one was refused: undoing gives what it gave, no
--- child sees a change, the page counts of the begin and the limit of frames stay, and so does every other segment
-pub record WritesSegment (n segment : ℕ) (old new : SpaceState) (before after : UndoLog) : Type 0 where
-  pub undoes : UndoesTheSame n old new before after
-  pub counts : after.counts ≡ before.counts
-  pub children : SameForChildren old new
-  pub limit : new.frames.max ≡ old.frames.max
-  pub segments : length new.owner ≡ length old.owner
-  pub others : (other : ℕ) → other ≢ segment → pages_of new other ≡ pages_of old other
+  pub tree : IsTree (least_items n key_width) (capacity n key_width) (replicate key_width 0) (nodes_of key_width pages)
+  pub keys : AllByRecursion (λ item. IsSpelled bytes_of_key key_of_bytes IsKey item.key) (leaf_items key_width pages)
 
 -- the pages are no more than those of an index that never had more than so many entries
 abbrev pub HasPagesFor : ℕ → ℕ → ℕ → List (List ℕ) → Type 0
-HasPagesFor n key_width count pages = length pages ≤ most_pages n (entry_width key_width) count
+HasPagesFor n key_width count pages = length pages ≤ most_pages (least_items n key_width) count
 
 -- a change of an index that has so many entries adds no page without need: where its pages were no more than those for
 -- some number of entries, and this was no less, they are no more still
@@ -42,6 +40,10 @@ abbrev pub KeepsPagesFor : ℕ → ℕ → ℕ → List (List ℕ) → List (Lis
 KeepsPagesFor n key_width count old new =
     (most : ℕ) → count ≤ most → HasPagesFor n key_width most old → HasPagesFor n key_width most new
 
--- so many entries fill the pages, so that another one wants a page more
+-- so many entries fill a leaf, and the free pages may be fewer than those that the splits for another entry take
+pub record IsFull (most count : ℕ) (nodes : List Node) : Type 0 where
+  pub entries : most ≤ count
+  pub few : length nodes ≤ length (pages_under nodes (height_of nodes) 0) + (height_of nodes + 3)
+
 abbrev pub FillsPages : ℕ → ℕ → ℕ → List (List ℕ) → Type 0
-FillsPages n key_width count pages = count ≡ per_page n (entry_width key_width) * (length pages - 1)
+FillsPages n key_width count pages = IsFull (capacity n key_width) count (nodes_of key_width pages)

@@ -4,9 +4,10 @@ ghost use Rattle.std.specs.Prelude.{◌≡◌, ◌+◌, ◌^◌, ◌<◌, ◌≤
 ghost use Rattle.arrayvec.specs.ArrayVec.{array_vec_len};
 ghost use Rattle.hy_page.specs.Bytes.{bytes_at};
 ghost use Rattle.hy_index.specs.KeyBytes.{high_bytes_of, high_number_of};
-ghost use Rattle.hy_index.specs.declared.key.TheConstants.{MAX_KEY_BYTES};
+ghost use Rattle.hy_nodes.specs.declared.key.TheConstants.{MAX_KEY_BYTES};
 
-use crate::key::KeyBytes;
+use hy_nodes::KeyBytes;
+pub use hy_nodes::push_bytes;
 
 /// Appends the lowest `width` bytes of a number, the highest first.
 pub fn push_number(key: &mut KeyBytes, number: u64, width: usize)
@@ -18,17 +19,6 @@ pub fn push_number(key: &mut KeyBytes, number: u64, width: usize)
     let digits = number.to_be_bytes();
     let whole = &digits[..];
     push_bytes(key, &whole[8 - width..]);
-}
-
-/// Appends bytes, as those of a text that has its width.
-pub fn push_bytes(key: &mut KeyBytes, bytes: &[u8])
-    requires { array_vec_len key.old + length bytes.now ≤ MAX_KEY_BYTES }
-    ensures bytes { key.new.items ≡ key.old.items ++ bytes.now }
-    ensures len { array_vec_len key.new ≡ array_vec_len key.old + length bytes.now }
-{
-    for byte in bytes {
-        key.push(*byte);
-    }
 }
 
 /// The number that the `width` bytes from an offset on spell, the highest first.

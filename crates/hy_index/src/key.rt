@@ -2,19 +2,10 @@
 
 ghost use Rattle.std.specs.Prelude.{◌≡◌, ℕ, ◌+◌, ◌≤◌, ◌++◌, Bool, List, length};
 ghost use Rattle.arrayvec.specs.ArrayVec.{array_vec_len};
-ghost use Rattle.hy_index.specs.Index.{is_less_bytes};
-ghost use Rattle.hy_index.specs.declared.key.TheConstants.{MAX_KEY_BYTES};
+ghost use Rattle.hy_trees.specs.Trees.{is_less_bytes};
+ghost use Rattle.hy_nodes.specs.declared.key.TheConstants.{MAX_KEY_BYTES};
 
-use arrayvec::ArrayVec;
-
-/// How many bytes a key has at most.
-pub const MAX_KEY_BYTES: usize = 48;
-
-/// The bytes of a key, as they are put together.
-pub type KeyBytes = ArrayVec<u8, MAX_KEY_BYTES>;
-
-/// The bytes of an entry: those of its key, and its slot.
-pub(crate) type EntryBytes = ArrayVec<u8, 56>;
+use hy_nodes::KeyBytes;
 
 /// A key and its slot.
 #[derive(Clone, Copy, Debug)]

@@ -1,29 +1,31 @@
 //! Finite maps from keys to slots on the pages of a space, with their keys in order.
 #![tactic(auto)]
 
-ghost use Rattle.std.specs.Prelude.{◌≡◌, ℕ, ◌+◌, ◌<◌, ◌≤◌, ◌↔◌, ◌⊎◌, [], length, None, IsSome, OnOk, OnErr, IfOk, IsOk, IsErrOf};
+ghost use Rattle.std.specs.Prelude.{◌≡◌, ℕ, ◌+◌, ◌^◌, ◌<◌, ◌≤◌, ◌↔◌, ◌⊎◌, [], length, None, IsSome, OnOk, OnErr, IfOk, IsOk, IsErrOf};
 ghost use Rattle.hy_frames.specs.FrameTable.{free_of};
 ghost use Rattle.hy_space.specs.Space.{page_count};
 ghost use Rattle.hy_undo.specs.PrivatePages.{IsUndoLog};
 ghost use Rattle.hy_undo.specs.Writes.{HasChild, IsOutOfFrames};
 ghost use Rattle.hy_index.specs.Index.{IsInOrder, between, first_from, found, with_entry, without};
-ghost use Rattle.hy_index.specs.Writes.{FillsPages, IsIndex, KeepsPagesFor, WritesSegment, entries, entries as entries_of, pages_of};
-ghost use Rattle.hy_index.specs.inside.Layout.{entry_at, entry_of, entry_width, used};
-ghost use Rattle.hy_index.specs.inside.Bounds.{IsSought};
+ghost use Rattle.hy_index.specs.Writes.{FillsPages, IsIndex, KeepsPagesFor, entries, entries as entries_of};
+ghost use Rattle.hy_nodes.specs.Writes.{WritesSegment, pages_of};
 
 use hy_frames::Shortage;
+use hy_nodes::Tree;
 use hy_space::Space;
 use hy_undo::Undo;
 use std::alloc::{AllocError, Global};
 use std::marker::{Model, PhantomData};
 
 pub mod codec;
+mod edit;
 mod key;
-mod moves;
-mod places;
+mod range;
+mod search;
 
-pub use key::{Entry, Key, KeyBytes, MAX_KEY_BYTES};
-use places::{SLOT_BYTES, Sought};
+pub use hy_nodes::{KeyBytes, MAX_KEY_BYTES};
+pub use key::{Entry, Key};
+pub use search::Reads;
 
 /// A map from keys to slots, in one segment of a space.
 #[derive(Clone, Copy)]
@@ -91,12 +93,27 @@ impl<K: Key> Index<K> {
         ensures { result ≡ found K.is_less key.now
             (entries N K.BYTES K.key_of_bytes (pages_of space.now self.now)) }
     {
+        self.find_counted(space, key, &mut Reads::new())
+    }
+
+    /// The slot of a key, if the key is there. The pages that are read are counted: where so many binary digits spell
+    /// the number of entries, they are no more than 2 and these.
+    pub fn find_counted<const N: usize>(
+        &self,
+        space: &Space<N>,
+        key: &K,
+        reads: &mut Reads,
+    ) -> Option<u64>
+        requires there { self.now < length space.now.owner }
+        requires index { IsIndex N K.BYTES K.bytes_of_key K.key_of_bytes K.IsKey
+            (pages_of space.now self.now) }
+        ensures value { result ≡ found K.is_less key.now
+            (entries N K.BYTES K.key_of_bytes (pages_of space.now self.now)) }
+        ensures reads { (digits : ℕ) → length (entries N K.BYTES K.key_of_bytes (pages_of space.now self.now))
+            < 2 ^ digits → reads.new ≤ reads.old + 2 + digits }
+    {
         let bytes = bytes_of(key);
-        let sought = self.seek(space, key, bytes.as_slice());
-        if sought.is_there {
-            return Some(self.entry(space, sought.place).slot);
-        }
-        None
+        search::slot_of(self.tree(), space, bytes.as_slice(), reads)
     }
 
     /// The first entry whose key isn't below this one.
@@ -108,11 +125,8 @@ impl<K: Key> Index<K> {
             (entries N K.BYTES K.key_of_bytes (pages_of space.now self.now)) }
     {
         let bytes = bytes_of(key);
-        let sought = self.seek(space, key, bytes.as_slice());
-        if sought.place < places::used(space, self.segment) {
-            return Some(self.entry(space, sought.place));
-        }
-        None
+        let tree = self.tree();
+        range::first_under(tree, space, 0, tree.height(space), bytes.as_slice())
     }
 
     /// The entries from one key on that are below another.
@@ -152,14 +166,18 @@ impl<K: Key> Index<K> {
             (entries_of N K.BYTES K.key_of_bytes (pages_of space.now self.now))) }
     {
         let low_bytes = bytes_of(low);
-        let first = self.seek(space, low, low_bytes.as_slice());
         let high_bytes = bytes_of(high);
-        let end = self.seek(space, high, high_bytes.as_slice());
         entries.clear();
-        for k in first.place..end.place {
-            entries.push(self.entry(space, k))?;
-        }
-        Ok(())
+        let tree = self.tree();
+        range::push_between(
+            tree,
+            space,
+            0,
+            tree.height(space),
+            low_bytes.as_slice(),
+            high_bytes.as_slice(),
+            entries,
+        )
     }
 
     /// Gives a key a slot, in the place of the one that it had.
@@ -194,12 +212,7 @@ impl<K: Key> Index<K> {
             (pages_of space.old self.now))) (pages_of space.old self.now) }
     {
         let bytes = bytes_of(key);
-        let sought = self.seek(space, key, bytes.as_slice());
-        let entry = moves::entry_with(bytes.as_slice(), slot);
-        if sought.is_there {
-            return moves::write_entry(space, undo, self.segment, sought.place, entry.as_slice());
-        }
-        moves::add(space, undo, self.segment, sought.place, entry.as_slice())
+        edit::insert(self.tree(), space, undo, bytes.as_slice(), slot)
     }
 
     /// Takes a key's entry away, if it has one.
@@ -226,40 +239,16 @@ impl<K: Key> Index<K> {
         ensures no_frame { IsErrOf result Shortage.NoFrame → IsOutOfFrames space.new }
     {
         let bytes = bytes_of(key);
-        let sought = self.seek(space, key, bytes.as_slice());
-        if sought.is_there {
-            let width = K::BYTES + SLOT_BYTES;
-            return moves::take_out(space, undo, self.segment, width, sought.place);
-        }
-        Ok(())
+        edit::remove(self.tree(), space, undo, bytes.as_slice())
     }
 
-    /// Where a key stands, or would stand, by its bytes.
-    fn seek<const N: usize>(&self, space: &Space<N>, key: &K, bytes: &[u8]) -> Sought
-        requires there { self.now < length space.now.owner }
-        requires index { IsIndex N K.BYTES K.bytes_of_key K.key_of_bytes K.IsKey
-            (pages_of space.now self.now) }
-        requires bytes { bytes.now ≡ K.bytes_of_key key.now }
-        requires is_key { K.IsKey key.now }
-        ensures { IsSought N K.BYTES (pages_of space.now self.now) (K.bytes_of_key key.now)
-            result.place result.is_there }
+    /// The pages.
+    fn tree(&self) -> Tree
+        ensures { result ≡ record { segment = self.now; key_bytes = K.BYTES } }
     {
-        places::seek(space, self.segment, bytes)
-    }
-
-    /// The entry at a place.
-    fn entry<const N: usize>(&self, space: &Space<N>, place: u64) -> Entry<K>
-        requires there { self.now < length space.now.owner }
-        requires index { IsIndex N K.BYTES K.bytes_of_key K.key_of_bytes K.IsKey
-            (pages_of space.now self.now) }
-        requires within { place < used (pages_of space.now self.now) }
-        ensures { result ≡ entry_of K.BYTES K.key_of_bytes
-            (entry_at N (entry_width K.BYTES) (pages_of space.now self.now) place) }
-    {
-        let bytes = places::entry(space, self.segment, K::BYTES + SLOT_BYTES, place);
-        Entry {
-            key: K::decode(&bytes[..K::BYTES]),
-            slot: hy_page::number(&bytes[K::BYTES..]),
+        Tree {
+            segment: self.segment,
+            key_bytes: K::BYTES,
         }
     }
 }

@@ -13,9 +13,10 @@ use Rattle.hy_undo.specs.UndoLog.{UndoLog}
 use Rattle.hy_relation.specs.Relation.{ChangesSegment}
 use Rattle.hy_relation.proofs.TablesLaws.{has_tables-changed, tables_respelled}
 use Rattle.hy_index.specs.declared.key.Entry.{Entry}
-use Rattle.hy_index.specs.Writes.{IsIndex, WritesSegment, entries, pages_of}
+use Rattle.hy_nodes.specs.Writes.{WritesSegment, pages_of}
+use Rattle.hy_index.specs.Writes.{IsIndex, entries}
 use Rattle.hy_store.specs.Keys.{IsCustomerKey, IsLineKey, IsOrderKey, IsWaitingKey, customer_key_bytes, customer_key_of, line_key_bytes, line_key_of, order_key_bytes, order_key_of, waiting_key_bytes, waiting_key_of}
-use Rattle.hy_store.specs.Stored.{HasAllRows, HasIndexSegments, HasStore, Stored, all_segments, last_order_index, line_index, order_index, stored, waiting_index}
+use Rattle.hy_store.specs.Stored.{AreIndexes, HasAllRows, HasIndexSegments, HasStore, Stored, all_segments, last_order_index, line_index, order_index, stored, waiting_index}
 use Rattle.hy_store.specs.Writes.{stored_in}
 use Rattle.hy_store.specs.inside.Places.{only_place}
 use Rattle.hy_store.proofs.SlotLaws.{has_all_rows, live_rows-all, slots-all_rows}
@@ -76,6 +77,7 @@ module _ (n segment width : ℕ) (table : IsTable segment width) (old new : List
 
   -- it is a store still
   pub store-changed : (segment ≢ new_order_segment → HasAllRows n width (list_at new segment)) → HasStore n new
+  unfolding AreIndexes
   store-changed all = record {
     all = omega (arith, store.all, changes.segments);
     tables = tables-kept;
@@ -148,6 +150,7 @@ module _ {Key : Type 0} (n segment width : ℕ) (bytes_of_key : Key → List ℕ
   beside s w table = others s (let below : s < segments = segment_there s w table in omega (arith, below, behind))
 
   pub store-indexed : IsIndex n width bytes_of_key key_of_bytes IsKey (pages_of new place) → HasStore n (owner_bytes new)
+  unfolding AreIndexes
   store-indexed is_index = record {
     all = omega (arith, store.all, lengths);
     tables = record {

@@ -3,6 +3,8 @@ use Rattle.std.specs.Prelude.{◌≡◌, ℕ, ◌+◌, ◌/◌, ◌≤◌, Some,
 use Rattle.hy_rows.specs.Spelling.{IsTable, list_at, row_widths, segments, slots_per_page, used_slots}
 use Rattle.hy_space.specs.Space.{SpaceState, owner_bytes}
 use Rattle.hy_relation.specs.Relation.{HasFewPages}
+use Rattle.hy_trees.specs.Nodes.{least_items}
+use Rattle.hy_trees.specs.Trees.{most_pages}
 use Rattle.hy_store.specs.Stored.{all_segments}
 
 -- how many pages a table has at most of which so many slots are used: its page 0, those that the slots fill, and one
@@ -13,7 +15,7 @@ row_pages n row_bytes slots = slots / slots_per_page n row_bytes + 2
 -- how many pages an index has at most that never had more than so many entries, each of them the bytes of a key and
 -- eight more
 abbrev pub index_pages : ℕ → ℕ → ℕ → ℕ
-index_pages n key_bytes entries = entries / (n / (key_bytes + 8)) + 2
+index_pages n key_bytes entries = most_pages (least_items n key_bytes) entries
 
 -- how many bytes a key of each index has, by the order of their segments
 abbrev pub key_widths : List ℕ

@@ -77,6 +77,10 @@ pub record HasIndexSegments (n : ℕ) (bytes : List (List (List ℕ))) : Type 0 
   pub waiting : IsIndex n 5 waiting_key_bytes waiting_key_of IsWaitingKey (list_at bytes waiting_index)
   pub lines : IsIndex n 6 line_key_bytes line_key_of IsLineKey (list_at bytes line_index)
 
+-- the same as one word: a search for a proof looks into it only where it is named as unfolding
+unfoldable pub AreIndexes : ℕ → List (List (List ℕ)) → Type 0
+AreIndexes n bytes = HasIndexSegments n bytes
+
 -- the bytes are those of a store, with pages of n bytes: all segments are there, those of the tables with their slots,
 -- no table but NEW-ORDER has erased one, and the others are indexes
 pub record HasStore (n : ℕ) (bytes : List (List (List ℕ))) : Type 0 where
@@ -84,4 +88,4 @@ pub record HasStore (n : ℕ) (bytes : List (List (List ℕ))) : Type 0 where
   pub tables : HasTables n bytes
   pub keeps : (segment row_bytes : ℕ) → IsTable segment row_bytes → segment ≢ new_order_segment
       → HasAllRows n row_bytes (list_at bytes segment)
-  pub indexes : HasIndexSegments n bytes
+  pub indexes : AreIndexes n bytes

@@ -1,5 +1,5 @@
 -- What the checker computes: keys in their order and as bytes, and what the bytes of some pages say.
-use Rattle.std.specs.Prelude.{◌≡◌, ℕ, zero, suc, true, false, None, Some, List, [], ◌∷◌}
+use Rattle.std.specs.Prelude.{◌≡◌, ℕ, zero, suc, true, false, None, Some, List, [], ◌∷◌, ◌++◌}
 use Rattle.std.proofs.Common.{refl, arith}
 use Rattle.std.proofs.lemmas.Bool.{false≢true}
 use Rattle.hy_rows.specs.declared.new_order.NewOrder.{NewOrder}
@@ -98,9 +98,9 @@ one = 1 ∷ 0 ∷ 0 ∷ 0 ∷ 0 ∷ 0 ∷ 0 ∷ 0 ∷ []
 abbrev new_orders : List (List ℕ)
 new_orders = two ∷ (0 ∷ 5 ∷ 0 ∷ 0 ∷ 0 ∷ 3 ∷ 1 ∷ 1 ∷ 6 ∷ 0 ∷ 0 ∷ 0 ∷ 3 ∷ 1 ∷ []) ∷ []
 
--- an entry for order 6 of district 3, with slot 1
+-- a tree of one page: an entry for order 6 of district 3, with slot 1
 abbrev undelivered : List (List ℕ)
-undelivered = one ∷ (3 ∷ 0 ∷ 0 ∷ 0 ∷ 6 ∷ 1 ∷ 0 ∷ 0 ∷ 0 ∷ 0 ∷ 0 ∷ 0 ∷ 0 ∷ []) ∷ []
+undelivered = (one ++ 3 ∷ 0 ∷ 0 ∷ 0 ∷ 6 ∷ 1 ∷ 0 ∷ 0 ∷ 0 ∷ 0 ∷ 0 ∷ 0 ∷ 0 ∷ []) ∷ []
 
 abbrev sixth : NewOrder
 sixth = record { order = 6; district = 3; warehouse = 1 }

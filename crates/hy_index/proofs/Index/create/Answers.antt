@@ -1,8 +1,8 @@
 use Rattle.std.proofs.Common.{◌≡◌, ℕ, List, [], ◌∷◌, ◌++◌, length, replicate, ap, refl, subst, ◌∙◌, arith}
 use Rattle.hy_space.specs.Space.{GrowsPage}
-use Rattle.hy_index.specs.Writes.{pages_of}
-use Rattle.hy_index.proofs.SpaceLaws.{length-pages_of}
-use Rattle.hy_index.proofs.WriteLaws.{pages-grown}
+use Rattle.hy_nodes.specs.Writes.{pages_of}
+use Rattle.hy_nodes.proofs.SpaceLaws.{length-pages_of}
+use Rattle.hy_nodes.proofs.WriteLaws.{pages-grown}
 use Rattle.hy_index.proofs.IndexLaws.{empty-entries, empty-index}
 use Rattle.hy_index.proofs.Index.create.Goals as goal
 use Rattle.hy_index.proofs.Index.create.Given as given
@@ -20,10 +20,10 @@ pages g c =
     ∙ ap (λ (front : List (List ℕ)). front ++ replicate g.row.N 0 ∷ []) (no_page (pages_of old c.args.self.now) (length-pages_of old c.args.self.now c.requires.there ∙ c.requires.none))
 
 pub returns-clause-index : goal.returns-clause-index
-returns-clause-index g c = empty-index g.row.N g.K.Key.BYTES g.K.Key.bytes_of_key g.K.Key.key_of_bytes g.K.Key.IsKey c.grow.new.space c.args.self.now (omega arith) (pages g c)
+returns-clause-index g c = empty-index g.row.N g.K.Key.BYTES g.K.Key.bytes_of_key g.K.Key.key_of_bytes g.K.Key.IsKey (pages_of c.grow.new.space c.args.self.now) (omega (arith, c.sound.ensures.size.smallest)) (pages g c)
 
 pub returns-clause-empty : goal.returns-clause-empty
-returns-clause-empty g c = empty-entries g.row.N g.K.Key.BYTES g.K.Key.bytes_of_key g.K.Key.key_of_bytes g.K.Key.IsKey c.grow.new.space c.args.self.now (omega arith) (pages g c)
+returns-clause-empty g c = empty-entries g.row.N g.K.Key.BYTES g.K.Key.bytes_of_key g.K.Key.key_of_bytes g.K.Key.IsKey (pages_of c.grow.new.space c.args.self.now) (omega (arith, c.sound.ensures.size.smallest)) (pages g c)
 
 pub returns-clause-pages : goal.returns-clause-pages
 returns-clause-pages g c = ap length (pages g c)

@@ -1,20 +1,25 @@
-use Rattle.std.proofs.Common.{ℕ, ◌≡◌, ◌<◌, ◌≤◌, ap, sym, subst, ◌∙◌, Some}
-use Rattle.hy_index.specs.Writes.{pages_of}
-use Rattle.hy_index.specs.inside.Layout.{entry_at, entry_of, entry_width, used}
-use Rattle.hy_index.proofs.IndexLaws.{first-none, first-some}
+use Rattle.std.proofs.Common.{ℕ, ◌<◌, ◌≤◌, length, ap, sym, subst, ◌∙◌, arith, rules, inl, inr}
+use Rattle.std.proofs.lemmas.Result.{on_ok_weaker}
+use Rattle.hy_undo.proofs.WriteLaws.{both_on_ok}
+use Rattle.hy_nodes.specs.declared.pages.Tree.{Tree}
+use Rattle.hy_trees.specs.Trees.{entries_under, height_of}
+use Rattle.hy_trees.specs.Searches.{between, first_from}
+use Rattle.std.specs.Option.{option_map}
+use Rattle.std.proofs.Common.{List, map}
+use Rattle.hy_nodes.specs.Pages.{nodes_in}
+use Rattle.hy_nodes.specs.Ways.{HasTree}
+use Rattle.hy_index.specs.Parts.{IsPartAt}
+use Rattle.hy_index.specs.Writes.{entry_of}
+use Rattle.hy_index.proofs.PartLaws.{whole-tree}
+use Rattle.hy_index.proofs.CallLaws.{first-index}
 use Rattle.hy_index.proofs.Index.first_from.Goals as goal
 
-pub returns-then-sought-used : goal.returns-then-sought-used
-returns-then-sought-used g c =
-    let segment : c.self.inside.segment ≡ c.args.self.now = c.self.view_is in
-    let count : c.used.result ≡ used (pages_of c.args.space.now c.args.self.now) = subst (λ (s : ℕ). c.used.result ≡ used (pages_of c.args.space.now s)) segment c.used.ensures in
-    let within : c.seek-sought.result.place < used (pages_of c.args.space.now c.args.self.now) = subst (λ (all : ℕ). c.seek-sought.result.place < all) count c.if-sought-used.true in
-    ap Some {y = entry_of g.K.Key.BYTES g.K.Key.key_of_bytes (entry_at g.row.N (entry_width g.K.Key.BYTES) (pages_of c.args.space.now c.args.self.now) c.seek-sought.result.place)} c.entry.ensures
-    ∙ sym (first-some g.row.N g.K.Key.BYTES g.K.Key.bytes_of_key g.K.Key.key_of_bytes g.K.Key.IsKey g.K.Key.is_less g.met.K.Key.ordered c.args.space.now c.args.self.now c.requires.index c.args.key.now c.bytes_of-bytes.ensures.is_key c.seek-sought.result.place c.seek-sought.result.is_there c.seek-sought.ensures within)
+pub first_under-requires : goal.first_under-requires
+first_under-requires g c =
+    (omega arith, (subst (λ (t : Tree). t.segment < length c.args.space.now.owner) (sym c.tree-tree.ensures) c.requires.there, (ap (λ (t : Tree). t.key_bytes) c.tree-tree.ensures, (ap length (c.as_slice.ensures.value ∙ c.bytes_of-bytes.ensures.bytes) ∙ g.met.K.Key.width c.args.key.now c.bytes_of-bytes.ensures.is_key ∙ sym (ap (λ (t : Tree). t.key_bytes) c.tree-tree.ensures), subst (λ (d : ℕ). IsPartAt g.row.N c.args.space.now c.tree-tree.result d 0) (sym c.height.ensures) (whole-tree g.row.N c.args.space.now c.tree-tree.result (subst (λ (t : Tree). HasTree g.row.N c.args.space.now t) (sym c.tree-tree.ensures) c.requires.index.tree))))))
 
 pub returns : goal.returns
 returns g c =
-    let segment : c.self.inside.segment ≡ c.args.self.now = c.self.view_is in
-    let count : c.used.result ≡ used (pages_of c.args.space.now c.args.self.now) = subst (λ (s : ℕ). c.used.result ≡ used (pages_of c.args.space.now s)) segment c.used.ensures in
-    let past : used (pages_of c.args.space.now c.args.self.now) ≤ c.seek-sought.result.place = subst (λ (all : ℕ). all ≤ c.seek-sought.result.place) count c.if-sought-used.false in
-    sym (first-none g.row.N g.K.Key.BYTES g.K.Key.bytes_of_key g.K.Key.key_of_bytes g.K.Key.IsKey g.K.Key.is_less g.met.K.Key.ordered c.args.space.now c.args.self.now c.requires.index c.args.key.now c.bytes_of-bytes.ensures.is_key c.seek-sought.result.place c.seek-sought.result.is_there c.seek-sought.ensures past)
+    c.first_under.ensures
+    ∙ ap (λ (d : ℕ). option_map (entry_of g.K.Key.key_of_bytes) (first_from c.as_slice.result.now (entries_under (nodes_in c.args.space.now c.tree-tree.result) d 0))) c.height.ensures
+    ∙ first-index g.row.N g.K.Key.BYTES c.args.self.now g.K.Key.bytes_of_key g.K.Key.key_of_bytes g.K.Key.IsKey g.K.Key.is_less g.met.K.Key.ordered g.met.K.Key.reads_back c.args.space.now c.requires.index c.tree-tree.result c.tree-tree.ensures c.args.key.now c.bytes_of-bytes.ensures.is_key c.as_slice.result.now (c.as_slice.ensures.value ∙ c.bytes_of-bytes.ensures.bytes)

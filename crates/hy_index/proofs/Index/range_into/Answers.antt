@@ -1,28 +1,28 @@
-use Rattle.std.proofs.Common.{◌≡◌, ◌+◌, ◌-◌, ℕ, ap, sym, ◌∙◌, arith}
-use Rattle.hy_index.specs.declared.key.Entry.{Entry}
-use Rattle.hy_index.specs.Writes.{pages_of}
-use Rattle.hy_index.specs.inside.Layout.{entry_at, entry_of, entry_width, first_items}
-use Rattle.hy_index.proofs.SequenceLaws.{first_items-more}
-use Rattle.hy_index.proofs.IndexLaws.{between-is}
+use Rattle.std.proofs.Common.{ℕ, ◌<◌, ◌≤◌, length, ap, sym, subst, ◌∙◌, arith, rules, inl, inr}
+use Rattle.std.proofs.lemmas.Result.{on_ok_weaker}
+use Rattle.hy_undo.proofs.WriteLaws.{both_on_ok}
+use Rattle.hy_nodes.specs.declared.pages.Tree.{Tree}
+use Rattle.hy_trees.specs.Trees.{entries_under, height_of}
+use Rattle.hy_trees.specs.Searches.{between, first_from}
+use Rattle.std.specs.Option.{option_map}
+use Rattle.std.proofs.Common.{List, map}
+use Rattle.hy_nodes.specs.Pages.{nodes_in}
+use Rattle.hy_nodes.specs.Ways.{HasTree}
+use Rattle.hy_index.specs.Parts.{IsPartAt}
+use Rattle.hy_index.specs.Writes.{entry_of}
+use Rattle.hy_index.proofs.PartLaws.{whole-tree}
+use Rattle.std.proofs.Common.{[], ◌++◌}
+use Rattle.hy_index.proofs.CallLaws.{between-index}
 use Rattle.hy_index.proofs.Index.range_into.Goals as goal
 
-pub loop-k-init : goal.loop-k-init
-loop-k-init g c =
-    let none : c.seek-first.result.place - c.seek-first.result.place ≡ 0 = omega arith in
-    record { within = omega arith; items = c.clear.ensures.items ∙ sym (ap (first_items _) none) }
-
-pub loop-k-preserved : goal.loop-k-preserved
-loop-k-preserved g c =
-    let item : ℕ → Entry g.row.K.Denot = λ k. entry_of g.K.Key.BYTES g.K.Key.key_of_bytes (entry_at g.row.N (entry_width g.K.Key.BYTES) (pages_of c.args.space.now c.args.self.now) k) in
-    record {
-      within = omega arith;
-      items = c.in_ok-push.ensures.items ∙ first_items-more item c.seek-first.result.place c.loop-k.k c.loop-k.entries.items c.entry.result (omega arith) c.loop-k.invariant.items c.entry.ensures;
-    }
+pub push_between-requires : goal.push_between-requires
+push_between-requires g c =
+    (omega arith, (subst (λ (t : Tree). t.segment < length c.args.space.now.owner) (sym c.tree-tree.ensures) c.requires.there, (ap (λ (t : Tree). t.key_bytes) c.tree-tree.ensures, (ap length (c.as_slice.ensures.value ∙ c.bytes_of-low_bytes.ensures.bytes) ∙ g.met.K.Key.width c.args.low.now c.bytes_of-low_bytes.ensures.is_key ∙ sym (ap (λ (t : Tree). t.key_bytes) c.tree-tree.ensures), (ap length (c.as_slice-2.ensures.value ∙ c.bytes_of-high_bytes.ensures.bytes) ∙ g.met.K.Key.width c.args.high.now c.bytes_of-high_bytes.ensures.is_key ∙ sym (ap (λ (t : Tree). t.key_bytes) c.tree-tree.ensures), subst (λ (d : ℕ). IsPartAt g.row.N c.args.space.now c.tree-tree.result d 0) (sym c.height.ensures) (whole-tree g.row.N c.args.space.now c.tree-tree.result (subst (λ (t : Tree). HasTree g.row.N c.args.space.now t) (sym c.tree-tree.ensures) c.requires.index.tree)))))))
 
 pub returns : goal.returns
 returns g c =
-    let item : ℕ → Entry g.row.K.Denot = λ i. entry_of g.K.Key.BYTES g.K.Key.key_of_bytes (entry_at g.row.N (entry_width g.K.Key.BYTES) (pages_of c.args.space.now c.args.self.now) (c.seek-first.result.place + i)) in
-    let count : c.loop-k.k - c.seek-first.result.place ≡ c.seek-end.result.place - c.seek-first.result.place = omega (arith, c.loop-k.invariant.within) in
-    c.loop-k.invariant.items
-    ∙ ap (first_items item) count
-    ∙ sym (between-is g.row.N g.K.Key.BYTES g.K.Key.bytes_of_key g.K.Key.key_of_bytes g.K.Key.IsKey g.K.Key.is_less g.met.K.Key.ordered c.args.space.now c.args.self.now c.requires.index c.args.low.now c.args.high.now c.bytes_of-low_bytes.ensures.is_key c.bytes_of-high_bytes.ensures.is_key c.seek-first.result.place c.seek-end.result.place c.seek-first.result.is_there c.seek-end.result.is_there c.seek-first.ensures c.seek-end.ensures)
+    on_ok_weaker c.push_between.result (λ pushed.
+    pushed
+    ∙ ap (λ front. front ++ map (entry_of g.K.Key.key_of_bytes) (between c.as_slice.result.now c.as_slice-2.result.now (entries_under (nodes_in c.args.space.now c.tree-tree.result) c.height.result 0))) c.clear.ensures.items
+    ∙ ap (λ (d : ℕ). map (entry_of g.K.Key.key_of_bytes) (between c.as_slice.result.now c.as_slice-2.result.now (entries_under (nodes_in c.args.space.now c.tree-tree.result) d 0))) c.height.ensures
+    ∙ between-index g.row.N g.K.Key.BYTES c.args.self.now g.K.Key.bytes_of_key g.K.Key.key_of_bytes g.K.Key.IsKey g.K.Key.is_less g.met.K.Key.ordered g.met.K.Key.reads_back c.args.space.now c.requires.index c.tree-tree.result c.tree-tree.ensures c.args.low.now c.args.high.now c.bytes_of-low_bytes.ensures.is_key c.bytes_of-high_bytes.ensures.is_key c.as_slice.result.now c.as_slice-2.result.now (c.as_slice.ensures.value ∙ c.bytes_of-low_bytes.ensures.bytes) (c.as_slice-2.ensures.value ∙ c.bytes_of-high_bytes.ensures.bytes)) c.push_between.ensures

@@ -1,4 +1,4 @@
-use Rattle.std.proofs.Common.{lit<}
+use Rattle.std.proofs.Common.{lit<, rules}
 use Rattle.hy_store.specs.Writes.{stored_in}
 use Rattle.hy_writers.specs.Payments.{CanPay}
 use Rattle.hy_tpcc.proofs.SliceLaws.{can-pay, paid-done, reply-paid}
@@ -32,3 +32,14 @@ returns-in-Ok-pay_customer-clause-reply g c = λ before now.
     reply-paid c.args.layout.now c.args.payment.now c.args.place c.args.done before
     (stored_in g.row.N c.args.space.now) c.in-Ok-pay_customer.reply c.requires.next c.if-done-eq0.false
     c.in-Ok-pay_customer.ensures.reply now
+
+pub returns-in-Ok-clause-done : goal.returns-in-Ok-clause-done
+returns-in-Ok-clause-done g c = record {
+  store = c.in-Ok.ensures.paid.store;
+  step = λ before now. record {
+    begun = search rules;
+    rows = search rules;
+    known = search rules;
+    indexes = search rules;
+  };
+}

@@ -1,10 +1,29 @@
-use Rattle.std.proofs.Common.{◌≡◌, ◌∙◌, ◌≤◌, ◌+◌, ap, arith, length, subst, sym}
+use Rattle.std.proofs.Common.{◌≡◌, ◌∙◌, ◌≤◌, ◌+◌, ap, arith, length, lit<, subst, sym}
 use Rattle.std.specs.Prelude.{Some}
 use Rattle.hy_commands.specs.declared.command.Command.TheVariants as commands
 use Rattle.hy_store.specs.Writes.{stored_in}
 use Rattle.hy_tpcc.specs.Executor.{HasDone}
 use Rattle.hy_tpcc.proofs.PurchaseLaws.{answer-last}
 use Rattle.hy_tpcc.proofs.purchase.buy.Goals as goal
+
+pub reply_to_order-requires : goal.reply_to_order-requires
+reply_to_order-requires g c =
+    let layout = c.args.layout.now in
+    let before = c.requires.done.0 in
+    let lines : c.as_slice.result.now ≡ c.args.order.now.lines = c.as_slice.ensures in
+    let at_end : length c.args.order.now.lines ≤ c.args.done = subst (λ rows. length rows ≤ c.args.done) lines c.if-done-as_slice.false in
+    let last : c.args.done ≡ length c.args.order.now.lines = omega (arith, at_end, c.requires.next) in
+    let after = c.in_ok-place_line.ensures.done.step before c.requires.done.1 in (
+      lit< tt,
+      (
+        c.in_ok-place_line.ensures.done.store,
+        (
+          before,
+          subst (λ n. HasDone layout (commands.NewOrder c.args.order.now) c.args.place (n + 1) before
+              (stored_in g.row.N c.place_line.new.space)) last after,
+        ),
+      ),
+    )
 
 pub returns-clause-reply : goal.returns-clause-reply
 returns-clause-reply g c = λ before now.

@@ -3,7 +3,7 @@ use Rattle.hy_rows.specs.Spelling.{HasSlots, list_at}
 use Rattle.hy_space.specs.Space.{owner_bytes, page_count}
 use Rattle.hy_undo.specs.PrivatePages.{IsUndoLog}
 use Rattle.hy_relation.specs.Relation.{ChangesSegment}
-use Rattle.hy_index.specs.Writes.{WritesSegment}
+use Rattle.hy_nodes.specs.Writes.{WritesSegment}
 use Rattle.hy_hyper.proofs.StoreLaws.{created, nine_segments, no_page}
 use Rattle.hy_hyper.proofs.store_tests.Store.new.Goals as goal
 

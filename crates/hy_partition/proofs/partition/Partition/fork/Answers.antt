@@ -1,4 +1,4 @@
-use Rattle.std.proofs.Common.{rules, ◌≡◌, Some, None, ap, ◌∙◌, sym, subst, length, arith}
+use Rattle.std.proofs.Common.{rules, ◌≡◌, ℕ, List, Option, Some, None, ap, refl, ◌∙◌, sym, subst, length, arith}
 use Rattle.std.specs.Prelude.{slice_index_or}
 use Rattle.hy_partition.specs.Partition.{PartitionState}
 use Rattle.hy_partition.specs.Steps.{Forks, StaysUnforked}
@@ -6,6 +6,29 @@ use Rattle.hy_partition.specs.inside.Views.{partition_of}
 use Rattle.hy_partition.proofs.SoundLaws.{least_within}
 use Rattle.hy_partition.proofs.ForkLaws.{forks, sound-as_before, sound-opened, sound-unforked, stays-as_before, stays_unforked, whole}
 use Rattle.hy_partition.proofs.partition.Partition.fork.Goals as goal
+
+pub returns-then-is_err-clause-err : goal.returns-then-is_err-clause-err
+returns-then-is_err-clause-err g c =
+    let p : PartitionState = partition_of c.self.inside in
+    let after : PartitionState = record p { snapshots = c.reserve.new.self.items } in
+    let stays : StaysUnforked p after = record {
+      job = record {
+        load = refl;
+        warehouse = refl;
+        kept = refl;
+        max_kept = refl;
+        running = refl;
+        undo = refl;
+        finished = refl;
+        owner = record { table = refl; bytes = refl };
+      };
+      snapshots = λ child. ap (λ (all : List (Option ℕ)). slice_index_or all child None) c.reserve.ensures.items;
+      tables = λ child. refl;
+      bytes = λ child. refl;
+      counts = λ f. refl;
+      max_frames = refl;
+    } in
+    subst (λ (old : PartitionState). StaysUnforked old after) c.self.view_is stays
 
 pub invariant_of-self-in_default-fork : goal.invariant_of-self-in_default-fork
 invariant_of-self-in_default-fork g c =

@@ -1,12 +1,43 @@
-use Rattle.std.proofs.Common.{ap, lit<, refl, subst, sym}
-use Rattle.std.specs.Prelude.{IfOk, OnOk}
+use Rattle.std.proofs.Common.{ℕ, zero, suc, ◌+◌, ◌<◌, ap, arith, lit<, refl, subst, sym}
+use Rattle.std.specs.Prelude.{IfOk, OnOk, Result, Ok, Err}
 use Rattle.hy_commands.specs.declared.command.Command.{Command}
 use Rattle.hy_commands.specs.declared.command.Command.TheVariants as commands
+use Rattle.hy_commands.specs.declared.command.OrderStatus.{OrderStatus}
+use Rattle.hy_commands.specs.declared.command.StockLevel.{StockLevel}
+use Rattle.hy_layout.specs.Layout.{LayoutState}
+use Rattle.hy_rows.specs.Tables.{Tables}
+use Rattle.hy_slices.specs.Slices.{slice_count}
+use Rattle.hy_store.specs.Stored.{Stored}
 use Rattle.hy_store.specs.Writes.{LeavesStore, stored_in}
 use Rattle.hy_writers.proofs.WritesLaws.{on_ok-then}
-use Rattle.hy_tpcc.specs.Executor.{AnswersSlice, ExecutorState, RunsSlice}
+use Rattle.hy_tpcc.specs.Executor.{AnswersSlice, ExecutorState, HasDone, RunsSlice}
 use Rattle.hy_tpcc.proofs.UnderWay.{if_ok-then, only-answers, only-slice, slice-answers, slice-done}
 use Rattle.hy_tpcc.proofs.executor.Executor.slice.Goals as goal
+
+on_ok : {Value Refused : Type 0} (result : Result Value Refused) {P : Type 0} → P → OnOk result P
+on_ok (Ok value) holds = holds
+on_ok (Err refused) holds = tt
+
+-- the one slice of a command that only reads
+status-done : (layout : LayoutState) (status : OrderStatus) (place done : ℕ) (before : Tables) (s : Stored) → done < 1
+    → HasDone layout (commands.OrderStatus status) place done before s → HasDone layout (commands.OrderStatus status) place (done + 1) before s
+status-done layout status place zero before s first now = record {
+  begun = now.begun;
+  rows = now.rows;
+  known = now.known;
+  indexes = now.indexes;
+}
+status-done layout status place (suc done) before s first now = absurd (omega (arith, first))
+
+level-done : (layout : LayoutState) (level : StockLevel) (place done : ℕ) (before : Tables) (s : Stored) → done < 1
+    → HasDone layout (commands.StockLevel level) place done before s → HasDone layout (commands.StockLevel level) place (done + 1) before s
+level-done layout level place zero before s first now = record {
+  begun = now.begun;
+  rows = now.rows;
+  known = now.known;
+  indexes = now.indexes;
+}
+level-done layout level place (suc done) before s first now = absurd (omega (arith, first))
 
 pub read_status-requires : goal.read_status-requires
 read_status-requires g c =
@@ -74,6 +105,20 @@ returns-in-Payment-clause-reply g c =
     (stored_in g.row.N c.args.space.now) reply c.in-Payment.is)
     (rw (ap (λ (e : ExecutorState). e.layout) c.self-in-Payment.view_is, ap (λ (e : ExecutorState). e.place) c.self-in-Payment.view_is) at c.pay.ensures.reply)
 
+pub returns-in-OrderStatus-clause-under_way : goal.returns-in-OrderStatus-clause-under_way
+returns-in-OrderStatus-clause-under_way g c =
+    let s = stored_in g.row.N c.args.space.now in
+    on_ok c.read_status.result (record {
+      store = c.requires.writable.store;
+      step =
+          subst (λ (next : ExecutorState). RunsSlice c.args.self.now next c.args.command.now c.args.done s s)
+          (sym c.read_status.ensures.same)
+          (slice-done c.args.self.now c.args.command.now (commands.OrderStatus c.in-OrderStatus.status) c.args.done s s c.in-OrderStatus.is
+          (λ w d b l. tt)
+          (λ before now. status-done c.args.self.now.layout c.in-OrderStatus.status c.args.self.now.place c.args.done before s
+          (subst (λ (command : Command). c.args.done < slice_count command) c.in-OrderStatus.is c.requires.next) now));
+    })
+
 pub returns-in-OrderStatus-clause-reply : goal.returns-in-OrderStatus-clause-reply
 returns-in-OrderStatus-clause-reply g c =
     if_ok-then c.read_status.result
@@ -91,6 +136,20 @@ returns-in-Delivery-clause-reply g c =
     subst (λ (command : Command). IfOk c.deliver.result (AnswersSlice c.args.self.now command c.args.done
     (stored_in g.row.N c.args.space.now)))
     (sym c.in-Delivery.is) c.deliver.ensures.reply
+
+pub returns-in-StockLevel-clause-under_way : goal.returns-in-StockLevel-clause-under_way
+returns-in-StockLevel-clause-under_way g c =
+    let s = stored_in g.row.N c.args.space.now in
+    on_ok c.read_level.result (record {
+      store = c.requires.writable.store;
+      step =
+          subst (λ (next : ExecutorState). RunsSlice c.args.self.now next c.args.command.now c.args.done s s)
+          (sym c.read_level.ensures.same)
+          (slice-done c.args.self.now c.args.command.now (commands.StockLevel c.in-StockLevel.level) c.args.done s s c.in-StockLevel.is
+          (λ w d b l. tt)
+          (λ before now. level-done c.args.self.now.layout c.in-StockLevel.level c.args.self.now.place c.args.done before s
+          (subst (λ (command : Command). c.args.done < slice_count command) c.in-StockLevel.is c.requires.next) now));
+    })
 
 pub returns-in-StockLevel-clause-reply : goal.returns-in-StockLevel-clause-reply
 returns-in-StockLevel-clause-reply g c =

@@ -1,0 +1,5 @@
+pub mod PageLaws
+pub mod SpareLaws
+pub mod PairLaws
+pub mod WrittenLaws
+pub mod FilledLaws

@@ -1,0 +1,5 @@
+pub mod Nodes
+pub mod Pages
+pub mod Places
+pub mod Writes
+pub mod Ways

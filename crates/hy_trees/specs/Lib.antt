@@ -1,0 +1,6 @@
+pub mod Nodes
+pub mod Trees
+pub mod Groups
+pub mod Leaves
+pub mod Searches
+pub mod WorkedTrees
