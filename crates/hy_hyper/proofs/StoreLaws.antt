@@ -1,10 +1,11 @@
--- A table and an index, as they begin and as a roll-back leaves them.
+-- A table and an index, as they begin, and as a roll-back and a child leave them.
 use Rattle.std.proofs.Common.{◌≡◌, ℕ, List, [], length, replicate, sym, ap, ◌∙◌, arith, subst}
 use Rattle.hy_rows.specs.Spelling.{HasSlots, list_at}
-use Rattle.hy_space.specs.Space.{SpaceState, owner_bytes, page_count}
+use Rattle.hy_space.specs.Space.{SpaceState, IsUnchanged, KeepsOwn, SameForOwner, owner_bytes, page_count, table_bytes}
+use Rattle.hy_space.proofs.TableLaws.{same_bytes}
 use Rattle.hy_undo.specs.UndoLog.{UndoLog, empty_log, undone}
 use Rattle.hy_undo.specs.PrivatePages.{GivesUpPages, IsUndoLog}
-use Rattle.hy_undo.proofs.PrivatePageLaws.{length-segment-owner_bytes}
+use Rattle.hy_undo.proofs.PrivatePageLaws.{IsUndoLog-kept, KeepsPages-unseen, length-segment-owner_bytes}
 use Rattle.hy_undo.proofs.RollBackLaws.{undone-empty_log}
 use Rattle.hy_nodes.specs.Writes.{WritesSegment}
 use Rattle.hy_index.specs.Writes.{IsIndex}
@@ -23,6 +24,12 @@ pub nine_segments : (n : ℕ) (first space : SpaceState) (log : UndoLog) → fir
     → IsUndoLog n first log → IsUndoLog n space log → length space.owner ≡ 9
 nine_segments n first space log nine before after =
     sym after.segments ∙ before.segments ∙ ap length nine
+
+-- pages that are lent now have the same bytes
+unchanged_bytes : (old new : SpaceState) → IsUnchanged old new → owner_bytes new ≡ owner_bytes old
+unchanged_bytes old new same =
+    ap (table_bytes new.frames) same.owner
+    ∙ same_bytes old.frames new.frames old.owner (λ f more. same.pages f)
 
 module _ {Key : Type 0} {width : ℕ} {bytes_of_key : Key → List ℕ} {key_of_bytes : List ℕ → Key}
     {IsKey : Key → Type 0} (n : ℕ) where
@@ -59,3 +66,36 @@ module _ {Key : Type 0} {width : ℕ} {bytes_of_key : Key → List ℕ} {key_of_
       begins new after (gives_up.fewer.segments ∙ sym store.undo_log.segments ∙ store.counts)
       (subst (AreStored width bytes_of_key key_of_bytes IsKey n) (sym bytes) store.begin) undo_log
       (ap (undone (owner_bytes new)) log ∙ undone-empty_log new)
+
+  -- a call that was refused, and then rolled back
+  pub refused : (old mid new : SpaceState) (before between after : UndoLog) (segment : ℕ)
+      → IsStore width bytes_of_key key_of_bytes IsKey n old before → WritesSegment n segment old mid before between
+      → owner_bytes new ≡ undone (owner_bytes mid) between → after ≡ empty_log new → IsUndoLog n new after
+      → GivesUpPages mid new → IsStore width bytes_of_key key_of_bytes IsKey n new after
+  refused old mid new before between after segment store writes bytes log undo_log gives_up =
+      begins new after
+      (gives_up.fewer.segments ∙ writes.segments ∙ sym store.undo_log.segments ∙ store.counts)
+      (subst (AreStored width bytes_of_key key_of_bytes IsKey n) (sym (bytes ∙ writes.undoes.undone)) store.begin)
+      undo_log (ap (undone (owner_bytes new)) log ∙ undone-empty_log new)
+
+  -- the owner's pages stay, with the same bytes
+  pub same_pages : (old new : SpaceState) (log : UndoLog) → IsStore width bytes_of_key key_of_bytes IsKey n old log
+      → owner_bytes new ≡ owner_bytes old → IsUndoLog n new log
+      → IsStore width bytes_of_key key_of_bytes IsKey n new log
+  same_pages old new log store same undo_log = record {
+    undo_log = undo_log;
+    counts = store.counts;
+    now = subst (AreStored width bytes_of_key key_of_bytes IsKey n) (sym same) store.now;
+    begin = subst (λ bytes. AreStored width bytes_of_key key_of_bytes IsKey n (undone bytes log)) (sym same) store.begin;
+  }
+
+  -- a child that was opened, of whose pages holds were taken, and that was closed
+  pub seen : (old opened held new : SpaceState) (log : UndoLog)
+      → IsStore width bytes_of_key key_of_bytes IsKey n old log → SameForOwner old opened → IsUndoLog n opened log
+      → IsUnchanged opened held → KeepsOwn opened held → SameForOwner held new → KeepsOwn held new
+      → IsStore width bytes_of_key key_of_bytes IsKey n new log
+  seen old opened held new log store opens undo_log lends kept closes kept_still =
+      let lent = unchanged_bytes opened held lends in
+      same_pages old new log store (closes.bytes ∙ lent ∙ opens.bytes)
+      (IsUndoLog-kept n held new log (KeepsPages-unseen held new closes.bytes kept_still)
+      (IsUndoLog-kept n opened held log (KeepsPages-unseen opened held lent kept) undo_log))

@@ -10,6 +10,8 @@ mod example;
 #[cfg(test)]
 mod failing_tests;
 #[cfg(test)]
+mod lists;
+#[cfg(test)]
 mod load_tests;
 #[cfg(test)]
 mod partition_tests;
@@ -19,6 +21,10 @@ mod row_tests;
 mod snapshot_tests;
 #[cfg(test)]
 mod store_tests;
+#[cfg(test)]
+mod stores;
+#[cfg(test)]
+mod tree_tests;
 
 fn main(rt: HostRuntime) -> ExitCode {
     system::run_on_system(&rt).exit_code()

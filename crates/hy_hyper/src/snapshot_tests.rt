@@ -3,9 +3,11 @@
 ghost use Rattle.std.specs.Prelude.{◌≡◌, ◌≤◌};
 ghost use Rattle.hy_frames.specs.FrameTable.{IsPageSize};
 
-use hy_commands::{Command, Payment, Purchase, PurchaseLine, PurchaseLines, Reply, Who};
+use hy_commands::{
+    Command, OrderStatus, Payment, Purchase, PurchaseLine, PurchaseLines, Reply, Who,
+};
 use hy_partition::{Job, Partition, Progress, Snapshot};
-use hy_rows::{District, Item, NewOrder, Order, Stock, Warehouse};
+use hy_rows::{District, Item, Listed, NewOrder, Order, OrderLine, Stock, Warehouse};
 use hy_schema::Refusal;
 use hy_tables::generate;
 use std::marker::Model;
@@ -461,10 +463,10 @@ fn has_orders<const N: usize>(
     }
 }
 
-/// An order of five lines in district 1, whose third line asks for an item.
-fn order_of(rt: &(impl Abort + AllocGlobal), third: u64) -> Command {
+/// An order of five lines in district 1, for these items.
+fn order_of(rt: &(impl Abort + AllocGlobal), items: [u64; 5]) -> Command {
     let mut lines = Vec::new(rt.alloc());
-    for item in [1, 2, third, 4, 5] {
+    for item in items {
         lines
             .push(PurchaseLine {
                 item,
@@ -487,7 +489,7 @@ fn ordering<const N: usize>(rt: &(impl Abort + AllocGlobal), third: u64) -> Fork
     requires { IsPageSize N }
 {
     let mut forked: Forked<N> = Forked::new(rt, 20);
-    assert!(rt; forked.begin(order_of(rt, third)).is_ok());
+    assert!(rt; forked.begin(order_of(rt, [1, 2, third, 4, 5])).is_ok());
     for _ in 0..3 {
         assert!(rt; forked.step() == Ok(Progress::More));
     }
@@ -538,4 +540,99 @@ fn snapshots_of_orders(rt: HostRuntime) {
     half_done_order::<4096>(&rt);
     order_without_its_item::<256>(&rt);
     order_without_its_item::<4096>(&rt);
+}
+
+/// Whether two snapshots have the same rows of one table.
+fn has_same<R: Listed + PartialEq, const N: usize>(
+    rt: &impl Abort,
+    one: &Snapshot<N>,
+    other: &Snapshot<N>,
+) -> bool {
+    let rows = one.list::<R>().expect(rt, "the rows");
+    let others = other.list::<R>().expect(rt, "the rows");
+    rows.as_slice() == others.as_slice()
+}
+
+/// The snapshot at a place has the rows of the first one, in the tables that an order changes.
+fn agrees_with_first<const N: usize>(rt: &impl Abort, forked: &Forked<N>, place: usize) {
+    let (first, other) = (forked.snapshot(rt, 0), forked.snapshot(rt, place));
+    assert!(rt; has_same::<District, N>(rt, first, other));
+    assert!(rt; has_same::<Order, N>(rt, first, other));
+    assert!(rt; has_same::<NewOrder, N>(rt, first, other));
+    assert!(rt; has_same::<OrderLine, N>(rt, first, other));
+    assert!(rt; has_same::<Stock, N>(rt, first, other));
+}
+
+/// An order whose last item isn't there: snapshots before it, behind its fourth line and once it is rolled back.
+fn order_to_its_last<const N: usize>(rt: &(impl Abort + AllocGlobal), forked: &mut Forked<N>) {
+    assert!(rt; forked.fork(rt) == Ok(()));
+    assert!(rt; forked.begin(order_of(rt, [1, 2, 3, 4, 21])).is_ok());
+    for _ in 0..5 {
+        assert!(rt; forked.step() == Ok(Progress::More));
+    }
+    assert!(rt; forked.fork(rt) == Ok(()));
+    forked.finish();
+    let answer = forked.answer();
+    assert!(rt; matches!(answer, Some(Reply::Refused(Refusal::NoSuchItem))));
+    assert!(rt; forked.fork(rt) == Ok(()));
+    for place in 1..3 {
+        agrees_with_first(rt, forked, place);
+    }
+    for _ in 0..3 {
+        forked.close(rt, 0);
+    }
+}
+
+/// The number that an order gets.
+fn number_of<const N: usize>(rt: &(impl Abort + AllocGlobal), forked: &mut Forked<N>) -> u32 {
+    assert!(rt; forked.begin(order_of(rt, [1, 2, 3, 4, 5])).is_ok());
+    forked.finish();
+    match forked.answer() {
+        Some(Reply::NewOrder { order, .. }) => order,
+        _ => panic!(rt; "an order"),
+    }
+}
+
+/// The number of the last order of the customer who orders, and how many lines it has.
+fn last_order<const N: usize>(rt: &impl Abort, forked: &mut Forked<N>) -> (u32, usize) {
+    assert!(rt; forked.begin(status()).is_ok());
+    forked.finish();
+    match forked.answer() {
+        Some(
+            Reply::OrderStatus {
+                order: Some(order),
+                ..
+            },
+        ) => { (order.number, order.lines.as_slice().len()) }
+        _ => panic!(rt; "an order"),
+    }
+}
+
+/// What the customer who orders has ordered last.
+fn status() -> Command {
+    Command::OrderStatus(OrderStatus {
+        warehouse: 1,
+        district: 1,
+        who: Who::Number(1),
+    })
+}
+
+/// Forty orders of five lines, before each of which one is rolled back behind its fourth line. With pages of 256 bytes a
+/// leaf of the lines' index has room for 17 of them, and keeps 13 when it is split for a line behind all others. So some
+/// third of the orders split one, most of them also when they are half-done.
+fn orders_over_splits<const N: usize>(rt: &(impl Abort + AllocGlobal))
+    requires { IsPageSize N }
+{
+    let mut forked: Forked<N> = Forked::new(rt, 20);
+    for number in 1..=40 {
+        order_to_its_last(rt, &mut forked);
+        assert!(rt; number_of(rt, &mut forked) == number);
+        assert!(rt; last_order(rt, &mut forked) == (number, 5));
+    }
+    forked.end(rt);
+}
+
+#[test]
+fn half_done_orders_over_splits(rt: HostRuntime) {
+    orders_over_splits::<256>(&rt);
 }

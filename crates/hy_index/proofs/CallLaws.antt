@@ -3,7 +3,6 @@ use Rattle.std.proofs.Common.{◌≡◌, ℕ, ◌+◌, ◌<◌, ◌≤◌, Bool,
 use Rattle.std.specs.Prelude.{IsSome, find}
 use Rattle.std.specs.Option.{option_map}
 use Rattle.std.specs.List.{AllByRecursion}
-use Rattle.std.proofs.lemmas.Bool.{false≢true}
 use Rattle.std.proofs.lemmas.List.{length-map}
 use Rattle.hy_space.specs.Space.{SpaceState, page_count}
 use Rattle.hy_trees.specs.Nodes.{Item, capacity}
@@ -17,7 +16,7 @@ use Rattle.hy_nodes.specs.Writes.{pages_of}
 use Rattle.hy_nodes.proofs.SpaceLaws.{length-pages_of}
 use Rattle.hy_index.specs.declared.key.Entry.{Entry}
 use Rattle.hy_index.specs.Index.{between as entries_between, first_from as first_entry_from, found, with_entry, without as without_entry}
-use Rattle.hy_index.specs.Writes.{FillsPages, IsIndex, IsSpelled, KeepsPagesFor, entries, entry_of, leaf_items}
+use Rattle.hy_index.specs.Writes.{FillsPages, IsIndex, IsSpelled, KeepsPagesFor, entries, entry_of}
 use Rattle.hy_index.specs.Searches.{found_in}
 use Rattle.hy_index.proofs.FoundLaws.{found-entries}
 use Rattle.hy_index.proofs.MapLaws.{between-entries, first_from-entries, spelled-with, spelled-without, with-entries, without-entries}

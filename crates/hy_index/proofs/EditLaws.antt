@@ -1,5 +1,5 @@
 -- A tree in which the leaf to which a key leads has other items: one more, one with another number, or one less.
-use Rattle.std.proofs.Common.{◌≡◌, ◌⊎◌, inl, inr, ℕ, zero, suc, ◌+◌, ◌<◌, ◌≤◌, List, [], ◌∷◌, ◌++◌, length, None, refl, sym, ap, ◌∙◌, subst, arith}
+use Rattle.std.proofs.Common.{◌≡◌, ◌⊎◌, inl, inr, ℕ, zero, suc, ◌<◌, List, [], ◌∷◌, ◌++◌, length, None, refl, ap, arith}
 use Rattle.hy_trees.specs.Nodes.{Item, Node, node_at, with_items, with_node}
 use Rattle.hy_trees.specs.Trees.{IsTree, entries_under, height_of, pages_under, root_least, times}
 use Rattle.hy_trees.specs.Groups.{IsRooted}

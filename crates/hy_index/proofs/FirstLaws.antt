@@ -1,5 +1,5 @@
 -- The first entry from a key on under a page, and the entries between two keys, by those under its children.
-use Rattle.std.proofs.Common.{◌≡◌, ℕ, zero, suc, ◌+◌, ◌-◌, ◌<◌, ◌≤◌, Bool, true, false, Option, None, Some, List, [], ◌∷◌, ◌++◌, length, flat_map, take, drop, slice_index_or, refl, sym, ap, ◌∙◌, subst, arith}
+use Rattle.std.proofs.Common.{◌≡◌, ℕ, zero, suc, ◌+◌, ◌-◌, ◌<◌, Bool, true, false, Option, None, Some, List, [], ◌∷◌, length, flat_map, take, drop, slice_index_or, refl, sym, ap, ◌∙◌, subst, arith}
 use Rattle.std.specs.Prelude.{IsSome}
 use Rattle.std.specs.Option.{is_some, option_map}
 use Rattle.std.proofs.lemmas.Bool.{false≢true}
@@ -12,7 +12,7 @@ use Rattle.hy_trees.proofs.RangeLaws.{first_from-child, first_from-next, first_f
 use Rattle.hy_nodes.specs.declared.pages.Tree.{Tree}
 use Rattle.hy_nodes.specs.Nodes.{item_at, item_count, number_at}
 use Rattle.hy_nodes.specs.Pages.{nodes_in, page_in}
-use Rattle.hy_nodes.specs.Places.{IsChildPlace, IsSought}
+use Rattle.hy_nodes.specs.Places.{IsBound, IsChildPlace, is_below_at}
 use Rattle.hy_nodes.proofs.ReachLaws.{some_least}
 use Rattle.hy_index.specs.Parts.{IsPartAt}
 use Rattle.hy_index.proofs.PartLaws.{part-count, part-item}
@@ -139,16 +139,16 @@ module _ (n : ℕ) (space : SpaceState) (tree : Tree) (there : tree.segment < le
   abbrev Between : List ℕ → List ℕ → ℕ → Item → List Item
   Between low high depth i = between low high (entries_under nodes depth i.number)
 
-  pub under-between : (low high : List ℕ) (from to : ℕ) (is_there : Bool) → IsChildPlace tree.key_bytes whole low from → IsSought tree.key_bytes whole high to is_there → (depth : ℕ) → 0 < depth → IsPartAt n space tree depth page
+  pub under-between : (low high : List ℕ) (from to : ℕ) → IsChildPlace tree.key_bytes whole low from → IsBound (is_below_at tree.key_bytes whole high) (item_count whole) to → (depth : ℕ) → 0 < depth → IsPartAt n space tree depth page
       → between low high (entries_under nodes depth page) ≡ flat_map (Between low high (depth - 1)) (take (to - from) (drop from (node_at nodes page).items))
-  under-between low high from to is_there first last zero inner part = absurd (omega (arith, inner))
-  under-between low high from to is_there first last (suc depth) inner part =
+  under-between low high from to first last zero inner part = absurd (omega (arith, inner))
+  under-between low high from to first last (suc depth) inner part =
       let less : depth ≡ suc depth - 1 = omega arith in
       let count = part-count n space tree there sound (suc depth) page part whole is in
       let item = part-item n space tree there sound (suc depth) page part whole is in
       between-places nodes (least_items n tree.key_bytes) (capacity n tree.key_bytes) (some_least n tree.key_bytes) depth part.top part.low part.high page part.subtree low high from to
-      (omega (arith, first.within, count)) (omega (arith, last.bound.within, count))
+      (omega (arith, first.within, count)) (omega (arith, last.within, count))
       (λ some. ap (λ (i : Item). is_less_bytes low i.key) (item from first.within) ∙ first.from some)
-      (λ past. ap (λ (i : Item). is_less_bytes i.key high) (item from first.within) ∙ last.bound.behind from past first.within)
-      (λ more. ap (λ (i : Item). is_less_bytes i.key high) (item to (omega (arith, more, count))) ∙ last.bound.behind to (omega arith) (omega (arith, more, count)))
+      (λ past. ap (λ (i : Item). is_less_bytes i.key high) (item from first.within) ∙ last.behind from past first.within)
+      (λ more. ap (λ (i : Item). is_less_bytes i.key high) (item to (omega (arith, more, count))) ∙ last.behind to (omega arith) (omega (arith, more, count)))
       ∙ ap (λ (d : ℕ). flat_map (Between low high d) (take (to - from) (drop from (node_at nodes page).items))) less

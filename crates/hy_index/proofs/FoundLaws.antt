@@ -1,17 +1,16 @@
 -- What a search finds, and how far down it goes.
-use Rattle.std.proofs.Common.{◌≡◌, ℕ, zero, suc, ◌+◌, ◌*◌, ◌<◌, ◌≤◌, ◌^◌, Bool, true, false, not, ◌&&◌, cond, None, Some, Option, List, [], ◌∷◌, ◌++◌, length, flat_map, map, slice_index_or, refl, sym, ap, ap₂, ◌∙◌, subst, arith, inl, inr, length-append}
+use Rattle.std.proofs.Common.{◌≡◌, ℕ, ◌<◌, ◌≤◌, Bool, true, false, not, ◌&&◌, cond, None, Some, Option, List, [], ◌∷◌, ◌++◌, map, refl, sym, ap, ap₂, ◌∙◌, arith, inl, inr}
 use Rattle.std.specs.Prelude.{find}
 use Rattle.std.specs.Option.{option_map, option_or}
 use Rattle.std.specs.List.{AllByRecursion}
 use Rattle.std.proofs.lemmas.Bool.{cases_eq, cases_lt, false≢true}
 use Rattle.std.proofs.lemmas.List.Folds.{find-append}
-use Rattle.std.proofs.Math.Nat.{pow-le-pow_right, pow-suc, mul-le-mul_right}
 use Rattle.hy_index.specs.declared.key.Entry.{Entry}
 use Rattle.hy_index.specs.Index.{found, is_at as is_entry_at}
-use Rattle.hy_trees.specs.Trees.{HasParts, IsSubtree, entries_under, is_less_bytes, root_least}
+use Rattle.hy_trees.specs.Trees.{entries_under, is_less_bytes}
 use Rattle.hy_index.specs.Writes.{IsSpelled, entry_of}
 use Rattle.hy_trees.specs.Nodes.{Item, Node, node_at}
-use Rattle.hy_nodes.specs.Nodes.{first_items, item_at, item_count, items_of, key_at, number_at}
+use Rattle.hy_nodes.specs.Nodes.{item_at, item_count, items_of, key_at, number_at}
 use Rattle.hy_nodes.specs.Places.{AreRising, IsSought}
 use Rattle.hy_trees.specs.Leaves.{AreAbove, AreBelow, Leads}
 use Rattle.hy_trees.specs.Searches.{is_at}

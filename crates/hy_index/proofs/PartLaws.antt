@@ -1,10 +1,10 @@
 -- What a page of a part of a tree has, and the parts below it.
-use Rattle.std.proofs.Common.{◌≡◌, ℕ, zero, suc, ◌+◌, ◌-◌, ◌*◌, ◌<◌, ◌≤◌, ◌^◌, true, false, inl, inr, List, [], ◌∷◌, ◌++◌, length, take, drop, replicate, slice_index_or, None, refl, sym, ap, ◌∙◌, subst, arith}
+use Rattle.std.proofs.Common.{◌≡◌, ℕ, zero, suc, ◌-◌, ◌<◌, ◌^◌, inl, inr, List, [], length, take, drop, replicate, slice_index_or, None, sym, ap, ◌∙◌, subst, arith}
 use Rattle.std.proofs.lemmas.Bool.{cases_lt}
 use Rattle.std.proofs.lemmas.List.{length-map}
 use Rattle.hy_space.specs.Space.{SpaceState, HasPage, IsSound}
 use Rattle.hy_trees.specs.Nodes.{Item, Node, capacity, least_items, no_item, node_at}
-use Rattle.hy_trees.specs.Trees.{IsFilled, StandOnce, height_of, is_less_bytes, next_key, pages_under, root_least, times}
+use Rattle.hy_trees.specs.Trees.{IsFilled, height_of, is_less_bytes, next_key, pages_under, root_least, times}
 use Rattle.hy_trees.proofs.CountLaws.{has_page-no, times-append, times-first}
 use Rattle.hy_trees.proofs.LiftLaws.{IsSubtree-child, StandOnce-child}
 use Rattle.hy_trees.proofs.RootLaws.{IsRooted-from_tree, StandOnce-rooted}

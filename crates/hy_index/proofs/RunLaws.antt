@@ -1,18 +1,18 @@
 -- Entries in order: of one page, and of the children of a page.
-use Rattle.std.proofs.Common.{◌≡◌, ℕ, zero, suc, ◌+◌, ◌-◌, ◌<◌, ◌≤◌, min, Bool, true, false, not, ◌&&◌, Option, None, Some, List, [], ◌∷◌, ◌++◌, length, map, flat_map, take, drop, slice_index_or, inl, inr, refl, sym, ap, ap₂, ◌∙◌, subst, arith, append_assoc, length-drop}
+use Rattle.std.proofs.Common.{◌≡◌, ℕ, zero, suc, ◌+◌, ◌-◌, ◌<◌, ◌≤◌, min, Bool, true, false, not, ◌&&◌, Option, None, Some, List, [], ◌∷◌, ◌++◌, length, map, flat_map, take, drop, slice_index_or, inl, inr, refl, sym, ap, ap₂, ◌∙◌, arith, append_assoc, length-drop}
 use Rattle.std.proofs.lemmas.Bool.{cases_lt}
 use Rattle.std.proofs.Math.Seq.{drop-cons, take-suc}
 use Rattle.std.proofs.lemmas.List.{append-nil, drop-drop, get_or-drop, map-append, take-append-drop}
 use Rattle.std.proofs.lemmas.Grind.{flat_map-append}
 use Rattle.hy_trees.specs.Nodes.{Item, Node, no_item, node_at}
-use Rattle.hy_trees.specs.Trees.{BeginsFrom, IsFrom, IsSubtree, entries_under, is_less_bytes}
+use Rattle.hy_trees.specs.Trees.{BeginsFrom, IsSubtree, entries_under, is_less_bytes}
 use Rattle.hy_trees.specs.Searches.{between, first_from, is_between, is_from}
 use Rattle.hy_trees.proofs.PartLaws.{IsFrom-trans}
 use Rattle.hy_trees.proofs.PlaceLaws.{split_at}
 use Rattle.hy_trees.proofs.RangeLaws.{between-children, between-no_child}
 use Rattle.hy_trees.proofs.SearchLaws.{between-nothing}
 use Rattle.hy_nodes.specs.Nodes.{first_items, item_at, item_count, items_of, key_at}
-use Rattle.hy_nodes.specs.Places.{IsSought}
+use Rattle.hy_nodes.specs.Places.{IsBound, IsSought, is_below_at}
 use Rattle.hy_nodes.proofs.SequenceLaws.{filter-run, find-first, find-none, first_items-more}
 
 never : (b : Bool) → (b && false) ≡ false
@@ -28,14 +28,14 @@ module _ (kw : ℕ) (page key : List ℕ) (place : ℕ) (is_there : Bool) (sough
   first-out past = find-none (is_from key) (item_at kw page) (item_count page) (λ k within. ap not (sought.bound.before k (omega (arith, within, past))))
 
 -- the items of a page between two keys
-pub between-in : (kw : ℕ) (page low high : List ℕ) (from to : ℕ) (from_there to_there : Bool) → IsSought kw page low from from_there → IsSought kw page high to to_there
+pub between-in : (kw : ℕ) (page low high : List ℕ) (from to : ℕ) (from_there : Bool) → IsSought kw page low from from_there → IsBound (is_below_at kw page high) (item_count page) to
     → between low high (items_of kw page) ≡ first_items (λ k. item_at kw page (from + k)) (to - from)
-between-in kw page low high from to from_there to_there first last =
+between-in kw page low high from to from_there first last =
     filter-run (is_between low high) (item_at kw page) from to (item_count page)
     (λ k within before. ap (λ (b : Bool). not b && is_less_bytes (key_at kw page k) high) (first.bound.before k before))
-    (λ k within behind before. ap₂ (λ (b : Bool) (c : Bool). not b && c) (first.bound.behind k behind within) (last.bound.before k before))
-    (λ k within behind. ap (λ (c : Bool). is_from low (item_at kw page k) && c) (last.bound.behind k behind within) ∙ never (is_from low (item_at kw page k)))
-    ∙ ap (first_items (λ k. item_at kw page (from + k))) (let all : min to (item_count page) - from ≡ to - from = omega (arith, last.bound.within) in all)
+    (λ k within behind before. ap₂ (λ (b : Bool) (c : Bool). not b && c) (first.bound.behind k behind within) (last.before k before))
+    (λ k within behind. ap (λ (c : Bool). is_from low (item_at kw page k) && c) (last.behind k behind within) ∙ never (is_from low (item_at kw page k)))
+    ∙ ap (first_items (λ k. item_at kw page (from + k))) (let all : min to (item_count page) - from ≡ to - from = omega (arith, last.within) in all)
 
 -- one more item was appended
 pub pushed : {X Y : Type 0} (f : X → Y) (old now : List Y) (item : ℕ → X) (from k : ℕ) (y : Y) → from ≤ k → now ≡ old ++ map f (first_items (λ i. item (from + i)) (k - from)) → y ≡ f (item k)

@@ -99,7 +99,7 @@ pub fn push_between<K: Key, const N: usize>(
         return push_leaf(items, low, high, entries);
     }
     let start = node::child_place(items, low);
-    let end = node::seek(items, high).place;
+    let end = node::bound_from(items, high, start);
     for place in start..end {
         let child = node::child(items, tree.key_bytes, place);
         push_between(tree, space, child, depth - 1, low, high, entries)?;
@@ -123,7 +123,7 @@ fn push_leaf<K: Key>(
         (between low.now high.now (items_of K.BYTES items.now))) }
 {
     let start = node::seek(items, low).place;
-    let end = node::seek(items, high).place;
+    let end = node::bound_from(items, high, start);
     for place in start..end {
         entries.push(entry(items, place))?;
     }

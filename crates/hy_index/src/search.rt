@@ -1,6 +1,6 @@
 //! The way from the root to the leaf of a key.
 
-ghost use Rattle.std.specs.Prelude.{◌≡◌, ℕ, ◌+◌, ◌<◌, ◌≤◌, length};
+ghost use Rattle.std.specs.Prelude.{◌≡◌, ℕ, ◌+◌, ◌^◌, ◌<◌, ◌≤◌, length};
 ghost use Rattle.hy_space.specs.Space.{HasPage};
 ghost use Rattle.hy_nodes.specs.Pages.{nodes_in, page_in};
 ghost use Rattle.hy_nodes.specs.Places.{IsSought};
@@ -57,6 +57,7 @@ impl Reads {
         ensures bytes { result.now ≡ page_in space.now tree page }
         ensures size { length result.now ≡ N }
         ensures one { self.new ≤ self.old + 1 }
+        ensures counted { self.old + 1 < 2 ^ 64 → self.new ≡ self.old + 1 }
     {
         self.count = self.count.saturating_add(1);
         tree.page(space, page)
@@ -79,6 +80,8 @@ fn leaf_of<const N: usize>(tree: Tree, space: &Space<N>, key: &[u8], reads: &mut
     requires tree { HasTree N space.now tree }
     ensures leads { LeadsTo N space.now tree key.now 0 result }
     ensures count { reads.new ≤ reads.old + height_of (nodes_in space.now tree) + 1 }
+    ensures counted { reads.old + (height_of (nodes_in space.now tree) + 1) < 2 ^ 64
+        → reads.new ≡ reads.old + (height_of (nodes_in space.now tree) + 1) }
 {
     space.sound();
     let mut page = 0;
@@ -97,6 +100,7 @@ fn height_counted<const N: usize>(tree: Tree, space: &Space<N>, reads: &mut Read
     requires tree { HasTree N space.now tree }
     ensures height { result ≡ height_of (nodes_in space.now tree) }
     ensures one { reads.new ≤ reads.old + 1 }
+    ensures counted { reads.old + 1 < 2 ^ 64 → reads.new ≡ reads.old + 1 }
 {
     space.sound();
     node::height(reads.page(space, tree, 0))
@@ -142,6 +146,7 @@ pub fn seek_in<const N: usize>(
     ensures sought { IsSought tree.key_bytes (page_in space.now tree leaf) key.now
         result.place result.is_there }
     ensures one { reads.new ≤ reads.old + 1 }
+    ensures counted { reads.old + 1 < 2 ^ 64 → reads.new ≡ reads.old + 1 }
 {
     space.sound();
     node::seek(reads.page(space, tree, leaf), key)
@@ -160,6 +165,8 @@ pub fn slot_of<const N: usize>(
     requires tree { HasTree N space.now tree }
     ensures value { result ≡ found_in key.now (leaf_items tree.key_bytes (pages_of space.now tree.segment)) }
     ensures count { reads.new ≤ reads.old + height_of (nodes_in space.now tree) + 2 }
+    ensures counted { reads.old + (height_of (nodes_in space.now tree) + 2) < 2 ^ 64
+        → reads.new ≡ reads.old + (height_of (nodes_in space.now tree) + 2) }
 {
     space.sound();
     let leaf = leaf_of(tree, space, key, reads);

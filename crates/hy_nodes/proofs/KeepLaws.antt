@@ -1,8 +1,8 @@
 -- Changes that keep the entries, one behind another.
-use Rattle.std.proofs.Common.{ℕ, ◌+◌, ◌-◌, ◌/◌, ◌≤◌, ◌*◌, ap, length, ◌∙◌, arith}
+use Rattle.std.proofs.Common.{ℕ, ◌+◌, ◌-◌, ◌≤◌, ap, length, ◌∙◌, arith}
 use Rattle.std.proofs.lemmas.Nat.{le-div}
 use Rattle.hy_space.specs.Space.{SpaceState}
-use Rattle.hy_trees.specs.Nodes.{Item, capacity}
+use Rattle.hy_trees.specs.Nodes.{capacity}
 use Rattle.hy_nodes.specs.declared.pages.Tree.{Tree}
 use Rattle.hy_nodes.specs.Ways.{HasFewFree, KeepsEntries, KeepsPages}
 

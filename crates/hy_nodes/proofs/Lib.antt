@@ -6,3 +6,4 @@ pub mod NodeLaws
 pub mod FreeLaws
 pub mod ReachLaws
 pub mod KeepLaws
+pub mod WordLaws

@@ -1,19 +1,19 @@
 -- What a page says after a write.
-use Rattle.std.proofs.Common.{◌≡◌, ◌≢◌, ℕ, zero, suc, ◌+◌, ◌-◌, ◌*◌, ◌/◌, ◌%◌, ◌^◌, ◌<◌, ◌≤◌, List, [], ◌∷◌, ◌++◌, length, map, take, drop, replicate, slice_index_or, slice_set, refl, sym, ap, ap₂, ◌∙◌, subst, arith, inl, inr, append_assoc, get_or-set_other, get_or-set_same, set-set, length-drop}
+use Rattle.std.proofs.Common.{◌≡◌, ◌≢◌, ℕ, zero, suc, ◌+◌, ◌-◌, ◌*◌, ◌/◌, ◌%◌, ◌^◌, ◌<◌, ◌≤◌, List, [], ◌∷◌, ◌++◌, length, take, drop, replicate, slice_index_or, slice_set, refl, sym, ap, ap₂, ◌∙◌, arith, inl, inr, append_assoc, get_or-set_same, set-set, length-drop, length-append}
 use Rattle.std.proofs.Math.Nat.{mul-le-mul_right, mul-le-mul_left, div-div-eq-div-mul}
-use Rattle.std.proofs.lemmas.Bool.{cases_lt, cases_eq}
-use Rattle.std.proofs.lemmas.List.{length-map, length-take-le, get_or-map, map-append, map-set, take_at, drop_at, drop-drop, take-append-le, drop-append-le, drop-take, take-take, take_all, set-append_left}
+use Rattle.std.proofs.lemmas.Bool.{cases_lt}
+use Rattle.std.proofs.lemmas.List.{length-take-le, get_or-map, map-append, map-set, take_at, drop_at, drop-drop, take-append-le, drop-append-le, drop-take, take-take, take_all, set-append_left}
 use Rattle.std.proofs.Math.Seq.{set-append_seam}
 use Rattle.std.proofs.Math.ListN.{drop_of_length-le}
 use Rattle.std.specs.Int.{w32, to_le_bytes}
 use Rattle.hy_page.specs.Bytes.{number_of, bytes_of, bytes_at, overwritten}
-use Rattle.hy_page.proofs.ByteLaws.{field_of_zeros, field_written, bytes_at-overwritten_before, bytes_at-overwritten_behind, bytes_at-overwritten_same}
+use Rattle.hy_page.proofs.ByteLaws.{length-bytes_at, field_of_zeros, field_written, bytes_at-overwritten_before, bytes_at-overwritten_behind, bytes_at-overwritten_same}
 use Rattle.hy_undo.proofs.PutBackLaws.{length-overwritten}
 use Rattle.hy_trees.specs.Nodes.{Item, Node, item_width, no_item, no_node, node_at, with_height, with_items, with_key, with_next, with_number, with_tail}
 use Rattle.hy_nodes.specs.Nodes.{first_items, height_field, item_at, item_count, item_from, item_offset, items_of, list_at, next_field, node_of, nodes_of, number_at}
 use Rattle.hy_nodes.specs.Pages.{items_in, with_bytes}
 use Rattle.hy_nodes.proofs.SequenceLaws.{first_items-joined, first_items-same, first_items-split, get_or-first_items, length-first_items}
-use Rattle.hy_nodes.proofs.PlaceLaws.{item_offset-before}
+use Rattle.hy_nodes.proofs.PlaceLaws.{item_offset-before, item_offset-between}
 
 -- where bytes were written, a part of them stands
 pub bytes_at-overwritten_inside : (bytes : List ℕ) (offset : ℕ) (others : List ℕ) (from count : ℕ) → offset ≤ length bytes → from + count ≤ length others → bytes_at (overwritten bytes offset others) (offset + from) count ≡ bytes_at others from count
@@ -376,6 +376,25 @@ items_in-rest kw pages page start count whole part there within is_whole is_coun
     ap₂ (λ bytes n. items_in kw bytes (n - start)) (is_part ∙ ap₂ (λ bytes n. bytes_at bytes (item_offset kw start) ((n - start) * item_width kw)) is_whole is_count) is_count
     ∙ items_in-behind kw (list_at pages page) start within
     ∙ ap (λ (node : Node). drop start node.items) (sym (node_at-nodes kw pages page there))
+
+-- the items behind a place, which move to where some that are put before them end
+pub nodes-moved : (n kw : ℕ) (pages mid new : List (List ℕ)) (page place end more count : ℕ) (items : List ℕ) → page < length pages → length (list_at pages page) ≡ n → n ≤ 65536 → place ≤ end → end ≤ count → count ≡ item_count (list_at pages page)
+    → item_offset kw count ≤ n → item_offset kw (place + (more + (count - end))) ≤ n → length items ≡ more * item_width kw
+    → mid ≡ with_bytes pages page (item_offset kw place) (items ++ bytes_at (list_at pages page) (item_offset kw end) ((count - end) * item_width kw))
+    → new ≡ with_bytes mid page 0 (bytes_of 2 (place + (more + (count - end))))
+    → nodes_of kw new ≡ slice_set (nodes_of kw pages) page (with_tail (node_at (nodes_of kw pages) page) place (items_in kw items more ++ drop end (node_at (nodes_of kw pages) page).items))
+nodes-moved n kw pages between after page place last more count items there full largest before inside number old_fits fits size first second =
+    let here = list_at pages page in
+    let rest = count - last in
+    let behind = bytes_at here (item_offset kw last) (rest * item_width kw) in
+    let ends = item_offset-between kw last count inside in
+    let begins = item_offset-before kw last count inside in
+    let behind_size : length behind ≡ rest * item_width kw = length-bytes_at here (item_offset kw last) (rest * item_width kw) (omega (arith, ends, begins, old_fits, full)) in
+    let both : (more + rest) * item_width kw ≡ more * item_width kw + rest * item_width kw = omega arith in
+    nodes-tail n kw pages between after page place (more + rest) (items ++ behind) there full largest (omega (arith, before, inside, number)) fits (omega (arith, length-append items behind, size, behind_size, both)) first second
+    ∙ ap (λ (tail : List Item). slice_set (nodes_of kw pages) page (with_tail (node_at (nodes_of kw pages) page) place tail))
+    (items_in-joined kw items behind more rest size behind_size
+    ∙ ap (λ (tail : List Item). items_in kw items more ++ tail) (items_in-rest kw pages page last count here behind there (omega (arith, inside, number)) refl number refl))
 
 -- none stand behind all
 pub drop-all : (kw : ℕ) (pages : List (List ℕ)) (page end count : ℕ) → end ≡ count → count ≡ length (node_at (nodes_of kw pages) page).items → [] ≡ drop end (node_at (nodes_of kw pages) page).items

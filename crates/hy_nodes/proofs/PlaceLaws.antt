@@ -20,6 +20,10 @@ item_offset-between key_width start end ordered =
     let all : (end - start + start) * item_width key_width ≡ end * item_width key_width = ap (λ n. n * item_width key_width) (let same : end - start + start ≡ end = omega (arith, ordered) in same) in
     omega (arith, all)
 
+-- items that move to where others end, which are put before them, end where so many items end
+pub item_offset-moved : (key_width place more rest : ℕ) → item_offset key_width place + (more * item_width key_width + rest * item_width key_width) ≡ item_offset key_width (place + (more + rest))
+item_offset-moved key_width place more rest = omega arith
+
 module _ (key_width : ℕ) (page key : List ℕ) (count : ℕ) (rising : AreRising key_width page count) where
   -- an item before one that stands before the key does so too
   pub is_below-before : (k middle : ℕ) → k ≤ middle → middle < count → is_below_at key_width page key middle ≡ true → is_below_at key_width page key k ≡ true

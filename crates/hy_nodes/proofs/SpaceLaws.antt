@@ -1,5 +1,5 @@
 -- The pages of one segment of a space.
-use Rattle.std.proofs.Common.{◌≡◌, ℕ, ◌-◌, ◌*◌, ◌<◌, ◌≤◌, ◌^◌, [], length, map, get_or, ap, ◌∙◌, arith}
+use Rattle.std.proofs.Common.{◌≡◌, ℕ, ◌<◌, ◌^◌, [], length, map, get_or, ap, ◌∙◌, arith}
 use Rattle.std.proofs.lemmas.List.{length-map, get_or-map}
 use Rattle.hy_frames.specs.FrameTable.{page_of}
 use Rattle.hy_space.specs.Space.{SpaceState, HasPage, IsSound, page_count}

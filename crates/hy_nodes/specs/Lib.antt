@@ -3,3 +3,4 @@ pub mod Pages
 pub mod Places
 pub mod Writes
 pub mod Ways
+pub mod Words

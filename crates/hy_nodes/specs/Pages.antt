@@ -1,10 +1,10 @@
 -- What writes into one page leave of the pages of a tree.
-use Rattle.std.specs.Prelude.{◌≡◌, ◌≢◌, ℕ, ◌+◌, ◌*◌, List, [], ◌∷◌, ◌++◌, length, take, drop, slice_index_or, slice_set}
+use Rattle.std.specs.Prelude.{ℕ, ◌*◌, List, slice_set}
 use Rattle.hy_page.specs.Bytes.{overwritten}
 use Rattle.hy_space.specs.Space.{SpaceState}
 use Rattle.hy_nodes.specs.declared.pages.Tree.{Tree}
 use Rattle.hy_nodes.specs.Writes.{pages_of}
-use Rattle.hy_trees.specs.Nodes.{Item, Node, item_width, no_item, no_node, node_at}
+use Rattle.hy_trees.specs.Nodes.{Item, Node, item_width}
 use Rattle.hy_nodes.specs.Nodes.{first_items, item_from, list_at, nodes_of}
 
 -- the bytes of a page of a tree, and what all its pages say

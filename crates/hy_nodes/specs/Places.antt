@@ -1,5 +1,5 @@
 -- What a search for a key in one page answers.
-use Rattle.std.specs.Prelude.{◌≡◌, ℕ, ◌-◌, ◌<◌, ◌≤◌, Bool, true, false, List, length}
+use Rattle.std.specs.Prelude.{◌≡◌, ℕ, ◌<◌, ◌≤◌, Bool, true, false, List, length}
 use Rattle.hy_trees.specs.Trees.{is_less_bytes}
 use Rattle.hy_nodes.specs.Nodes.{item_count, item_offset, key_at}
 

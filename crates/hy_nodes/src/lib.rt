@@ -5,6 +5,7 @@
 mod free;
 mod key;
 pub mod node;
+mod order;
 mod pages;
 
 pub use key::{ItemBytes, KeyBytes, MAX_KEY_BYTES, push_bytes};

@@ -1,13 +1,16 @@
 //! One page of a tree: a header, and behind it items in rising order of their keys. An item is the bytes of a key and a
 //! number: in a leaf the slot of the key, in an inner page the page of a child.
 
-ghost use Rattle.std.specs.Prelude.{◌≡◌, ℕ, ◌+◌, ◌-◌, ◌*◌, ◌^◌, ◌<◌, ◌≤◌, ◌↔◌, IsTrue, length};
+ghost use Rattle.std.specs.Prelude.{◌≡◌, ℕ, ◌+◌, ◌-◌, ◌*◌, ◌^◌, ◌<◌, ◌≤◌, ◌↔◌, IsTrue, true, length};
 ghost use Rattle.hy_page.specs.Bytes.{bytes_at};
 ghost use Rattle.hy_trees.specs.Trees.{is_less_bytes};
 ghost use Rattle.hy_nodes.specs.Nodes.{height_field, item_count, item_offset, key_at, next_field, number_at};
 ghost use Rattle.hy_trees.specs.Nodes.{item_width};
 ghost use Rattle.hy_nodes.specs.Places.{AreRising, HasItems, IsBound, IsChildPlace, IsSought, is_below_at};
+ghost use Rattle.hy_nodes.specs.Words.{first_word};
 ghost use Rattle.hy_nodes.specs.declared.key.TheConstants.{MAX_KEY_BYTES};
+
+use crate::order::{WORD_BYTES, first_word, is_less_behind, word};
 
 /// How many bytes stand before the items of a page.
 pub const HEADER_BYTES: usize = 8;
@@ -96,28 +99,39 @@ pub fn number(page: &[u8], key_bytes: usize, place: usize) -> u64
 fn place_among(page: &[u8], key_bytes: usize, count: usize, sought: &[u8]) -> usize
     requires width { key_bytes ≤ MAX_KEY_BYTES }
     requires some { 0 < count }
+    requires same { length sought.now ≡ key_bytes }
     requires within { item_offset key_bytes count ≤ length page.now }
     requires rising { AreRising key_bytes page.now count }
     ensures { IsBound (is_below_at key_bytes page.now sought.now) count result }
 {
-    if is_below(page, key_bytes, count - 1, sought) {
+    let first = first_word(sought);
+    if is_below(page, key_bytes, count - 1, sought, first) {
         return count;
     }
-    lower_bound(page, key_bytes, count - 1, sought)
+    lower_bound(page, key_bytes, count - 1, sought, first)
 }
 
-/// Whether the key of an item stands before another.
-fn is_below(page: &[u8], key_bytes: usize, place: usize, sought: &[u8]) -> bool
+/// Whether the key of an item stands before another, whose first bytes spell the number `first`.
+fn is_below(page: &[u8], key_bytes: usize, place: usize, sought: &[u8], first: u64) -> bool
     requires width { key_bytes ≤ MAX_KEY_BYTES }
+    requires same { length sought.now ≡ key_bytes }
+    requires first { first ≡ first_word sought.now }
     requires within { item_offset key_bytes (place + 1) ≤ length page.now }
     ensures { result ≡ is_below_at key_bytes page.now sought.now place }
 {
-    key(page, key_bytes, place).cmp(sought).is_lt()
+    let begin = offset(key_bytes, place);
+    let number = word(&page[begin..begin + WORD_BYTES]);
+    if number != first {
+        return number < first;
+    }
+    is_less_behind(key(page, key_bytes, place), sought)
 }
 
-/// How many of the first `count` items have a key below another.
-fn lower_bound(page: &[u8], key_bytes: usize, count: usize, sought: &[u8]) -> usize
+/// How many of the first `count` items have a key below another, whose first bytes spell the number `first`.
+fn lower_bound(page: &[u8], key_bytes: usize, count: usize, sought: &[u8], first: u64) -> usize
     requires width { key_bytes ≤ MAX_KEY_BYTES }
+    requires same { length sought.now ≡ key_bytes }
+    requires first { first ≡ first_word sought.now }
     requires within { item_offset key_bytes count ≤ length page.now }
     requires rising { AreRising key_bytes page.now count }
     ensures { IsBound (is_below_at key_bytes page.now sought.now) count result }
@@ -126,7 +140,7 @@ fn lower_bound(page: &[u8], key_bytes: usize, count: usize, sought: &[u8]) -> us
     let mut high = count;
     while low < high {
         let middle = low + (high - low) / 2;
-        if is_below(page, key_bytes, middle, sought) {
+        if is_below(page, key_bytes, middle, sought, first) {
             low = middle + 1;
         } else {
             high = middle;
@@ -170,6 +184,52 @@ fn place_of(page: &[u8], sought: &[u8]) -> usize
         return 0;
     }
     place_among(page, sought.len(), count, sought)
+}
+
+/// How many items have a key below another, looked for from a place on: by steps, where those before the place do, and
+/// else by halving. A short way is found by looking at few items that lie side by side.
+pub fn bound_from(page: &[u8], sought: &[u8], start: usize) -> usize
+    requires header { 8 ≤ length page.now }
+    requires width { length sought.now ≤ MAX_KEY_BYTES }
+    requires within { HasItems (length sought.now) page.now }
+    requires rising { AreRising (length sought.now) page.now (item_count page.now) }
+    requires start { start ≤ item_count page.now }
+    ensures { IsBound (is_below_at (length sought.now) page.now sought.now) (item_count page.now) result }
+{
+    let count = count(page);
+    let first = first_word(sought);
+    if start > 0 && !is_below(page, sought.len(), start - 1, sought, first) {
+        return place_of(page, sought);
+    }
+    bound_by_steps(page, sought.len(), count, sought, first, start)
+}
+
+/// How many of the first `count` items have a key below another, where those before `start` do.
+fn bound_by_steps(
+    page: &[u8],
+    key_bytes: usize,
+    count: usize,
+    sought: &[u8],
+    first: u64,
+    start: usize,
+) -> usize
+    requires width { key_bytes ≤ MAX_KEY_BYTES }
+    requires same { length sought.now ≡ key_bytes }
+    requires first { first ≡ first_word sought.now }
+    requires within { item_offset key_bytes count ≤ length page.now }
+    requires rising { AreRising key_bytes page.now count }
+    requires start { start ≤ count }
+    requires before { 0 < start → is_below_at key_bytes page.now sought.now (start - 1) ≡ true }
+    ensures { IsBound (is_below_at key_bytes page.now sought.now) count result }
+{
+    let mut place = start;
+    while place < count {
+        if !is_below(page, key_bytes, place, sought, first) {
+            return place;
+        }
+        place += 1;
+    }
+    count
 }
 
 /// Whether the key of an item stands behind another.

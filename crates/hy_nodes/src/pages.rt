@@ -1,8 +1,8 @@
 //! The pages of one tree in a space: how many items they take, and the writes that change their items.
 
-ghost use Rattle.std.specs.Prelude.{◌≡◌, ℕ, ◌+◌, ◌-◌, ◌*◌, ◌^◌, ◌<◌, ◌≤◌, ◌∷◌, [], ◌++◌, length, take, drop, slice_index_or, OnOk, IsErrOf};
+ghost use Rattle.std.specs.Prelude.{◌≡◌, ℕ, ◌+◌, ◌-◌, ◌*◌, ◌^◌, ◌<◌, ◌≤◌, ◌∷◌, [], ◌++◌, length, take, drop, max, slice_index_or, OnOk, IsErrOf};
 ghost use Rattle.arrayvec.specs.ArrayVec.{array_vec_len};
-ghost use Rattle.hy_page.specs.Bytes.{bytes_of};
+ghost use Rattle.hy_page.specs.Bytes.{bytes_at, bytes_of};
 ghost use Rattle.hy_space.specs.Space.{HasPage, page_count};
 ghost use Rattle.hy_undo.specs.PrivatePages.{IsUndoLog};
 ghost use Rattle.hy_undo.specs.Writes.{IsOutOfFrames};
@@ -164,6 +164,32 @@ impl Tree {
         undo.write(space, self.segment, page, offset, bytes)
     }
 
+    /// Puts bytes into a page in the place of `gap` others from `offset` on, and moves the `count` bytes behind these to
+    /// where the new ones end.
+    fn splice<const N: usize>(
+        self,
+        space: &mut Space<N>,
+        undo: &mut Undo<N>,
+        page: u32,
+        offset: usize,
+        gap: usize,
+        bytes: &[u8],
+        count: usize,
+    ) -> Result<(), Shortage>
+        requires page { HasPage space.old self.segment page }
+        requires within { offset + (max gap (length bytes.now) + count) ≤ N }
+        requires undo_log { IsUndoLog N space.old undo.old }
+        ensures writes { WritesSegment N self.segment space.old space.new undo.old undo.new }
+        ensures bytes { OnOk result (pages_of space.new self.segment
+            ≡ with_bytes (pages_of space.old self.segment) page offset
+            (bytes.now ++ bytes_at (page_in space.old self page) (offset + gap) count)) }
+        ensures pages { page_count space.new self.segment ≡ page_count space.old self.segment }
+        ensures no_frame { IsErrOf result Shortage.NoFrame → IsOutOfFrames space.new }
+    {
+        space.sound();
+        undo.splice(space, self.segment, page, offset, gap, bytes, count)
+    }
+
     /// Writes the header's number of items.
     fn write_count<const N: usize>(
         self,
@@ -286,13 +312,11 @@ impl Tree {
         ensures no_frame { IsErrOf result Shortage.NoFrame → IsOutOfFrames space.new }
     {
         space.sound();
-        let whole = space.page(self.segment, page);
-        let count = node::count(whole.bytes());
-        let behind = node::run(whole.bytes(), self.key_bytes, place, count);
-        let items = joined(whole, item, behind);
-        let size = item.len() + behind.len();
-        let more = 1 + (count - place);
-        self.write_behind(space, undo, page, place, &items.bytes()[..size], more)
+        let count = self.count(space, page);
+        let begin = node::offset(self.key_bytes, place);
+        let behind = (count - place) * self.item_bytes();
+        self.splice(space, undo, page, begin, 0, item, behind)?;
+        self.write_count(space, undo, page, count + 1)
     }
 
     /// Puts the items of one page from `start` to `end` into another that has room for them, before those from a place
@@ -380,19 +404,12 @@ impl Tree {
         ensures no_frame { IsErrOf result Shortage.NoFrame → IsOutOfFrames space.new }
     {
         space.sound();
-        let whole = space.page(self.segment, page);
-        let count = node::count(whole.bytes());
-        let behind = node::run(whole.bytes(), self.key_bytes, end, count);
-        let items = joined(whole, behind, &[]);
-        let size = behind.len();
-        self.write_behind(
-            space,
-            undo,
-            page,
-            start,
-            &items.bytes()[..size],
-            count - end,
-        )
+        let count = self.count(space, page);
+        let begin = node::offset(self.key_bytes, start);
+        let gap = (end - start) * self.item_bytes();
+        let behind = (count - end) * self.item_bytes();
+        self.splice(space, undo, page, begin, gap, &[], behind)?;
+        self.write_count(space, undo, page, count - (end - start))
     }
 
     /// Gives an item another number.

@@ -1,6 +1,7 @@
 //! Relations.
 
-ghost use Rattle.std.specs.Prelude.{◌≡◌, ℕ, ◌+◌, ◌^◌, ◌<◌, ◌≤◌, ◌++◌, ◌∷◌, [], ◌↔◌, ◌⊎◌, length, slice_set, Some, None, Err, IfOk, OnOk, OnErr, IsErrOf};
+ghost use Rattle.std.specs.Prelude.{◌≡◌, ℕ, ◌+◌, ◌^◌, ◌<◌, ◌≤◌, ◌++◌, ◌∷◌, [], ◌↔◌, ◌⊎◌, length, slice_set, Some, None, Err, IfOk, IfSome, OnOk, OnErr, IsErrOf};
+ghost use Rattle.std.specs.Option.{option_map};
 ghost use Rattle.hy_frames.specs.FrameTable.{free_of};
 ghost use Rattle.hy_rows.specs.Spelling.{HasSlots, live_rows, rows_of};
 ghost use Rattle.hy_space.specs.Space.{owner_bytes, page_count};
@@ -9,7 +10,9 @@ ghost use Rattle.hy_undo.specs.Writes.{CanUndo, CanUndoGrowth, HasChild, IsOutOf
 ghost use Rattle.hy_relation.specs.Relation.{ChangesSegment, HasAllSlotsUsed, HasFewPages, HasRelation, IsLive, owner_pages, pages_after_push, relation_slots, row_in as row_in_slots};
 
 use crate::lent::{know_sizes, row_on, used_on};
-use crate::slots::{know_few, live_slot, make_room, row_in, used_of, write_count, write_slot};
+use crate::slots::{
+    ends_of, know_few, live_slot, make_room, row_bytes_in, row_in, used_of, write_count, write_slot,
+};
 use hy_frames::{Hold, Shortage};
 use hy_rows::Row;
 use hy_space::Space;
@@ -47,6 +50,31 @@ impl<R: Row> Relation<R> {
             row_in::<R, N>(space, slot)
         } else {
             None
+        }
+    }
+
+    /// The bytes of the row of a slot; none where it was erased or was never used.
+    pub fn bytes<'a, const N: usize>(&self, space: &'a Space<N>, slot: u64) -> Option<&'a [u8]>
+        requires { HasRelation N R.SEGMENT R.BYTES space.now }
+        ensures row { option_map (λ bytes. R.row_of_bytes bytes.now) result
+            ≡ row_in_slots (relation_slots N R.SEGMENT R.BYTES R.row_of_bytes space.now) slot }
+        ensures width { IfSome result (λ bytes. length bytes.now ≡ R.BYTES) }
+    {
+        if slot < used_of::<R, N>(space) {
+            row_bytes_in::<R, N>(space, slot)
+        } else {
+            None
+        }
+    }
+
+    /// Looks at both ends of a slot, where it is used, and so has the processor fetch it. The number says nothing.
+    pub fn glance<const N: usize>(&self, space: &Space<N>, slot: u64) -> u64
+        requires { HasRelation N R.SEGMENT R.BYTES space.now }
+    {
+        if slot < used_of::<R, N>(space) {
+            ends_of::<R, N>(space, slot)
+        } else {
+            0
         }
     }
 

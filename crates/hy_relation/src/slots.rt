@@ -1,6 +1,7 @@
 //! The slots of a segment of the owner.
 
-ghost use Rattle.std.specs.Prelude.{◌≡◌, ℕ, ◌+◌, ◌^◌, ◌<◌, ◌≤◌, ◌∷◌, ◌⊎◌, length, Err, OnOk, OnErr};
+ghost use Rattle.std.specs.Prelude.{◌≡◌, ℕ, ◌+◌, ◌^◌, ◌<◌, ◌≤◌, ◌∷◌, ◌⊎◌, length, Err, IfSome, OnOk, OnErr};
+ghost use Rattle.std.specs.Option.{option_map};
 ghost use Rattle.hy_page.specs.Bytes.{bytes_at};
 ghost use Rattle.hy_frames.specs.FrameTable.{free_of};
 ghost use Rattle.hy_rows.specs.Spelling.{row_of_slot, slot_at, slot_width, used_slots};
@@ -71,6 +72,43 @@ pub(crate) fn row_in<R: Row, const N: usize>(space: &Space<N>, slot: u64) -> Opt
     space.sound();
     let address = address_in::<R, N>(space, slot);
     row_at(space.page(R::SEGMENT, address.page as u32), address.offset)
+}
+
+/// The bytes of the row of the slot at an offset of a page, if the slot is live.
+fn bytes_in_slot<R: Row, const N: usize>(page: &Page<N>, offset: usize) -> Option<&[u8]>
+    requires { offset + slot_width R.BYTES ≤ N }
+    ensures row { option_map (λ bytes. R.row_of_bytes bytes.now) result
+        ≡ row_of_slot R.row_of_bytes (bytes_at page.now offset (slot_width R.BYTES)) }
+    ensures width { IfSome result (λ bytes. length bytes.now ≡ R.BYTES) }
+{
+    let slot = &page.bytes()[offset..offset + 1 + R::BYTES];
+    let is_live = slot[0] == 1;
+    if is_live { Some(&slot[1..]) } else { None }
+}
+
+/// The bytes of the row of a used slot, if the slot is live.
+pub(crate) fn row_bytes_in<R: Row, const N: usize>(space: &Space<N>, slot: u64) -> Option<&[u8]>
+    requires slots { HasRelation N R.SEGMENT R.BYTES space.now }
+    requires used { slot < used_slots (owner_pages space.now R.SEGMENT) }
+    ensures row { option_map (λ bytes. R.row_of_bytes bytes.now) result
+        ≡ row_of_slot R.row_of_bytes (slot_at N R.BYTES (owner_pages space.now R.SEGMENT) slot) }
+    ensures width { IfSome result (λ bytes. length bytes.now ≡ R.BYTES) }
+{
+    space.sound();
+    let address = address_in::<R, N>(space, slot);
+    bytes_in_slot::<R, N>(space.page(R::SEGMENT, address.page as u32), address.offset)
+}
+
+/// The first and the last byte of a used slot, mixed into one.
+pub(crate) fn ends_of<R: Row, const N: usize>(space: &Space<N>, slot: u64) -> u64
+    requires slots { HasRelation N R.SEGMENT R.BYTES space.now }
+    requires used { slot < used_slots (owner_pages space.now R.SEGMENT) }
+{
+    space.sound();
+    let address = address_in::<R, N>(space, slot);
+    let page = space.page(R::SEGMENT, address.page as u32).bytes();
+    let ends = page[address.offset] ^ page[address.offset + R::BYTES];
+    ends.into()
 }
 
 /// The bytes of a live slot.

@@ -45,8 +45,9 @@ pub fn push_text<const WIDTH: usize>(out: &mut SlotBytes, text: &Text<WIDTH>)
     ensures len { array_vec_len out.new ≡ array_vec_len out.old + WIDTH }
     ensures text { IsText WIDTH text.now }
 {
-    for byte in text.field() {
-        out.push(*byte);
+    match out.try_extend_from_slice(text.field()) {
+        Ok(()) => {}
+        Err(_) => unreachable!(),
     }
 }
 

@@ -131,6 +131,24 @@ impl Row for Customer {
 impl Customer {
     ghost use Rattle.hy_rows.specs.Limits.{districts_per_warehouse, max_count, max_customers, max_warehouses};
     ghost use Rattle.hy_rows.specs.Ranges.{IsBetween, IsRate, IsLoadedMoney, IsLoadedText, IsCredit, IsCustomerInRange};
+    ghost use Rattle.std.specs.Prelude.{◌≡◌, length};
+    ghost use Rattle.hy_rows.specs.Rows.{customer_of};
+
+    /// C_ID, in the bytes of a row.
+    pub fn id_in(bytes: &[u8]) -> u16
+        requires { length bytes.now ≡ 74 }
+        ensures { result ≡ (customer_of bytes.now).id }
+    {
+        read_number(bytes, 0, 2) as u16
+    }
+
+    /// C_DISCOUNT, in the bytes of a row.
+    pub fn discount_in(bytes: &[u8]) -> u16
+        requires { length bytes.now ≡ 74 }
+        ensures { result ≡ (customer_of bytes.now).discount }
+    {
+        read_number(bytes, 40, 2) as u16
+    }
 
     /// Whether each column has a value that a load may have.
     pub fn is_in_range(&self) -> bool

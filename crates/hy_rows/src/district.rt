@@ -105,6 +105,24 @@ impl Row for District {
 impl District {
     ghost use Rattle.hy_rows.specs.Limits.{districts_per_warehouse, max_order, max_warehouses};
     ghost use Rattle.hy_rows.specs.Ranges.{IsBetween, IsRate, IsLoadedMoney, IsLoadedText, IsDistrictInRange};
+    ghost use Rattle.std.specs.Prelude.{◌≡◌, length};
+    ghost use Rattle.hy_rows.specs.Rows.{district_of};
+
+    /// D_TAX, in the bytes of a row.
+    pub fn tax_in(bytes: &[u8]) -> u16
+        requires { length bytes.now ≡ 26 }
+        ensures { result ≡ (district_of bytes.now).tax }
+    {
+        read_number(bytes, 12, 2) as u16
+    }
+
+    /// D_NEXT_O_ID, in the bytes of a row.
+    pub fn next_order_in(bytes: &[u8]) -> u32
+        requires { length bytes.now ≡ 26 }
+        ensures { result ≡ (district_of bytes.now).next_order }
+    {
+        read_number(bytes, 22, 4) as u32
+    }
 
     /// Whether each column has a value that a load may have.
     pub fn is_in_range(&self) -> bool

@@ -99,6 +99,16 @@ impl Row for Warehouse {
 
 impl Warehouse {
     ghost use Rattle.hy_rows.specs.Ranges.{IsWarehouseInRange};
+    ghost use Rattle.std.specs.Prelude.{◌≡◌, length};
+    ghost use Rattle.hy_rows.specs.Rows.{warehouse_of};
+
+    /// W_TAX, in the bytes of a row.
+    pub fn tax_in(bytes: &[u8]) -> u16
+        requires { length bytes.now ≡ 21 }
+        ensures { result ≡ (warehouse_of bytes.now).tax }
+    {
+        read_number(bytes, 11, 2) as u16
+    }
 
     /// Whether each column has a value that a load may have.
     pub fn is_in_range(&self) -> bool

@@ -11,4 +11,7 @@ pub use indexes::{
     Indexed, find_slot, first_entry, insert_entry, know_entries, read_entries, remove_entry,
 };
 pub use keys::{CustomerKey, LineKey, OrderKey, WaitingKey};
-pub use rows::{Lasting, erase_new_order, know_store, push_new_order, push_row, put_row, row_at};
+pub use rows::{
+    Lasting, erase_new_order, glance_at, know_store, push_new_order, push_row, put_row, row_at,
+    row_bytes_at,
+};

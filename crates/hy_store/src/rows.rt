@@ -101,6 +101,28 @@ pub fn row_at<R: Lasting, const N: usize>(space: &Space<N>, place: u64) -> R
     }
 }
 
+/// The bytes of the row at a place of its table.
+pub fn row_bytes_at<R: Lasting, const N: usize>(space: &Space<N>, place: u64) -> &[u8]
+    requires store { HasStore N (owner_bytes space.now) }
+    requires there { place < length (R.rows_in (stored_in N space.now).tables) }
+    ensures row { slice_get (R.rows_in (stored_in N space.now).tables) place ≡ Some (R.row_of_bytes result.now) }
+    ensures width { length result.now ≡ R.BYTES }
+{
+    know_rows::<R, N>(space);
+    match Relation::<R>::new().bytes(space, place) {
+        Some(bytes) => bytes,
+        None => unreachable!(),
+    }
+}
+
+/// Looks at the row at a place, if there is one, and so has the processor fetch it. The number says nothing.
+pub fn glance_at<R: Lasting, const N: usize>(space: &Space<N>, place: u64) -> u64
+    requires { HasStore N (owner_bytes space.now) }
+{
+    know_relation::<R, N>(space);
+    Relation::<R>::new().glance(space, place)
+}
+
 /// Puts a row in the place of another.
 pub fn put_row<R: Lasting, const N: usize>(
     space: &mut Space<N>,

@@ -1,5 +1,6 @@
 //! The executor of a warehouse.
 
+use crate::ahead::read_ahead;
 use crate::begin::begin_place;
 use crate::delivery::deliver;
 use crate::payment::pay;
@@ -26,6 +27,8 @@ pub struct Executor {
     delivered: ArrayVec<u32, 10>,
     entries: Vec<Entry<LineKey>>,
     low: Vec<u32>,
+    // what was read ahead; nobody asks for it, and keeping it keeps the reads
+    ahead: u64,
 }
 
 impl Model for Executor {
@@ -62,6 +65,7 @@ impl Executor {
             delivered: ArrayVec::new(),
             entries: Vec::new(alloc),
             low: Vec::new(alloc),
+            ahead: 0,
         }
     }
 
@@ -92,6 +96,7 @@ impl Executor {
         ensures layout { self.new.layout ≡ self.old.layout }
     {
         let place = begin_place(&self.layout, space, command)?;
+        self.ahead = read_ahead(&self.layout, space, command, place);
         self.place = place;
         self.delivered.clear();
         Ok(())

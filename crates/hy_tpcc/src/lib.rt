@@ -1,6 +1,7 @@
 //! The five transactions of TPC-C on the pages of a warehouse, in slices.
 #![tactic(auto)]
 
+mod ahead;
 mod begin;
 mod delivery;
 mod executor;

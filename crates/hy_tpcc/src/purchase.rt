@@ -16,7 +16,7 @@ use hy_schema::Refusal;
 use hy_space::Space;
 use hy_store::know_store;
 use hy_undo::Undo;
-use hy_writers::{add_line, add_order, own_district, purchase_total};
+use hy_writers::{add_line, add_order, own_next_order, purchase_total};
 
 /// The first slice of a purchase: its head.
 fn place_order<const N: usize>(
@@ -95,7 +95,7 @@ fn reply_to_order<const N: usize>(
         (stored_in N space.now) result }
 {
     layout.load().sound();
-    let number = own_district(layout, space, order.district).next_order - 1;
+    let number = own_next_order(layout, space, order.district) - 1;
     Reply::NewOrder {
         order: number,
         total: purchase_total(layout, space, order, place),

@@ -5,6 +5,7 @@ pub mod TouchedLaws
 pub mod PrivatePageLaws
 pub mod PieceLaws
 pub mod RollBackLaws
+pub mod SpliceLaws
 pub mod SplitLaws
 pub mod CutLaws
 pub mod ChildBackLaws

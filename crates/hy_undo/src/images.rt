@@ -4,7 +4,8 @@ ghost use Rattle.std.specs.Prelude.{◌≡◌, ℕ, ◌+◌, ◌-◌, ◌^◌, �
 ghost use Rattle.hy_undo.specs.inside.Fork.{addresses, address_at};
 ghost use Rattle.std.specs.List.{list_any};
 ghost use Rattle.hy_undo.specs.Touched.{touched, is_same_address, was_there};
-ghost use Rattle.hy_undo.specs.inside.Pieces.{address_of_piece, piece_at, byte_count, images_of, touched_by};
+ghost use Rattle.hy_undo.specs.inside.Pieces.{address_of_piece, piece_at, byte_count, images_of, last_bytes, touched_by};
+ghost use Rattle.hy_page.specs.Bytes.{bytes_at};
 
 use std::alloc::{AllocError, Global};
 use std::marker::Model;
@@ -104,6 +105,25 @@ impl Images {
             offset: piece.offset as usize,
             bytes: &self.bytes[rest..],
         }
+    }
+
+    /// The bytes of the last image.
+    fn last_bytes(&self) -> &[u8]
+        requires { 0 < length self.now }
+        ensures { result.now ≡ last_bytes self.now }
+    {
+        self.last().bytes
+    }
+
+    /// The `count` bytes from an offset on of those that the last image has.
+    pub(crate) fn last_part(&self, offset: usize, count: usize) -> &[u8]
+        requires some { 0 < length self.now }
+        requires within { offset + count ≤ length (last_bytes self.now) }
+        ensures bytes { result.now ≡ bytes_at (last_bytes self.now) offset count }
+        ensures size { length result.now ≡ count }
+    {
+        let kept = self.last_bytes();
+        &kept[offset..offset + count]
     }
 
     /// How many images there are.

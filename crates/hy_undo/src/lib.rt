@@ -2,11 +2,11 @@
 //! the pages can be made what they were.
 #![tactic(auto)]
 
-ghost use Rattle.std.specs.Prelude.{◌≡◌, ℕ, [], ◌+◌, ◌<◌, ◌≤◌, ◌↔◌, IsTrue, length, slice_index, slice_index_or, replicate, Some, IsSome, IfOk, OnOk, OnErr, IsErrOf};
+ghost use Rattle.std.specs.Prelude.{◌≡◌, ℕ, [], ◌++◌, ◌+◌, ◌<◌, ◌≤◌, ◌↔◌, IsTrue, length, max, slice_index, slice_index_or, replicate, Some, IsSome, IfOk, OnOk, OnErr, IsErrOf};
 ghost use Rattle.std.specs.List.{AllByRecursion};
-ghost use Rattle.hy_page.specs.Bytes.{overwritten};
+ghost use Rattle.hy_page.specs.Bytes.{bytes_at, overwritten};
 ghost use Rattle.hy_frames.specs.FrameTable.{count_of, lent_at, free_of};
-ghost use Rattle.hy_space.specs.Space.{HasPage, IsPrivate, KeepsOwn, IsLeastFree, SameForOwner, SameForOthers, child_table, child_bytes, child_times, owner_bytes, page_count, page_bytes, frame_no, with_page, with_new_page, with_new_frame, with_first_pages, GrowsPage, LacksFrame, ChangesBytesOf};
+ghost use Rattle.hy_space.specs.Space.{HasPage, IsPrivate, KeepsOwn, IsLeastFree, SameForOwner, SameForOthers, child_table, child_bytes, child_times, owner_bytes, page_count, page_bytes, frame_no, with_page, with_new_page, with_new_frame, with_first_pages, GrowsPage, LacksFrame, ChangesBytesOf, WritesPage};
 ghost use Rattle.hy_undo.specs.UndoLog.{first_pages, put_back, restored, undone, empty_log, image_at, with_image};
 ghost use Rattle.hy_undo.specs.inside.RollBack.{without_last};
 ghost use Rattle.hy_undo.specs.Touched.{touched};
@@ -83,6 +83,39 @@ impl<const N: usize> Undo<N> {
         space.sound();
         self.keep_touched(space, segment, page, offset, bytes.len())?;
         space.write_in_place(segment, page, offset, bytes);
+        Ok(())
+    }
+
+    /// Puts bytes into the owner's page in the place of `gap` others from `offset` on, and moves the `count` bytes behind
+    /// these to where the new ones end. What is overwritten is kept for an undo, and is where the moved bytes are read.
+    pub fn splice(
+        &mut self,
+        space: &mut Space<N>,
+        segment: u32,
+        page: u32,
+        offset: usize,
+        gap: usize,
+        bytes: &[u8],
+        count: usize,
+    ) -> Result<(), Shortage>
+        requires there { HasPage space.old segment page }
+        requires within { offset + (max gap (length bytes.now) + count) ≤ N }
+        requires undo_log { IsUndoLog N space.old self.old }
+        ensures bytes { OnOk result (owner_bytes space.new
+            ≡ with_page (owner_bytes space.old) segment page
+            (overwritten (page_bytes space.old segment page) offset
+            (bytes.now ++ bytes_at (page_bytes space.old segment page) (offset + gap) count))) }
+        ensures logs { OnOk result (LogsImage space.old space.new self.old self.new
+            (image_at space.old segment page offset (max gap (length bytes.now) + count))) }
+        ensures undoes { UndoesTheSame N space.old space.new self.old self.new }
+        ensures full { IsErrOf result Shortage.NoFrame ↔ LacksFrame space.old segment page }
+        ensures err { OnErr result ((self.new ≡ self.old) × (space.new ≡ space.old)) }
+    {
+        space.sound();
+        let size = gap.max(bytes.len()) + count;
+        self.keep_touched(space, segment, page, offset, size)?;
+        let moved = self.images.last_part(gap, count);
+        write_both(space, segment, page, offset, bytes, moved);
         Ok(())
     }
 
@@ -364,3 +397,25 @@ fn put_image_back<const N: usize>(space: &mut Space<N>, image: LastImage<'_>)
 mod frame_tests;
 #[cfg(test)]
 mod tests;
+
+/// Writes bytes into a private page over those from `offset` on, and others behind them. This needs no memory and no
+/// frame.
+fn write_both<const N: usize>(
+    space: &mut Space<N>,
+    segment: u32,
+    page: u32,
+    offset: usize,
+    first: &[u8],
+    behind: &[u8],
+)
+    requires there { HasPage space.old segment page }
+    requires private { IsPrivate space.old segment page }
+    requires within { offset + (length first.now + length behind.now) ≤ N }
+    ensures writes { WritesPage space.old space.new segment page
+        (overwritten (page_bytes space.old segment page) offset (first.now ++ behind.now)) }
+    ensures kept { KeepsOwn space.old space.new }
+{
+    space.sound();
+    space.write_in_place(segment, page, offset + first.len(), behind);
+    space.write_in_place(segment, page, offset, first);
+}

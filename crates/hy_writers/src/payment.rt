@@ -21,7 +21,7 @@ use hy_frames::Shortage;
 use hy_layout::Layout;
 use hy_rows::{Customer, District, History, Text, Warehouse};
 use hy_space::Space;
-use hy_store::{push_row, put_row, row_at};
+use hy_store::{push_row, put_row, row_at, row_bytes_at};
 use hy_undo::Undo;
 
 /// An amount that rises by some cents.
@@ -146,7 +146,7 @@ pub fn pay_home<const N: usize>(
 {
     let warehouse = own_warehouse(layout, space);
     let district = own_district(layout, space, payment.district);
-    let payer = row_at::<Customer, N>(space, place);
+    let payer = Customer::id_in(row_bytes_at::<Customer, N>(space, place));
     put_row(space, undo, 0, &warehouse_after(&warehouse, payment.amount))?;
     put_row(
         space,
@@ -157,7 +157,7 @@ pub fn pay_home<const N: usize>(
     push_row(
         space,
         undo,
-        &history_for(payment, payer.id, &warehouse, &district),
+        &history_for(payment, payer, &warehouse, &district),
     )?;
     Ok(())
 }

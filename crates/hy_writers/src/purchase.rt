@@ -16,7 +16,7 @@ ghost use Rattle.hy_writers.specs.Begun.{IsBegunLine, IsBegunPurchase};
 ghost use Rattle.hy_writers.specs.Limits.{most_applied};
 ghost use Rattle.hy_writers.specs.Purchases.{CanAddLine, CanAddOrder, line_for, with_order, with_order_entries, with_order_line, with_waiting};
 
-use crate::finds::{own_district, own_stock, own_warehouse};
+use crate::finds::{own_district, own_district_tax, own_next_order, own_stock, own_tax};
 use hy_commands::{Purchase, PurchaseLine};
 use hy_frames::Shortage;
 use hy_layout::Layout;
@@ -24,7 +24,7 @@ use hy_rows::{Customer, District, Item, NewOrder, Order, OrderLine, Stock};
 use hy_space::Space;
 use hy_store::{
     CustomerKey, LineKey, OrderKey, WaitingKey, insert_entry, push_new_order, push_row, put_row,
-    row_at,
+    row_bytes_at,
 };
 use hy_undo::Undo;
 
@@ -235,7 +235,8 @@ pub fn add_line<const N: usize>(
     ensures no_frame { IsErrOf result Shortage.NoFrame → free_of space.new.frames ≡ 0 }
 {
     let home = layout.warehouse();
-    let number = own_district(layout, space, order.district).next_order - 1;
+    let cents = cents_of(item, line.quantity);
+    let number = own_next_order(layout, space, order.district) - 1;
     let stock = own_stock(layout, space, line.item);
     put_row(
         space,
@@ -243,7 +244,6 @@ pub fn add_line<const N: usize>(
         line.item - 1,
         &stock_after(&stock, line.quantity),
     )?;
-    let cents = cents_of(item, line.quantity);
     let row = line_for(order, home, number, lines + 1, line, cents);
     let place = push_row(space, undo, &row)?;
     let key = LineKey {
@@ -310,9 +310,9 @@ pub fn purchase_total<const N: usize>(
         (stored_in N space.now).tables.customers place }
     ensures { result ≡ purchase_total layout.now.load.items order.now (stored_in N space.now).tables }
 {
-    let warehouse = own_warehouse(layout, space);
-    let district = own_district(layout, space, order.district);
-    let buyer = row_at::<Customer, N>(space, place);
+    let warehouse_tax = own_tax(layout, space);
+    let district_tax = own_district_tax(layout, space, order.district);
+    let discount = Customer::discount_in(row_bytes_at::<Customer, N>(space, place));
     let cents = purchase_cents(layout, order.lines.as_slice());
-    total_of(cents, buyer.discount, warehouse.tax, district.tax)
+    total_of(cents, discount, warehouse_tax, district_tax)
 }

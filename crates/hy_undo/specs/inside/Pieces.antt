@@ -27,3 +27,11 @@ touched_by pieces counts = length (filter (was_there counts) (different (map add
 -- the page of the piece of one number
 abbrev pub piece_at : List Piece → ℕ → PageAddress
 piece_at pieces i = slice_index_or (map address_of_piece pieces) i (record { segment = 0; page = 0 })
+
+-- the bytes of the last image, and others where there is none
+abbrev pub last_bytes_or : List ℕ → List Image → List ℕ
+last_bytes_or bytes [] = bytes
+last_bytes_or bytes (image ∷ later) = last_bytes_or image.bytes later
+
+abbrev pub last_bytes : List Image → List ℕ
+last_bytes images = last_bytes_or [] images

@@ -1,11 +1,8 @@
-use Rattle.std.proofs.Common.{ℕ, ◌<◌, ◌≤◌, length, ap, sym, subst, ◌∙◌, arith, rules, inl, inr}
-use Rattle.std.proofs.lemmas.Result.{on_ok_weaker}
-use Rattle.hy_undo.proofs.WriteLaws.{both_on_ok}
+use Rattle.std.proofs.Common.{ℕ, ◌<◌, length, ap, sym, subst, ◌∙◌, arith}
 use Rattle.hy_nodes.specs.declared.pages.Tree.{Tree}
-use Rattle.hy_trees.specs.Trees.{entries_under, height_of}
-use Rattle.hy_trees.specs.Searches.{between, first_from}
+use Rattle.hy_trees.specs.Trees.{entries_under}
+use Rattle.hy_trees.specs.Searches.{first_from}
 use Rattle.std.specs.Option.{option_map}
-use Rattle.std.proofs.Common.{List, map}
 use Rattle.hy_nodes.specs.Pages.{nodes_in}
 use Rattle.hy_nodes.specs.Ways.{HasTree}
 use Rattle.hy_index.specs.Parts.{IsPartAt}

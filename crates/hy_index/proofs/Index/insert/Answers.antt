@@ -1,7 +1,6 @@
-use Rattle.std.proofs.Common.{ℕ, ◌<◌, ◌≤◌, length, ap, sym, subst, ◌∙◌, arith, rules, inl, inr}
+use Rattle.std.proofs.Common.{◌∙◌, inl, inr}
 use Rattle.std.proofs.lemmas.Result.{on_ok_weaker}
 use Rattle.hy_undo.proofs.WriteLaws.{both_on_ok}
-use Rattle.hy_nodes.specs.declared.pages.Tree.{Tree}
 use Rattle.hy_index.proofs.CallLaws.{fills, keeps-pages, none-above, put-index, same-pages, some-below}
 use Rattle.hy_index.proofs.Index.insert.Goals as goal
 

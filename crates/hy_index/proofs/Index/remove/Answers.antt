@@ -1,8 +1,7 @@
-use Rattle.std.proofs.Common.{ℕ, ◌<◌, ◌≤◌, length, ap, sym, subst, ◌∙◌, arith, rules, inl, inr}
+use Rattle.std.proofs.Common.{◌∙◌}
 use Rattle.std.proofs.lemmas.Result.{on_ok_weaker}
 use Rattle.hy_undo.proofs.WriteLaws.{both_on_ok}
-use Rattle.hy_nodes.specs.declared.pages.Tree.{Tree}
-use Rattle.hy_index.proofs.CallLaws.{none-below, same-pages, taken-index}
+use Rattle.hy_index.proofs.CallLaws.{none-below, taken-index}
 use Rattle.hy_index.proofs.Index.remove.Goals as goal
 
 pub returns-clause-index : goal.returns-clause-index

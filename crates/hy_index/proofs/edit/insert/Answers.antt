@@ -1,10 +1,8 @@
-use Rattle.std.proofs.Common.{◌≡◌, ℕ, ◌+◌, ◌<◌, ◌≤◌, Bool, true, false, List, length, Some, None, refl, ap, sym, subst, ◌∙◌, arith, rules, inl, inr}
-use Rattle.std.specs.Prelude.{IsSome, find}
+use Rattle.std.proofs.Common.{Bool, refl, subst, arith, inl, inr}
+use Rattle.std.specs.Prelude.{find}
 use Rattle.std.proofs.lemmas.Result.{on_ok_weaker}
-use Rattle.hy_trees.specs.Nodes.{Item, capacity, node_at}
 use Rattle.hy_trees.specs.Searches.{is_at}
-use Rattle.hy_nodes.specs.Nodes.{item_count}
-use Rattle.hy_nodes.specs.Pages.{nodes_in, page_in}
+use Rattle.hy_nodes.specs.Pages.{page_in}
 use Rattle.hy_nodes.specs.Places.{IsSought}
 use Rattle.hy_nodes.specs.Ways.{entries_in}
 use Rattle.hy_nodes.proofs.ReachLaws.{reached-fits, reached-page}

@@ -1,5 +1,4 @@
-use Rattle.std.proofs.Common.{Bool, true, false, subst, sym, ap, arith}
-use Rattle.std.specs.Prelude.{IsSome}
+use Rattle.std.proofs.Common.{Bool, subst, arith}
 use Rattle.hy_nodes.specs.Pages.{page_in}
 use Rattle.hy_nodes.specs.Places.{IsSought}
 use Rattle.hy_index.proofs.LeafLaws.{found-sought, is_some, none-some, without-absent}

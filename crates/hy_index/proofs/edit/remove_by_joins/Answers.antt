@@ -1,4 +1,4 @@
-use Rattle.std.proofs.Common.{ap, sym, subst, ◌∙◌, ◌<◌, length, arith, rules}
+use Rattle.std.proofs.Common.{sym, subst, ◌<◌, length, arith, rules}
 use Rattle.std.specs.Prelude.{IsSome, List, find}
 use Rattle.hy_trees.specs.Nodes.{Item}
 use Rattle.hy_trees.specs.Searches.{is_at}

@@ -1,1 +1,0 @@
-use Rattle.hy_index.proofs.edit.remove_there.Goals as goal

@@ -1,14 +1,12 @@
-use Rattle.std.proofs.Common.{ℕ, ◌*◌, ◌+◌, ◌<◌, ◌≤◌, refl, arith}
+use Rattle.std.proofs.Common.{◌+◌, refl, arith}
 use Rattle.std.proofs.lemmas.Result.{on_ok_weaker}
 use Rattle.hy_nodes.specs.Nodes.{item_count}
 use Rattle.hy_nodes.specs.Pages.{page_in}
-use Rattle.hy_nodes.specs.Places.{HasItems}
 use Rattle.hy_nodes.proofs.ReachLaws.{reached-fits, reached-page}
 use Rattle.hy_nodes.proofs.PlaceLaws.{item_offset-before}
 use Rattle.hy_nodes.proofs.SpaceLaws.{page_full}
 use Rattle.hy_index.proofs.LeafLaws.{taken}
 use Rattle.hy_index.proofs.edit.take_there.Goals as goal
-use Rattle.hy_index.proofs.edit.take_there.Given as given
 
 pub overflow_add-place : goal.overflow_add-place
 overflow_add-place g c =

@@ -1,15 +1,14 @@
-use Rattle.std.proofs.Common.{◌≡◌, ℕ, zero, suc, ◌+◌, ◌-◌, ◌<◌, ◌≤◌, ◌++◌, Bool, true, false, Option, None, Some, List, [], ◌∷◌, length, map, flat_map, take, drop, slice_index_or, refl, ap, sym, subst, ◌∙◌, arith, rules}
+use Rattle.std.proofs.Common.{◌≡◌, ℕ, ◌+◌, ◌-◌, ap, sym, subst, ◌∙◌, arith, rules}
 use Rattle.std.specs.Option.{is_some, option_map}
-use Rattle.hy_trees.specs.Nodes.{Item, least_items, capacity, no_item, node_at}
-use Rattle.hy_trees.specs.Trees.{entries_under, is_less_bytes}
-use Rattle.hy_trees.specs.Searches.{between, first_from}
-use Rattle.hy_nodes.specs.Nodes.{item_at, item_count, items_of, number_at}
-use Rattle.hy_nodes.specs.Pages.{nodes_in, page_in}
-use Rattle.hy_nodes.specs.Places.{AreRising, HasItems, IsChildPlace, IsSought}
+use Rattle.hy_trees.specs.Trees.{entries_under}
+use Rattle.hy_trees.specs.Searches.{first_from}
+use Rattle.hy_nodes.specs.Nodes.{item_count, number_at}
+use Rattle.hy_nodes.specs.Pages.{nodes_in}
+use Rattle.hy_nodes.specs.Places.{AreRising, HasItems, IsChildPlace}
 use Rattle.hy_nodes.proofs.PlaceLaws.{item_offset-before}
 use Rattle.hy_index.specs.Parts.{IsPartAt}
 use Rattle.hy_index.specs.Writes.{entry_of}
-use Rattle.hy_index.proofs.PartLaws.{part-count, part-down, part-fits, part-item, part-items, part-page, part-rising, part-small, part-some}
+use Rattle.hy_index.proofs.PartLaws.{part-down, part-fits, part-page, part-rising, part-small, part-some}
 use Rattle.hy_index.proofs.FirstLaws.{none-of, some-of, under-here, under-last, under-next}
 use Rattle.hy_index.proofs.range.+first_under.Goals as goal
 

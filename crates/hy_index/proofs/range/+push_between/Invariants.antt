@@ -1,4 +1,4 @@
-use Rattle.std.proofs.Common.{◌≡◌, ◌+◌, ◌-◌, ◌≤◌, ◌++◌, flat_map, map, take, drop}
+use Rattle.std.proofs.Common.{◌≡◌, ◌-◌, ◌≤◌, ◌++◌, flat_map, map, take, drop}
 use Rattle.hy_trees.specs.Nodes.{Item, node_at}
 use Rattle.hy_trees.specs.Trees.{entries_under}
 use Rattle.hy_trees.specs.Searches.{between}

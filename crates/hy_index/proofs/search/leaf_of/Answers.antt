@@ -10,6 +10,7 @@ pub loop-depth-init : goal.loop-depth-init
 loop-depth-init g c = record {
   leads = LeadsTo-root g.row.N c.args.space.now c.args.tree c.args.key.now c.height_counted-depth.result c.requires.tree c.requires.key c.height_counted-depth.ensures.height;
   count = omega (arith, c.height_counted-depth.ensures.one, c.height_counted-depth.ensures.height);
+  counted = λ few. omega (arith, c.height_counted-depth.ensures.counted (omega (arith, few)), c.height_counted-depth.ensures.height);
 }
 
 pub page-items-requires : goal.page-items-requires
@@ -48,4 +49,7 @@ loop-depth-preserved g c = record {
       (LeadsTo-down g.row.N c.args.space.now c.args.tree c.args.key.now c.requires.there c.sound.ensures c.requires.tree c.loop-depth.depth c.loop-depth.page c.loop-depth-test.true c.loop-depth.invariant.leads c.page-items.result.now c.page-items.ensures.bytes c.child_place.result
       (subst (λ (width : ℕ). IsChildPlace width c.page-items.result.now c.args.key.now c.child_place.result) c.requires.key c.child_place.ensures));
   count = omega (arith, c.page-items.ensures.one, c.loop-depth.invariant.count, c.loop-depth-test.true);
+  counted = λ few.
+      let so_far = c.loop-depth.invariant.counted few in
+      omega (arith, so_far, c.page-items.ensures.counted (omega (arith, so_far, few, c.loop-depth-test.true)), c.loop-depth-test.true);
 }

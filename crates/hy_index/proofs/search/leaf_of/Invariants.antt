@@ -1,4 +1,4 @@
-use Rattle.std.proofs.Common.{◌+◌, ◌≤◌}
+use Rattle.std.proofs.Common.{◌≡◌, ◌+◌, ◌^◌, ◌<◌, ◌≤◌}
 use Rattle.hy_nodes.specs.Pages.{nodes_in}
 use Rattle.hy_trees.specs.Trees.{height_of}
 use Rattle.hy_nodes.specs.Ways.{LeadsTo}
@@ -9,6 +9,7 @@ abbrev pub invariant-loop-depth : goal.invariant-loop-depth
 invariant-loop-depth g l = record {
   leads : LeadsTo g.row.N l.space l.tree l.key l.depth l.page;
   count : l.reads + l.depth ≤ l.fn.reads + height_of (nodes_in l.space l.tree) + 1;
+  counted : l.fn.reads + (height_of (nodes_in l.space l.tree) + 1) < 2 ^ 64 → l.reads + l.depth ≡ l.fn.reads + (height_of (nodes_in l.space l.tree) + 1);
 }
 
 abbrev pub decreases-loop-depth : goal.decreases-loop-depth

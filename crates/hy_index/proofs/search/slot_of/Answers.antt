@@ -1,4 +1,4 @@
-use Rattle.std.proofs.Common.{ℕ, ◌+◌, Bool, true, false, Some, length, sym, ap, subst, ◌∙◌, arith, refl, replicate}
+use Rattle.std.proofs.Common.{ℕ, ◌+◌, Bool, true, false, Some, length, sym, ap, subst, ◌∙◌, arith, replicate}
 use Rattle.hy_trees.specs.Nodes.{capacity, least_items}
 use Rattle.hy_nodes.specs.Nodes.{item_count}
 use Rattle.hy_nodes.specs.Pages.{nodes_in}

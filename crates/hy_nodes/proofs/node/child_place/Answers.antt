@@ -1,4 +1,4 @@
-use Rattle.std.proofs.Common.{◌≡◌, ℕ, ◌+◌, ◌-◌, Bool, false, subst, sym, ◌∙◌, length, arith}
+use Rattle.std.proofs.Common.{◌≡◌, ℕ, ◌+◌, ◌-◌, Bool, false, subst, length, arith}
 use Rattle.hy_nodes.specs.Places.{IsSought}
 use Rattle.hy_nodes.proofs.PlaceLaws.{IsChildPlace-before, IsChildPlace-first, IsChildPlace-there}
 use Rattle.hy_nodes.proofs.node.child_place.Goals as goal

@@ -1,6 +1,4 @@
-use Rattle.std.proofs.Common.{◌≡◌, ℕ, ◌-◌, ◌*◌, ◌≤◌, length, take, drop, ap, ap₂, ◌∙◌, arith}
-use Rattle.std.proofs.lemmas.List.{length-take-le, length-drop}
-use Rattle.hy_page.specs.Bytes.{bytes_at}
+use Rattle.std.proofs.Common.{◌-◌, ◌*◌, length, take, drop, ap, ap₂, ◌∙◌, arith}
 use Rattle.hy_page.proofs.ByteLaws.{length-bytes_at}
 use Rattle.hy_nodes.specs.Nodes.{item_offset}
 use Rattle.hy_trees.specs.Nodes.{item_width}

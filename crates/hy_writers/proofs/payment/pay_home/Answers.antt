@@ -1,5 +1,9 @@
-use Rattle.std.proofs.Common.{◌-◌, ◌∙◌, sym, ap}
+use Rattle.std.proofs.Common.{◌≡◌, ◌-◌, ◌<◌, ◌∙◌, sym, ap, subst, rules}
+use Rattle.std.proofs.lemmas.Bool.{eqb-true}
+use Rattle.hy_commands.proofs.ListLaws.{find-passes}
+use Rattle.hy_rows.specs.Finding.{is_warehouse}
 use Rattle.hy_rows.specs.declared.customer.Customer.{Customer}
+use Rattle.hy_rows.specs.Rows.{customer_of}
 use Rattle.hy_commands.specs.Payments.{paid_in}
 use Rattle.hy_commands.specs.Growth.{IsDistrictUpTo, IsWarehouseUpTo}
 use Rattle.hy_store.specs.Writes.{stored_in}
@@ -22,6 +26,16 @@ district_after-requires-clause-row g c =
     all-at (IsDistrictUpTo most_applied) tables.districts (c.args.payment.now.district - 1) c.own_district-district.result
     c.requires.can.bounds.districts c.own_district-district.ensures.here
 
+-- the warehouse's row has the number
+pub history_for-requires-clause-home : goal.history_for-requires-clause-home
+history_for-requires-clause-home g c =
+    let number = c.args.layout.now.warehouse in
+    let row = c.own_warehouse-warehouse.result in
+    let passes = find-passes (is_warehouse number) (stored_in g.row.N c.args.space.now).tables.warehouses row
+    c.own_warehouse-warehouse.ensures.found in
+    let same : row.id ≡ number = eqb-true row.id number passes in
+    subst (λ n. n < 256) (same ∙ sym c.requires.can.begun.home) (search rules)
+
 -- src/payment.rt:162:5
 pub returns-in_err-put_row-2-clause-writes : goal.returns-in_err-put_row-2-clause-writes
 returns-in_err-put_row-2-clause-writes g c = writes-then c.put_row.ensures.writes c.put_row-2.ensures.writes
@@ -37,17 +51,19 @@ returns-clause-paid g c =
     let payment = c.args.payment.now in
     let number = c.args.layout.now.warehouse in
     let s = stored_in g.row.N c.args.space.now in
-    let payer_is = payer-at number payment s.tables c.args.place c.row_at-payer.result c.requires.can.begun c.requires.can.payer
-    c.row_at-payer.ensures in
-    let paid = home-paid number (payment.district - 1) c.row_at-payer.result.id payment c.requires.can.begun s
+    let row : Customer = customer_of c.row_bytes_at.result.now in
+    let payer_is = payer-at number payment s.tables c.args.place row c.requires.can.begun c.requires.can.payer
+    c.row_bytes_at.ensures.row in
+    let paid = home-paid number (payment.district - 1) c.id_in-payer.result payment c.requires.can.begun s
     (stored_in g.row.N c.put_row.new.space) (stored_in g.row.N c.put_row-2.new.space)
     (stored_in g.row.N c.push_row.new.space) c.own_warehouse-warehouse.result c.warehouse_after.result
     c.own_district-district.result c.district_after.result c.history_for.result c.own_warehouse-warehouse.ensures
     c.own_district-district.ensures c.warehouse_after.ensures c.district_after.ensures c.history_for.ensures
     c.in_ok-put_row.ensures.put.changed c.in_ok-put_row-2.ensures.put.changed c.in_ok-push_row.ensures.pushed.changed in
+    let payer_id = c.id_in-payer.ensures ∙ ap (λ (row : Customer). row.id) (sym payer_is) in
     record {
       store = c.in_ok-push_row.ensures.pushed.store;
-      changed = paid ∙ ap (λ (row : Customer). record s { tables = paid_in payment row.id s.tables }) (sym payer_is);
+      changed = paid ∙ ap (λ id. record s { tables = paid_in payment id s.tables }) payer_id;
     }
 
 -- src/payment.rt:137:1

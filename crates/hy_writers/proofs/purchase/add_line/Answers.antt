@@ -1,4 +1,4 @@
-use Rattle.std.proofs.Common.{◌-◌, refl}
+use Rattle.std.proofs.Common.{◌-◌, ap}
 use Rattle.hy_store.specs.Writes.{stored_in}
 use Rattle.hy_writers.proofs.PurchaseLaws.{line-added}
 use Rattle.hy_writers.proofs.WritesLaws.{on_ok-then, writes-then}
@@ -14,11 +14,11 @@ returns-clause-added g c =
     on_ok-then c.insert_entry.result (λ inserted. record {
       store = inserted.store;
       changed = line-added c.args.layout.now.load.items c.args.layout.now.warehouse
-          (c.args.order.now.district - 1) c.in_ok-place.place (c.own_district-number.result.next_order - 1) c.args.lines
+          (c.args.order.now.district - 1) c.in_ok-place.place (c.own_next_order-number.result - 1) c.args.lines
           c.cents_of-cents.result c.args.order.now c.args.line.now c.args.item.now (stored_in g.row.N c.args.space.now)
           (stored_in g.row.N c.put_row.new.space) (stored_in g.row.N c.push_row.new.space)
-          (stored_in g.row.N c.insert_entry.new.space) c.own_district-number.result c.own_stock-stock.result c.stock_after.result
-          c.line_for-row.result c.requires.can.begun.home c.requires.can.passed.home c.own_district-number.ensures refl c.own_stock-stock.ensures
+          (stored_in g.row.N c.insert_entry.new.space) c.own_next_order-number.ensures.0 c.own_stock-stock.result c.stock_after.result
+          c.line_for-row.result c.requires.can.begun.home c.requires.can.passed.home c.own_next_order-number.ensures.1 (ap (λ n. n - 1) c.own_next_order-number.ensures.2) c.own_stock-stock.ensures
           c.stock_after.ensures c.requires.can.found c.cents_of-cents.ensures.cents c.line_for-row.ensures c.in_ok-place.ensures.place
           c.in_ok-put_row.ensures.put.changed c.in_ok-place.ensures.pushed.changed inserted.changed;
     }) c.insert_entry.ensures.inserted

@@ -1,14 +1,22 @@
-use Rattle.std.proofs.Common.{◌-◌, ◌∙◌, ap}
-use Rattle.hy_commands.specs.NewOrders.{purchase_cents}
+use Rattle.std.proofs.Common.{◌-◌, ◌∙◌, ap, ap₂}
+use Rattle.hy_rows.specs.declared.customer.Customer.{Customer}
+use Rattle.hy_rows.specs.Rows.{customer_of}
+use Rattle.hy_commands.specs.NewOrders.{purchase_cents, total_of}
 use Rattle.hy_store.specs.Writes.{stored_in}
 use Rattle.hy_writers.proofs.PurchaseLaws.{total-found}
 use Rattle.hy_writers.proofs.purchase.purchase_total.Goals as goal
 
 pub returns : goal.returns
 returns g c =
+    let cents = c.purchase_cents-cents.result in
+    let buyer : Customer = customer_of c.row_bytes_at.result.now in
+    let home = c.own_tax-warehouse_tax.ensures in
+    let district = c.own_district_tax-district_tax.ensures in
     c.total_of.ensures
+    ∙ ap (λ d. total_of cents d c.own_tax-warehouse_tax.result c.own_district_tax-district_tax.result)
+    c.discount_in-discount.ensures
+    ∙ ap₂ (λ w d. total_of cents buyer.discount w d) home.2 district.2
     ∙ total-found c.args.layout.now.load.items c.args.layout.now.warehouse (c.args.order.now.district - 1) c.args.place
-    c.purchase_cents-cents.result c.args.order.now (stored_in g.row.N c.args.space.now).tables
-    c.own_warehouse-warehouse.result c.own_district-district.result c.row_at-buyer.result c.requires.order
-    c.own_warehouse-warehouse.ensures c.own_district-district.ensures c.requires.buyer c.row_at-buyer.ensures
+    cents c.args.order.now (stored_in g.row.N c.args.space.now).tables home.0 district.0 buyer c.requires.order
+    home.1 district.1 c.requires.buyer c.row_bytes_at.ensures.row
     (c.purchase_cents-cents.ensures.cents ∙ ap (purchase_cents c.args.layout.now.load.items) c.as_slice.ensures)

@@ -1,4 +1,4 @@
-use Rattle.std.proofs.Common.{sym, ap, ◌∙◌, arith}
+use Rattle.std.proofs.Common.{sym, ap, ◌∙◌}
 use Rattle.hy_nodes.specs.Writes.{pages_of}
 use Rattle.hy_nodes.specs.Nodes.{item_count}
 use Rattle.hy_nodes.proofs.SpaceLaws.{page_there}

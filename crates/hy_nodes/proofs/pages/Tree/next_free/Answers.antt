@@ -1,4 +1,4 @@
-use Rattle.std.proofs.Common.{sym, ap, ◌∙◌, ℕ, List}
+use Rattle.std.proofs.Common.{sym, ap, ◌∙◌}
 use Rattle.hy_nodes.specs.Writes.{pages_of}
 use Rattle.hy_trees.specs.Nodes.{Node}
 use Rattle.hy_nodes.specs.Nodes.{next_field}

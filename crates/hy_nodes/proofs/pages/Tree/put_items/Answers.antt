@@ -4,7 +4,7 @@ use Rattle.hy_trees.specs.Nodes.{Item, node_at, with_node, with_tail}
 use Rattle.hy_nodes.specs.Nodes.{item_count}
 use Rattle.hy_nodes.specs.Pages.{items_in, nodes_in}
 use Rattle.hy_nodes.proofs.SpaceLaws.{page_there}
-use Rattle.std.proofs.Common.{◌≡◌, ℕ, ◌+◌, ◌-◌, List, ◌++◌, length, take, ap, ap₂, ◌∙◌}
+use Rattle.std.proofs.Common.{ℕ, ◌+◌, ◌-◌, List, ◌++◌, length, take, ap, ap₂, ◌∙◌}
 use Rattle.hy_nodes.proofs.NodeLaws.{items_in-joined, items_in-part, items_in-rest}
 use Rattle.hy_nodes.proofs.pages.Tree.put_items.Goals as goal
 

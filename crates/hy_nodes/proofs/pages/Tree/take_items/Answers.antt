@@ -3,7 +3,7 @@ use Rattle.hy_nodes.specs.Writes.{pages_of}
 use Rattle.hy_trees.specs.Nodes.{Item, node_at, with_node, with_tail}
 use Rattle.hy_nodes.specs.Pages.{nodes_in}
 use Rattle.hy_nodes.proofs.SpaceLaws.{page_full, page_there}
-use Rattle.std.proofs.Common.{ℕ, List, [], drop, ap, ◌∙◌, arith}
+use Rattle.std.proofs.Common.{List, ap, ◌∙◌, arith}
 use Rattle.hy_nodes.proofs.PlaceLaws.{item_offset-before}
 use Rattle.hy_nodes.proofs.NodeLaws.{drop-all, nodes-fewer}
 use Rattle.hy_nodes.proofs.pages.Tree.take_items.Goals as goal

@@ -1,5 +1,4 @@
-use Rattle.hy_nodes.proofs.SpaceLaws.{length-pages_of}
-use Rattle.hy_nodes.proofs.WriteLaws.{out_of_frames-call, pages-call}
+use Rattle.hy_nodes.proofs.WriteLaws.{out_of_frames-call}
 use Rattle.hy_nodes.proofs.pages.Tree.write.Goals as goal
 
 pub returns-clause-no_frame : goal.returns-clause-no_frame

@@ -1,7 +1,7 @@
 use Rattle.std.proofs.lemmas.Result.{on_ok_weaker}
 use Rattle.hy_nodes.specs.Writes.{pages_of}
 use Rattle.hy_nodes.proofs.SpaceLaws.{page_full, page_there}
-use Rattle.std.proofs.Common.{◌≡◌, ℕ, ◌+◌, ap, ◌∙◌, length, List, arith, subst}
+use Rattle.std.proofs.Common.{ℕ, ap, ◌∙◌}
 use Rattle.hy_nodes.specs.Pages.{with_bytes}
 use Rattle.hy_nodes.proofs.NodeLaws.{nodes-tail}
 use Rattle.hy_nodes.proofs.pages.Tree.write_behind.Goals as goal

@@ -1,5 +1,5 @@
 use Rattle.hy_hyper.proofs.StoreLaws.{rolled_back}
-use Rattle.hy_hyper.proofs.store_tests.Store.roll_back.Goals as goal
+use Rattle.hy_hyper.proofs.stores.Store.roll_back.Goals as goal
 
 pub invariant_of-self : goal.invariant_of-self
 invariant_of-self g c =

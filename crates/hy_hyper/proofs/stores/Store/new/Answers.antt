@@ -5,7 +5,7 @@ use Rattle.hy_undo.specs.PrivatePages.{IsUndoLog}
 use Rattle.hy_relation.specs.Relation.{ChangesSegment}
 use Rattle.hy_nodes.specs.Writes.{WritesSegment}
 use Rattle.hy_hyper.proofs.StoreLaws.{created, nine_segments, no_page}
-use Rattle.hy_hyper.proofs.store_tests.Store.new.Goals as goal
+use Rattle.hy_hyper.proofs.stores.Store.new.Goals as goal
 
 pub create-requires-2 : goal.create-requires-2
 create-requires-2 g c =
