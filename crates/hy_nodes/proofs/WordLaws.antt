@@ -1,6 +1,7 @@
 -- The order of lists of bytes by the numbers that their first bytes spell.
 use Rattle.std.proofs.Common.{◌≡◌, ℕ, zero, suc, ◌+◌, ◌-◌, ◌*◌, ◌<◌, ◌≤◌, true, false, List, [], ◌∷◌, length, take, drop, refl, sym, ap, ap₂, ◌∙◌, subst, arith, inl, inr, Less, Equal, Greater}
 use Rattle.std.specs.Prelude.{nat_lt, slice_index}
+use Rattle.std.specs.Int.{from_be_bytes, w64}
 use Rattle.std.specs.Ordering.{is_lt, nat_cmp, ordering_then}
 use Rattle.std.specs.Cmp.{nat_cmp_is}
 use Rattle.std.specs.Cmp.Lexicographic.{slice_cmp}
@@ -125,3 +126,26 @@ module _ (page key : List ℕ) (begin number : ℕ) (are : AreBytes page) (keys 
   -- and where they are the same, what is behind them does
   pub less-behind : (first : ℕ) → first ≡ first_word key → number ≡ first → is_less_bytes (drop 8 (take (length key) (drop begin page))) (drop 8 key) ≡ is_less_bytes (take (length key) (drop begin page)) key
   less-behind first is same = sym (less-behind_word 8 0 (drop begin page) key (drop-bytes begin page are) keys within (sym same_number ∙ same ∙ is))
+
+-- a byte behind the first one
+slice_index-behind : (k : ℕ) (bytes : List ℕ) → slice_index (drop 1 bytes) k ≡ slice_index bytes (suc k)
+slice_index-behind k [] = refl
+slice_index-behind k (byte ∷ bytes) = refl
+
+-- the number that eight bytes spell is the one that the standard library reads
+pub from_be_bytes-word : (bytes : List ℕ) → from_be_bytes w64 bytes ≡ first_word bytes
+from_be_bytes-word bytes =
+    let rest_1 = drop 1 bytes in
+    let rest_2 = drop 1 rest_1 in
+    let rest_3 = drop 1 rest_2 in
+    let rest_4 = drop 1 rest_3 in
+    let rest_5 = drop 1 rest_4 in
+    let rest_6 = drop 1 rest_5 in
+    let at_1 = slice_index-behind 0 bytes in
+    let at_2 = slice_index-behind 0 rest_1 ∙ slice_index-behind 1 bytes in
+    let at_3 = slice_index-behind 0 rest_2 ∙ slice_index-behind 1 rest_1 ∙ slice_index-behind 2 bytes in
+    let at_4 = slice_index-behind 0 rest_3 ∙ slice_index-behind 1 rest_2 ∙ slice_index-behind 2 rest_1 ∙ slice_index-behind 3 bytes in
+    let at_5 = slice_index-behind 0 rest_4 ∙ slice_index-behind 1 rest_3 ∙ slice_index-behind 2 rest_2 ∙ slice_index-behind 3 rest_1 ∙ slice_index-behind 4 bytes in
+    let at_6 = slice_index-behind 0 rest_5 ∙ slice_index-behind 1 rest_4 ∙ slice_index-behind 2 rest_3 ∙ slice_index-behind 3 rest_2 ∙ slice_index-behind 4 rest_1 ∙ slice_index-behind 5 bytes in
+    let at_7 = slice_index-behind 0 rest_6 ∙ slice_index-behind 1 rest_5 ∙ slice_index-behind 2 rest_4 ∙ slice_index-behind 3 rest_3 ∙ slice_index-behind 4 rest_2 ∙ slice_index-behind 5 rest_1 ∙ slice_index-behind 6 bytes in
+    omega (arith, at_1, at_2, at_3, at_4, at_5, at_6, at_7)

@@ -14,11 +14,10 @@ pub fn word(bytes: &[u8]) -> u64
     ensures value { result ≡ first_word bytes.now }
     ensures range { AreBytes bytes.now }
 {
-    let mut number = 0;
-    for byte in bytes {
-        number = number * 256 + u64::from(*byte);
-    }
-    number
+    let mut digits = [0; WORD_BYTES];
+    let whole = &mut digits[..];
+    whole.copy_from_slice(bytes);
+    u64::from_be_bytes(digits)
 }
 
 /// The number that the first eight bytes of a key spell, the highest first. Behind a shorter one stand zeros.

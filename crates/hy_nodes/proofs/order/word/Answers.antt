@@ -1,10 +1,7 @@
-use Rattle.std.proofs.Common.{◌<◌, ◌≤◌, ◌^◌, arith}
-use Rattle.std.proofs.Math.Nat.{pow-le-pow_right}
+use Rattle.std.proofs.Common.{ap, ◌∙◌}
+use Rattle.std.specs.Int.{from_be_bytes, w64}
+use Rattle.hy_nodes.proofs.WordLaws.{from_be_bytes-word}
 use Rattle.hy_nodes.proofs.order.word.Goals as goal
 
-pub overflow_mul-number : goal.overflow_mul-number
-overflow_mul-number c =
-    let few : c.loop-byte.byte-index ≤ 7 = omega arith in
-    let some : 0 < 256 = omega arith in
-    let room : 256 ^ c.loop-byte.byte-index ≤ 256 ^ 7 = pow-le-pow_right some few in
-    omega (arith, room, c.loop-byte.invariant.range)
+pub returns-clause-value : goal.returns-clause-value
+returns-clause-value c = c.from_be_bytes.ensures ∙ ap (from_be_bytes w64) c.copy_from_slice.ensures.after ∙ from_be_bytes-word c.args.bytes.now
