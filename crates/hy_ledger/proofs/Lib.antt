@@ -1,0 +1,5 @@
+mod Covering
+mod Insides
+mod Lists
+mod Shares
+mod Steps

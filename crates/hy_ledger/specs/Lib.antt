@@ -1,0 +1,4 @@
+pub mod Books
+pub mod Inside
+pub mod Law
+mod WorkedRows
