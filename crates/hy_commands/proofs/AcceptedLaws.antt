@@ -26,7 +26,7 @@ go_on true why later none = (refl, none)
 go_on false why later none = absurd (cc)
 
 -- one of two refusals
-neither : (one other : Option Refusal) → option_or one other ≡ None → (one ≡ None) × (other ≡ None)
+pub neither : (one other : Option Refusal) → option_or one other ≡ None → (one ≡ None) × (other ≡ None)
 neither None other none = (refl, none)
 neither (Some why) other none = absurd (cc)
 
@@ -112,6 +112,13 @@ home-payment number payment all =
             named).1).0,
       )
     ] refl all
+
+-- a command that a warehouse begins names no other
+pub begun : (number : ℕ) (command : Command) (tables : Tables) → begin_refusal_of number command tables ≡ None
+    → list_all (λ named. named == number) (warehouses_of command) ≡ true
+begun number command tables none =
+    let first = go_on (is_in_range command) _ _ none in
+    (go_on (list_all (λ named. named == number) (warehouses_of command)) _ _ first.1).0
 
 -- what a command that isn't refused has passed
 pub record IsAccepted (items : List Item) (number : ℕ) (command : Command) (tables : Tables) : Type 0 where

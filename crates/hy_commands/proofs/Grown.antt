@@ -65,6 +65,7 @@ module _ (items : List Item) (fits : ItemsFit items) (number : ℕ) (small : num
   pub grown-committed : (tables : Tables) (commit : Commit) (n : ℕ) → IsSoundWarehouse items number tables
       → HasGrownBy n tables → HasGrownBy (n + 1) (committed items number tables commit)
   grown-committed tables (commits.Local command) n sound grown = grown-act command tables n sound grown
+  grown-committed tables (commits.Cross crossing command) n sound grown = grown-later n tables grown
 
   pub grown-replay : (loaded : Tables) (commits : List Commit) (n : ℕ) → IsSoundWarehouse items number loaded
       → HasGrownBy n loaded → HasGrownBy (n + length commits) (replay items number loaded commits)

@@ -60,6 +60,7 @@ sound-act items number command tables sound =
 pub sound-committed : (items : List Item) (number : ℕ) (tables : Tables) (commit : Commit)
     → IsSoundWarehouse items number tables → IsSoundWarehouse items number (committed items number tables commit)
 sound-committed items number tables (commits.Local command) sound = sound-act items number command tables sound
+sound-committed items number tables (commits.Cross crossing command) sound = sound
 
 pub sound-replay : (items : List Item) (number : ℕ) (loaded : Tables) (commits : List Commit)
     → IsSoundWarehouse items number loaded → IsSoundWarehouse items number (replay items number loaded commits)

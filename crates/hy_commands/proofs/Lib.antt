@@ -1,7 +1,9 @@
+pub mod LineLaws
 pub mod ListLaws
 pub mod NumberLaws
 pub mod MeetsLaws
 pub mod AcceptedLaws
+pub mod NamedLaws
 pub mod OnceLaws
 pub mod KeptByPayment
 pub mod KeptByNewOrder

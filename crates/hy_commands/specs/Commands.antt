@@ -1,5 +1,5 @@
 -- Commands: the ranges of their values, the warehouses that they name, and what an accepted one adds to the kept list.
-use Rattle.std.specs.Prelude.{ℕ, Bool, true, false, nat_le, ◌==◌, ◌&&◌, if◌then◌else◌, List, [], ◌∷◌, ◌++◌, length, fold}
+use Rattle.std.specs.Prelude.{ℕ, Bool, true, false, nat_le, ◌==◌, ◌&&◌, if◌then◌else◌, Option, Some, None, List, [], ◌∷◌, ◌++◌, length, fold}
 use Rattle.std.specs.List.{list_all, list_any}
 use Rattle.hy_rows.specs.Limits.{max_carriers, max_lines, max_moment, max_payment, max_quantity, min_lines, min_payment}
 use Rattle.hy_rows.specs.Ranges.{is_between}
@@ -69,6 +69,20 @@ warehouses_of (commands.Payment payment) = with_named (payment.warehouse ∷ [])
 warehouses_of command = home_of command ∷ []
 
 -- ---- the kept list
+
+-- the command of a commit
+abbrev pub command_of : Commit → Command
+command_of (commits.Local command) = command
+command_of (commits.Cross number command) = command
+
+-- the warehouses that a commit names
+abbrev pub warehouses_of_commit : Commit → List ℕ
+warehouses_of_commit commit = warehouses_of (command_of commit)
+
+-- the number of a commit among those of several warehouses
+abbrev pub number_of : Commit → Option ℕ
+number_of (commits.Local command) = None
+number_of (commits.Cross number command) = Some number
 
 -- whether a command only reads
 abbrev pub is_reader : Command → Bool

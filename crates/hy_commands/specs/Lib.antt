@@ -14,3 +14,4 @@ pub mod WorkedSample
 pub mod WorkedRanges
 pub mod WorkedTransactions
 pub mod WorkedDeliveries
+pub mod inside

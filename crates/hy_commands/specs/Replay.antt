@@ -7,9 +7,11 @@ use Rattle.hy_commands.specs.declared.command.Commit.{Commit}
 use Rattle.hy_commands.specs.declared.command.Commit.TheVariants as commits
 use Rattle.hy_commands.specs.Transactions.{act}
 
--- the rows of a warehouse after one commit
+-- the rows of a warehouse after one commit. No commit of several warehouses is made yet. What one does to the
+-- warehouses that it names will come with them; one that it doesn't name stays as it is in any case
 abbrev pub committed : List Item → ℕ → Tables → Commit → Tables
 committed items warehouse tables (commits.Local command) = (act items warehouse command tables).tables
+committed items warehouse tables (commits.Cross number command) = tables
 
 -- the rows of a warehouse after the commits, from the loaded rows on
 abbrev pub replay : List Item → ℕ → Tables → List Commit → Tables

@@ -1,11 +1,11 @@
--- Examples of the ranges of commands, at both ends, of the warehouses that they name and of what is kept of them; the
--- checker computes them.
-use Rattle.std.specs.Prelude.{◌≡◌, ℕ, [], ◌∷◌, true, false, map, replicate, refl}
+-- Examples of the ranges of commands, at both ends, of the warehouses that they and commits name and of what is kept of
+-- them; the checker computes them.
+use Rattle.std.specs.Prelude.{◌≡◌, ℕ, [], ◌∷◌, true, false, Some, None, map, replicate, refl}
 use Rattle.hy_commands.specs.declared.command.Command.{Command}
 use Rattle.hy_commands.specs.declared.command.Command.TheVariants as commands
 use Rattle.hy_commands.specs.declared.command.Commit.TheVariants as commits
 use Rattle.hy_commands.specs.declared.command.Who.TheVariants as who
-use Rattle.hy_commands.specs.Commands.{is_in_range, is_line_in_range, is_moment, is_name, kept_of, warehouses_of}
+use Rattle.hy_commands.specs.Commands.{is_in_range, is_line_in_range, is_moment, is_name, kept_of, number_of, warehouses_of, warehouses_of_commit}
 use Rattle.hy_commands.specs.WorkedSample.{bought, level, payment, purchase}
 
 -- ---- ranges
@@ -78,3 +78,12 @@ kept_payment = refl
 
 abbrev kept_reader : kept_of level ≡ []
 kept_reader = refl
+
+-- a commit of one warehouse, and the seventh of several
+abbrev named_by_commits : map warehouses_of_commit (commits.Local level ∷ commits.Cross 7 remote_purchase ∷ [])
+    ≡ (1 ∷ []) ∷ (3 ∷ 2 ∷ 1 ∷ []) ∷ []
+named_by_commits = refl
+
+abbrev numbers_of_commits : map number_of (commits.Local level ∷ commits.Cross 7 remote_purchase ∷ [])
+    ≡ None ∷ Some 7 ∷ []
+numbers_of_commits = refl

@@ -1,14 +1,16 @@
 //! Commands and commits.
 
-ghost use Rattle.std.specs.Prelude.{◌≡◌, ◌<◌, ◌≤◌, ◌+◌, ◌↔◌, IsTrue, IsOk, IsErrOf, fold, length};
-ghost use Rattle.std.specs.List.{list_all};
+ghost use Rattle.std.specs.Prelude.{◌≡◌, ◌==◌, ◌<◌, ◌≤◌, ◌+◌, ◌↔◌, IsTrue, IsOk, IsErrOf, IfOk, fold, length, nat_lt, not};
+ghost use Rattle.std.specs.List.{list_all, list_any};
 ghost use Rattle.hy_rows.specs.Ranges.{is_between};
 ghost use Rattle.hy_commands.specs.declared.command.Command.TheVariants as commands;
-ghost use Rattle.hy_commands.specs.Commands.{home_of, is_in_range, is_line_in_range, is_moment, is_name, is_reader, is_who, warehouses_of, with_named};
+ghost use Rattle.hy_commands.specs.Commands.{command_of, home_of, is_in_range, is_line_in_range, is_moment, is_name, is_reader, is_who, number_of, warehouses_of, warehouses_of_commit, with_named};
 
+use crate::PurchaseLines;
 use arrayvec::ArrayVec;
 use hy_rows::{MAX_MOMENT, MAX_WAREHOUSES};
 use hy_schema::Refusal;
+use std::alloc::AllocError;
 use std::marker::Model;
 
 /// How many warehouses a command can name.
@@ -56,7 +58,7 @@ impl Model for Name {
 }
 
 impl Name {
-    ghost use Rattle.std.specs.Prelude.{◌≡◌};
+    ghost use Rattle.std.specs.Prelude.{◌≡◌, IfOk};
 
     /// The name with these bytes.
     pub fn new(bytes: Vec<u8>) -> Name
@@ -70,6 +72,14 @@ impl Name {
         ensures { result.now ≡ self.now }
     {
         &self.bytes
+    }
+
+    /// Another name with the same bytes.
+    fn copy(&self) -> Result<Name, AllocError>
+        ensures { IfOk result (λ copy. copy ≡ self.now) }
+    {
+        let bytes = Vec::from_slice(*self.bytes.allocator(), &self.bytes)?;
+        Ok(Name { bytes })
     }
 }
 
@@ -91,39 +101,6 @@ pub struct PurchaseLine {
     pub supply_warehouse: u64,
     /// How many, from 1 to 10.
     pub quantity: u64,
-}
-
-/// The lines of a purchase, in their order.
-#[derive(Debug, Drop)]
-pub struct PurchaseLines {
-    lines: Vec<PurchaseLine>,
-}
-
-impl Model for PurchaseLines {
-    ghost use Rattle.std.specs.Prelude.{List};
-    ghost use Rattle.hy_commands.specs.declared.command.PurchaseLine.{PurchaseLine};
-
-    ghost Value = { List PurchaseLine };
-
-    ghost view = { λ lines. lines.lines.items };
-}
-
-impl PurchaseLines {
-    ghost use Rattle.std.specs.Prelude.{◌≡◌};
-
-    /// These lines.
-    pub fn new(lines: Vec<PurchaseLine>) -> PurchaseLines
-        ensures { result ≡ lines.items }
-    {
-        PurchaseLines { lines }
-    }
-
-    /// The lines in their order.
-    pub fn as_slice(&self) -> &[PurchaseLine]
-        ensures { result.now ≡ self.now }
-    {
-        &self.lines
-    }
 }
 
 /// A New-Order transaction (TPC-C clause 2.4): a customer orders items.
@@ -213,6 +190,8 @@ pub enum Command {
 pub enum Commit {
     /// A command that names one warehouse.
     Local(Command),
+    /// A command that names several warehouses, with its number among those commits, from 1.
+    Cross(u64, Command),
 }
 
 /// Whether a byte is a printable character.
@@ -248,6 +227,16 @@ impl Who {
             Who::Last(name) => name.is_name(),
         }
     }
+
+    /// The same customer once more.
+    fn copy(&self) -> Result<Who, AllocError>
+        ensures { IfOk result (λ copy. copy ≡ self.now) }
+    {
+        match self {
+            Who::Number(number) => Ok(Who::Number(*number)),
+            Who::Last(name) => Ok(Who::Last(name.copy()?)),
+        }
+    }
 }
 
 /// Whether a moment is in range.
@@ -259,18 +248,11 @@ fn is_moment(moment: u64) -> bool
 
 impl PurchaseLine {
     /// Whether the quantity is in range.
-    fn is_in_range(&self) -> bool
+    pub(crate) fn is_in_range(&self) -> bool
         ensures { result ≡ is_line_in_range self.now }
     {
         (1..=MAX_LINE_QUANTITY).contains(&self.quantity)
     }
-}
-
-/// Whether the quantities of all lines are in range.
-fn are_in_range(lines: &[PurchaseLine]) -> bool
-    ensures { result ≡ list_all is_line_in_range lines.now }
-{
-    lines.iter().all(|line| line.is_in_range())
 }
 
 impl Purchase {
@@ -278,10 +260,36 @@ impl Purchase {
     fn is_in_range(&self) -> bool
         ensures { result ≡ is_in_range (commands.NewOrder self.now) }
     {
-        let lines = self.lines.as_slice();
-        (MIN_PURCHASE_LINES..=MAX_PURCHASE_LINES).contains(&lines.len())
-            && are_in_range(lines)
+        (MIN_PURCHASE_LINES..=MAX_PURCHASE_LINES).contains(&self.lines.len())
+            && self.lines.are_in_range()
             && is_moment(self.at)
+    }
+
+    /// Whether the warehouse is the home, or supplies a line.
+    fn names(&self, warehouse: u64) -> bool
+        ensures { result ≡ list_any (λ named. named == warehouse) (warehouses_of (commands.NewOrder self.now)) }
+    {
+        self.warehouse == warehouse || self.lines.any_comes_from(warehouse)
+    }
+
+    /// Whether another warehouse than the home supplies a line.
+    fn is_crossing(&self) -> bool
+        ensures { result ≡ nat_lt 1 (length (warehouses_of (commands.NewOrder self.now))) }
+    {
+        !self.lines.all_come_from(self.warehouse)
+    }
+
+    /// The same purchase once more.
+    fn copy(&self) -> Result<Purchase, AllocError>
+        ensures { IfOk result (λ copy. copy ≡ self.now) }
+    {
+        Ok(Purchase {
+            warehouse: self.warehouse,
+            district: self.district,
+            customer: self.customer,
+            at: self.at,
+            lines: self.lines.copy()?,
+        })
     }
 }
 
@@ -293,6 +301,48 @@ impl Payment {
         (MIN_PAYMENT..=MAX_PAYMENT).contains(&self.amount)
             && is_moment(self.at)
             && self.who.is_in_range()
+    }
+
+    /// Whether the warehouse is the home, or that of the customer.
+    fn names(&self, warehouse: u64) -> bool
+        ensures { result ≡ list_any (λ named. named == warehouse) (warehouses_of (commands.Payment self.now)) }
+    {
+        self.warehouse == warehouse || self.customer_warehouse == warehouse
+    }
+
+    /// Whether the customer's warehouse is another than the home.
+    fn is_crossing(&self) -> bool
+        ensures { result ≡ nat_lt 1 (length (warehouses_of (commands.Payment self.now))) }
+    {
+        self.warehouse != self.customer_warehouse
+    }
+
+    /// The same payment once more.
+    fn copy(&self) -> Result<Payment, AllocError>
+        ensures { IfOk result (λ copy. copy ≡ self.now) }
+    {
+        Ok(Payment {
+            warehouse: self.warehouse,
+            district: self.district,
+            customer_warehouse: self.customer_warehouse,
+            customer_district: self.customer_district,
+            who: self.who.copy()?,
+            amount: self.amount,
+            at: self.at,
+        })
+    }
+}
+
+impl OrderStatus {
+    /// The same Order-Status once more.
+    fn copy(&self) -> Result<OrderStatus, AllocError>
+        ensures { IfOk result (λ copy. copy ≡ self.now) }
+    {
+        Ok(OrderStatus {
+            warehouse: self.warehouse,
+            district: self.district,
+            who: self.who.copy()?,
+        })
     }
 }
 
@@ -342,6 +392,30 @@ impl Command {
         }
     }
 
+    /// Whether the command names the warehouse, whatever else stands in it. Takes no memory.
+    pub fn names(&self, warehouse: u64) -> bool
+        ensures { result ≡ list_any (λ named. named == warehouse) (warehouses_of self.now) }
+    {
+        match self {
+            Command::NewOrder(order) => order.names(warehouse),
+            Command::Payment(payment) => payment.names(warehouse),
+            Command::OrderStatus(status) => status.warehouse == warehouse,
+            Command::Delivery(delivery) => delivery.warehouse == warehouse,
+            Command::StockLevel(level) => level.warehouse == warehouse,
+        }
+    }
+
+    /// Whether the command names several warehouses: another than its home. Takes no memory.
+    pub fn is_crossing(&self) -> bool
+        ensures { result ≡ nat_lt 1 (length (warehouses_of self.now)) }
+    {
+        match self {
+            Command::NewOrder(order) => order.is_crossing(),
+            Command::Payment(payment) => payment.is_crossing(),
+            _ => false,
+        }
+    }
+
     /// The warehouses that the command names, its home first, each once. Takes no memory. At most `MAX_NAMED` are named,
     /// since a command in range has at most 15 lines.
     pub fn warehouses(&self) -> ArrayVec<u64, MAX_NAMED>
@@ -351,11 +425,24 @@ impl Command {
         let mut named = ArrayVec::new();
         named.push(self.home());
         match self {
-            Command::NewOrder(order) => name_suppliers(&mut named, order.lines.as_slice()),
+            Command::NewOrder(order) => name_suppliers(&mut named, &order.lines),
             Command::Payment(payment) => name_warehouse(&mut named, payment.customer_warehouse),
             _ => {}
         }
         named
+    }
+
+    /// The same command once more. An error where it finds no memory.
+    pub fn copy(&self) -> Result<Command, AllocError>
+        ensures { IfOk result (λ copy. copy ≡ self.now) }
+    {
+        match self {
+            Command::NewOrder(order) => Ok(Command::NewOrder(order.copy()?)),
+            Command::Payment(payment) => Ok(Command::Payment(payment.copy()?)),
+            Command::OrderStatus(status) => Ok(Command::OrderStatus(status.copy()?)),
+            Command::Delivery(delivery) => Ok(Command::Delivery(*delivery)),
+            Command::StockLevel(level) => Ok(Command::StockLevel(*level)),
+        }
     }
 }
 
@@ -370,11 +457,49 @@ fn name_warehouse(named: &mut ArrayVec<u64, MAX_NAMED>, warehouse: u64)
 }
 
 /// Names the warehouses that supply lines.
-fn name_suppliers(named: &mut ArrayVec<u64, MAX_NAMED>, lines: &[PurchaseLine])
+fn name_suppliers(named: &mut ArrayVec<u64, MAX_NAMED>, lines: &PurchaseLines)
     requires { length named.old.items + length lines.now ≤ 16 }
     ensures { named.new.items ≡ fold (λ named line. with_named named line.supply_warehouse) named.old.items lines.now }
 {
-    for line in lines {
-        name_warehouse(named, line.supply_warehouse);
+    for place in 0..lines.len() {
+        name_warehouse(named, lines.line(place).supply_warehouse);
+    }
+}
+
+impl Commit {
+    /// The command that was accepted.
+    pub fn command(&self) -> &Command
+        ensures { result.now ≡ command_of self.now }
+    {
+        match self {
+            Commit::Local(command) | Commit::Cross(_, command) => command,
+        }
+    }
+
+    /// Whether the commit names the warehouse.
+    pub fn names(&self, warehouse: u64) -> bool
+        ensures { result ≡ list_any (λ named. named == warehouse) (warehouses_of_commit self.now) }
+    {
+        self.command().names(warehouse)
+    }
+
+    /// Its number among the commits of several warehouses, if it is one of them.
+    pub fn number(&self) -> Option<u64>
+        ensures { result ≡ number_of self.now }
+    {
+        match self {
+            Commit::Local(_) => None,
+            Commit::Cross(number, _) => Some(*number),
+        }
+    }
+
+    /// The same commit once more. An error where it finds no memory.
+    pub fn copy(&self) -> Result<Commit, AllocError>
+        ensures { IfOk result (λ copy. copy ≡ self.now) }
+    {
+        match self {
+            Commit::Local(command) => Ok(Commit::Local(command.copy()?)),
+            Commit::Cross(number, command) => Ok(Commit::Cross(*number, command.copy()?)),
+        }
     }
 }

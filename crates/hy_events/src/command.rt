@@ -103,7 +103,7 @@ fn read_lines(alloc: Global, given: &mut Parts<'_>) -> Result<Option<PurchaseLin
             return without_memory(given);
         };
     }
-    Ok(Some(PurchaseLines::new(lines)))
+    Ok(Some(PurchaseLines::new(alloc, &lines)?))
 }
 
 /// What is read of a purchase one of whose lines finds no memory: nothing, where a word behind it is no line.

@@ -1,6 +1,6 @@
-//! Books, shares, purses and balances may go from thread to thread.
+//! Books, shares, purses and balances may go from thread to thread, and all threads may share what makes purses.
 
-use crate::{Balance, Book, Ledger, Purse, Share};
+use crate::{Balance, Book, Ledger, Purse, Purses, Share};
 use hy_worlds::World;
 
 fn crosses<T: Send>(_value: &T) {}
@@ -17,4 +17,11 @@ fn all_cross<K: World + Send>(
     crosses(share);
     crosses(purse);
     crosses(balance);
+}
+
+fn shared<T: Sync>(_value: &T) {}
+
+fn all_share<K: World + Send + Sync>(purses: &Purses<K>) {
+    crosses(purses);
+    shared(purses);
 }

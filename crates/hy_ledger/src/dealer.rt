@@ -1,11 +1,11 @@
 //! How the accounts of a kit are made, and where books and purses come from.
 
-ghost use Rattle.std.specs.Prelude.{◌≡◌, suc, ◌≤◌, [], IfOk, OnErr, OnOk};
+ghost use Rattle.std.specs.Prelude.{◌≡◌, suc, ◌≤◌, IfOk, OnErr, OnOk};
 ghost use Rattle.hy_ledger.specs.Books.{new_book};
 
 use crate::accounts::Accounts;
 use crate::book::Book;
-use crate::purse::Purse;
+use crate::purses::Purses;
 use crate::view::View;
 use atomic_table::{Seat, Table};
 use hy_worlds::World;
@@ -98,17 +98,11 @@ impl<K: World> Ledger<K> {
         })
     }
 
-    /// An empty purse. It is refused only where too many books and purses share the accounts. E1.
-    pub fn purse(&self) -> Result<Purse<K>, AllocError>
-        ensures { IfOk result (λ purse. purse.shares ≡ []) }
-    {
+    /// What makes purses. It is refused only where too many share the accounts. E1.
+    pub fn purses(&self) -> Result<Purses<K>, AllocError> {
         let accounts = Arc::try_clone(&self.accounts)?;
-        let seat = self.accounts.admit();
-        Ok(Purse {
+        Ok(Purses {
             accounts,
-            seat,
-            commits: 0,
-            cents: 0,
             of: PhantomData,
         })
     }

@@ -1,7 +1,7 @@
-mod Beginnings
-mod Lists
+pub mod Beginnings
+pub mod Lists
 mod Steps
 mod Totals
-mod SerialLaws
+pub mod SerialLaws
 mod AgreementLaws
 mod Telling

@@ -1,7 +1,7 @@
 -- Views by seat, and warehouses that are behind.
 use Rattle.std.proofs.Common.{◌≡◌, ◌≢◌, ◌⊎◌, ℕ, zero, suc, ◌==◌, Bool, true, false, not, ◌||◌, cond, List, [], ◌∷◌, ◌++◌, map, filter, length, set, Option, Some, None, inl, inr, ⊎_elim, refl, ap, sym, subst, ◌∙◌, true≢false}
 use mathlib.Core.Option.{some, some-injective, some-ne-none}
-use lib.ListN.{get_elem?}
+use Rattle.std.specs.Prelude.{slice_index_or}
 use Rattle.std.specs.List.{list_any}
 use Rattle.std.proofs.lemmas.Bool.{eqb-true}
 use Rattle.std.proofs.lemmas.List.{map-append}
@@ -12,26 +12,6 @@ use Rattle.atomic_table.proofs.Lists.{at_set}
 use Rattle.hy_passes.specs.declared.entry.Entry.{Entry}
 use Rattle.hy_passes.specs.SerialList.{names, projection, kept_of}
 use Rattle.hy_passes.specs.Law.{is_served, is_told}
-
--- what holds of each place holds after one was set
-pub each_set : {A : Type 0} (P : ℕ → A → Type 0) (xs : List A) (i : ℕ) (y : A)
-    → ((j : ℕ) (x : A) → j ≢ i → get_elem? xs j ≡ some x → P j x) → P i y
-    → (j : ℕ) (x : A) → get_elem? (set xs i y) j ≡ some x → P j x
-each_set P xs i y others mine j x at =
-    ⊎_elim
-    (λ (t : (j ≡ i) × (y ≡ x)). subst (λ k. P k x) (sym t.0) (subst (λ z. P i z) t.1 mine))
-    (λ (t : (j ≢ i) × (get_elem? xs j ≡ some x)). others j x t.0 t.1)
-    (at_set xs i j y x at)
-
--- and after one came behind the last
-pub each_more : {A : Type 0} (P : ℕ → A → Type 0) (xs : List A) (y : A)
-    → ((j : ℕ) (x : A) → get_elem? xs j ≡ some x → P j x) → P (length xs) y
-    → (j : ℕ) (x : A) → get_elem? (xs ++ y ∷ []) j ≡ some x → P j x
-each_more P [] y others mine zero x at = subst (λ z. P 0 z) (some-injective y x at) mine
-each_more P [] y others mine (suc j) x at = absurd (some-ne-none x (sym at))
-each_more P (z ∷ xs) y others mine zero x at = others zero x at
-each_more P (z ∷ xs) y others mine (suc j) x at =
-    each_more (λ k. P (suc k)) xs y (λ k w e. others (suc k) w e) mine j x at
 
 or_false : (a b : Bool) → not (a || b) ≡ true → (not a ≡ true) × (b ≡ false)
 or_false true b e = absurd (true≢false (sym e))
@@ -102,3 +82,8 @@ served-here (Some v) w e = ap Some (sym (eqb-true w v e))
 
 pub serves-here : (serves : Option ℕ) (w : ℕ) → serves ≡ Some w → is_served serves w ≡ true
 serves-here serves w e = subst (λ o. is_served o w ≡ true) (sym e) (eq-eqb w w refl)
+
+-- what stands behind a list
+pub index-behind : {A : Type 0} (xs : List A) (x : A) (ys : List A) (d : A) → slice_index_or (xs ++ x ∷ ys) (length xs) d ≡ x
+index-behind [] x ys d = refl
+index-behind (y ∷ xs) x ys d = index-behind xs x ys d

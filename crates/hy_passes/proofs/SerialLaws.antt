@@ -9,7 +9,7 @@ use Rattle.atomic_table.specs.Seated.{TableId}
 use Rattle.hy_passes.specs.declared.entry.Entry.{Entry}
 use Rattle.hy_passes.specs.SerialList.{are_warehouses, is_crossing, is_number, kept_of, max_commits, names, number_after, numbers_of, respects_after, IsSerial}
 use Rattle.hy_passes.specs.Inside.{IsCounted}
-use Rattle.hy_passes.specs.Worlds.{Origin}
+use Rattle.hy_worlds.specs.Origins.{Origin}
 use Rattle.hy_passes.proofs.Lists.{kept-adds, kept-skips}
 use Rattle.hy_passes.proofs.Totals.{log-room, numbers-within}
 
@@ -25,7 +25,7 @@ range-more first (suc n) =
     let k : first + 1 + n ≡ first + suc n = omega arith in
     ap (λ l. first ∷ l) (range-more (first + 1) n ∙ ap (λ k. range_with_len (first + 1) n ++ k ∷ []) k)
 
-respects-more : {C : Type 0} (before : ℕ) (log : List (Entry C)) (entry : Entry C) → respects_after before log ≡ true
+pub respects-more : {C : Type 0} (before : ℕ) (log : List (Entry C)) (entry : Entry C) → respects_after before log ≡ true
     → entry.stamp ≤ before + length log → respects_after before (log ++ entry ∷ []) ≡ true
 respects-more before [] entry so stamp =
     ap (λ b. b && true) (le-leb entry.stamp before (omega arith))

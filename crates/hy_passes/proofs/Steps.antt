@@ -14,7 +14,8 @@ use Rattle.hy_passes.specs.declared.view.Knowledge.{Knowledge}
 use Rattle.hy_passes.specs.declared.view.View.{View}
 use Rattle.hy_passes.specs.Law.{nothing, beginner, after_dealing, new_seat, new_pass, boarded, is_served, after_leaving, leaving, appended, Fits, IsKept, Looks, Meets, Appends}
 use Rattle.hy_passes.proofs.Beginnings.{begins_itself, begins_longer}
-use Rattle.hy_passes.proofs.Lists.{each_set, each_more, told-more, told-left, kept-skips, served-here, serves-here}
+use Rattle.hy_worlds.proofs.Views.{each_set, each_more}
+use Rattle.hy_passes.proofs.Lists.{told-more, told-left, kept-skips, served-here, serves-here}
 
 not-none : {w : ℕ} → None ≡ Some w → ⊥
 not-none e = cc

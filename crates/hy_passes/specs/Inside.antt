@@ -1,9 +1,9 @@
 -- What always holds inside the journal.
 use Rattle.std.specs.Prelude.{◌≡◌, ℕ, ◌+◌, ◌<◌, ◌≤◌, List, length, slice_index, Option}
 use Rattle.atomic_table.specs.Seated.{TableId}
+use Rattle.hy_worlds.specs.Origins.{Origin}
 use Rattle.hy_passes.specs.declared.entry.Entry.{Entry}
 use Rattle.hy_passes.specs.SerialList.{kept_of, max_commits, max_partitions, numbers_of, IsSerial}
-use Rattle.hy_passes.specs.Worlds.{Origin}
 
 -- its seat is the first one of the kit's word, and its numbers count the serial list
 pub record IsCounted {C : Type 0} (warehouses : C → List ℕ) (number : C → Option ℕ) (origin : Origin) (word : TableId) (seat : ℕ) (log : List (Entry C)) (size crossings : ℕ) (counts : List ℕ) : Type 0 where

@@ -3,4 +3,5 @@ pub mod SerialList
 pub mod Inside
 pub mod Law
 pub mod Worlds
+pub mod Pairs
 mod WorkedRows

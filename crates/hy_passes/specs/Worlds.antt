@@ -1,23 +1,6 @@
--- Which passes and which journal belong together.
+-- What clauses see of a pass, a seat, a kept list and the journal.
 use Rattle.std.specs.Prelude.{ℕ, [], List}
-use Rattle.atomic_table.specs.Seated.{TableId}
 use Rattle.hy_passes.specs.declared.entry.Entry.{Entry}
-
--- one kit: its shared word, its name, and how many partitions and clients it was made for
-pub record Origin : Type 0 where
-  pub word : TableId
-  pub name : ℕ
-  pub partitions : ℕ
-  pub clients : ℕ
-
--- that of no kit
-abbrev pub no_origin : Origin
-no_origin = record {
-  word = record { words = 0; slots = 0; views_name = 0; atom = 0; block = 0; offset = 0; slot_names = [] };
-  name = 0;
-  partitions = 0;
-  clients = 0;
-}
 
 -- a client's pass: a beginning of the serial list that the client has seen, and the number of looks at the list
 pub record PassState (C : Type 0) : Type 0 where

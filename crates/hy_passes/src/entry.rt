@@ -1,6 +1,6 @@
 //! Commits as the journal has them.
 
-ghost use Rattle.std.specs.Prelude.{◌≡◌, ℕ, List, Option};
+ghost use Rattle.std.specs.Prelude.{◌≡◌, ◌≢◌, ℕ, List, Option, AllPairs};
 ghost use Rattle.hy_passes.specs.SerialList.{names};
 
 /// What a commit says of itself.
@@ -17,6 +17,9 @@ pub trait Commits: Drop {
     /// Its number, if it names several warehouses.
     fn number(&self) -> Option<u64>
         ensures { result ≡ number self.now };
+
+    // No warehouse is named twice.
+    ghost named_once: { (commit : Self) → AllPairs (λ one other. one ≢ other) (warehouses commit) };
 }
 
 /// A commit in the one serial list, with its stamp.

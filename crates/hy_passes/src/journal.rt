@@ -8,10 +8,10 @@ ghost use Rattle.hy_passes.specs.Law.{is_told};
 use crate::entry::{Commits, Entry};
 use crate::pass::Pass;
 use crate::passes::Passes;
-use crate::seat::PartitionSeat;
+use crate::seat::SerialSeat;
 use crate::view::View;
-use crate::world::World;
 use atomic_table::Seat;
+use hy_worlds::World;
 use std::alloc::Global;
 use std::marker::Model;
 use std::sync::Arc;
@@ -115,7 +115,7 @@ impl<C: Commits, K: World> SerialList<C, K> {
 
     /// Tells a partition of all commits. What it had been told begins the list; it lacked no commit of its warehouse,
     /// unless that had still to be told.
-    pub fn tell(&mut self, seat: &mut PartitionSeat<C, K>)
+    pub fn tell(&mut self, seat: &mut SerialSeat<C, K>)
         ensures log { self.new.log ≡ self.old.log }
         ensures behind { self.new.behind ≡ filter (λ w. not (w == seat.old.warehouse)) self.old.behind }
         ensures warehouse { seat.new.warehouse ≡ seat.old.warehouse }
@@ -153,12 +153,7 @@ pub struct Journal<C: Commits, K: World> {
 impl<C: Commits, K: World> Journal<C, K> {
     /// A commit of one warehouse enters the end of the list, and its partition and its client are told. It takes no
     /// memory. The stamp is how many commits the client knew at some time.
-    pub fn commit(
-        &mut self,
-        seat: &mut PartitionSeat<C, K>,
-        pass: &mut Pass<C, K>,
-        entry: &Entry<C>,
-    )
+    pub fn commit(&mut self, seat: &mut SerialSeat<C, K>, pass: &mut Pass<C, K>, entry: &Entry<C>)
         requires alone { C.warehouses entry.now.commit ≡ seat.old.warehouse ∷ [] }
         requires unnumbered { C.number entry.now.commit ≡ None }
         requires stamped { entry.now.stamp ≤ length pass.old.seen }
@@ -178,7 +173,7 @@ impl<C: Commits, K: World> Journal<C, K> {
     }
 
     /// Tells a partition of all commits. It lacked none of its warehouse.
-    pub fn tell(&mut self, seat: &mut PartitionSeat<C, K>)
+    pub fn tell(&mut self, seat: &mut SerialSeat<C, K>)
         ensures log { self.new.list.log ≡ self.old.list.log }
         ensures warehouse { seat.new.warehouse ≡ seat.old.warehouse }
         ensures range { (1 ≤ seat.old.warehouse) × (seat.old.warehouse ≤ K.passes.partitions) }

@@ -7,15 +7,16 @@ ghost use Rattle.hy_passes.specs.SerialList.{kept_of, max_commits};
 use crate::entry::{Commits, Entry};
 use crate::journal::{Journal, SerialList};
 use crate::pass::Pass;
-use crate::seat::PartitionSeat;
-use crate::world::World;
+use crate::seat::SerialSeat;
+use hy_worlds::World;
 use std::alloc::{AllocError, Global};
 use std::marker::Model;
+use std::snapshot::Snapshot as Noted;
 
 /// The commits that a partition keeps: those of the serial list that name its warehouse, as far as it has been told.
 #[derive(Drop)]
 pub struct KeptList<C: Commits, K: World> {
-    seat: PartitionSeat<C, K>,
+    seat: SerialSeat<C, K>,
     kept: Vec<C>,
 }
 
@@ -33,7 +34,7 @@ impl<C: Commits, K: World> Model for KeptList<C, K> {
 
 impl<C: Commits, K: World> KeptList<C, K> {
     /// Nothing is kept yet.
-    pub fn new(alloc: Global, seat: PartitionSeat<C, K>) -> KeptList<C, K>
+    pub fn new(alloc: Global, seat: SerialSeat<C, K>) -> KeptList<C, K>
         requires { seat.seen ≡ [] }
         ensures { (result.warehouse ≡ seat.warehouse) × (result.seen ≡ []) }
     {
@@ -58,9 +59,16 @@ impl<C: Commits, K: World> KeptList<C, K> {
         self.kept.as_slice()
     }
 
+    /// What is kept now, for proofs alone.
+    pub fn noted(&self) -> Noted<Vec<C>>
+        ensures { result.value.items ≡ kept_of C.warehouses self.now.warehouse self.now.seen }
+    {
+        Noted::of(&self.kept)
+    }
+
     /// Makes room for one more commit. E1.
     pub fn reserve(&mut self) -> Result<(), AllocError>
-        ensures same { (self.new.warehouse ≡ self.old.warehouse) × (self.new.seen ≡ self.old.seen) }
+        ensures same { self.new ≡ record self.old { room = self.new.room } }
         ensures room { OnOk result (1 ≤ self.new.room) }
     {
         self.kept.reserve(1)

@@ -1,6 +1,6 @@
 //! How passes, the journal and the seats are made.
 
-ghost use Rattle.std.specs.Prelude.{◌≡◌, ℕ, ◌+◌, ◌≤◌, [], map, length, IfOk};
+ghost use Rattle.std.specs.Prelude.{◌≡◌, ℕ, ◌+◌, ◌≤◌, [], map, length, IfOk, vec_len};
 ghost use Rattle.std.specs.List.{range_with_len};
 ghost use Rattle.hy_passes.specs.SerialList.{max_clients, max_partitions};
 ghost use Rattle.hy_passes.specs.Law.{beginner};
@@ -13,10 +13,12 @@ use crate::pass::Pass;
 use crate::passes::Passes;
 use crate::seat::PartitionSeat;
 use crate::view::View;
-use crate::world::World;
 use atomic_table::{Seat, Table};
+use hy_ledger::{Blank as Accounts, Ledger};
+use hy_tickets::Blank;
+use hy_worlds::World;
 use std::alloc::{AllocError, Global};
-use std::marker::{Model, PhantomData};
+use std::marker::Model;
 use std::sync::Arc;
 
 /// How many partitions a kit can have.
@@ -31,22 +33,31 @@ pub struct Kit<C: Commits> {
     alloc: Global,
     table: Word<C>,
     seat: Seat<Entry<C>, View<C>>,
+    accounts: Accounts,
+    desks: Vec<Blank>,
     name: u64,
     partitions: u8,
     clients: u32,
 }
 
 impl<C: Commits> Model for Kit<C> {
-    ghost use Rattle.std.specs.Prelude.{◌≡◌, ◌≤◌, []};
+    ghost use Rattle.std.specs.Prelude.{◌≡◌, ◌≤◌, [], length};
+    ghost use Rattle.hy_worlds.specs.Origins.{Origin};
     ghost use Rattle.hy_passes.specs.SerialList.{max_clients, max_partitions};
     ghost use Rattle.hy_passes.specs.Law.{beginner};
-    ghost use Rattle.hy_passes.specs.Worlds.{Origin};
 
     ghost Value = { Origin };
 
-    ghost view = { λ k. record { word = k.table.shared.table_id; name = k.name; partitions = k.partitions; clients = k.clients } };
+    ghost view = { λ k. record {
+      word = k.table.shared.table_id;
+      accounts = k.accounts;
+      desks = k.desks.items;
+      name = k.name;
+      partitions = k.partitions;
+      clients = k.clients;
+    } };
 
-    ghost invariant = { λ k. (k.table.shared.table_id.words ≡ 1) × (k.seat.table_id ≡ k.table.shared.table_id) × (k.seat.id ≡ 0) × (k.seat.me ≡ (beginner, [])) × (k.partitions ≤ max_partitions) × (k.clients ≤ max_clients) };
+    ghost invariant = { λ k. (k.table.shared.table_id.words ≡ 1) × (k.seat.table_id ≡ k.table.shared.table_id) × (k.seat.id ≡ 0) × (k.seat.me ≡ (beginner, [])) × (length k.desks.items ≡ k.partitions) × (k.partitions ≤ max_partitions) × (k.clients ≤ max_clients) };
 }
 
 /// Makes the shared word for the partitions of warehouses 1, 2, 3 and so on, and for clients that are numbered from 0.
@@ -61,25 +72,46 @@ pub fn make<C: Commits>(
     requires clients { (1 ≤ clients) × (clients ≤ max_clients) }
     ensures { IfOk result (λ k. (k.partitions ≡ partitions) × (k.clients ≡ clients) × (k.name ≡ name)) }
 {
+    let desks = blank_desks(alloc, partitions)?;
+    let accounts = Accounts::new(alloc)?;
     let (table, seat) = Table::of_words(alloc, &[0], &())?;
     Ok(Kit {
         alloc,
         table,
         seat,
+        accounts,
+        desks,
         name,
         partitions,
         clients,
     })
 }
 
+// A desk for each partition, that of the last warehouse first.
+fn blank_desks(alloc: Global, partitions: u8) -> Result<Vec<Blank>, AllocError>
+    ensures { IfOk result (λ desks. length desks.items ≡ partitions) }
+{
+    let mut desks = Vec::with_capacity(alloc, partitions as usize)?;
+    for _ in 0..partitions {
+        let desk = Blank::new(alloc)?;
+        desks.push_reserved(desk);
+    }
+    Ok(desks)
+}
+
 // The seats of the partitions of warehouses 1 to the last.
 fn deal_seats<C: Commits, K: World>(
     alloc: Global,
     passes: &Passes<C, K>,
+    ledger: &mut Ledger<K>,
     journal: &mut Seat<Entry<C>, View<C>>,
+    mut desks: Vec<Blank>,
     partitions: u8,
 ) -> Result<Vec<PartitionSeat<C, K>>, AllocError>
     requires journal { (journal.old.table_id ≡ K.passes.word) × (journal.old.id ≡ 0) }
+    requires ledger { ledger.old ≡ 0 }
+    requires desks { desks.items ≡ K.passes.desks }
+    requires count { length desks.items ≡ partitions }
     requires partitions { partitions ≡ K.passes.partitions }
     requires new { journal.old.me.0 ≡ beginner }
     ensures place { (journal.new.table_id ≡ journal.old.table_id) × (journal.new.id ≡ journal.old.id) }
@@ -88,7 +120,10 @@ fn deal_seats<C: Commits, K: World>(
 {
     let mut seats = Vec::with_capacity(alloc, partitions as usize)?;
     for before in 0..partitions {
-        seats.push_reserved(passes.deal(journal, before + 1));
+        let list = passes.deal(journal, before + 1);
+        let desk = desks.take_last().open(before + 1, passes.name());
+        let book = ledger.deal(before + 1)?;
+        seats.push_reserved(PartitionSeat { list, desk, book });
     }
     Ok(seats)
 }
@@ -136,16 +171,19 @@ impl<C: Commits> Kit<C> {
             alloc,
             table,
             mut seat,
+            accounts,
+            desks,
             name,
             partitions,
             clients,
         } = self;
+        let mut ledger = accounts.open();
         let passes = Passes {
             table,
             name,
-            of: PhantomData,
+            purses: ledger.purses()?,
         };
-        let seats = deal_seats(alloc, &passes, &mut seat, partitions)?;
+        let seats = deal_seats(alloc, &passes, &mut ledger, &mut seat, desks, partitions)?;
         let clients = admit_clients(alloc, &passes, &mut seat, clients)?;
         let counts = Vec::from_elem(alloc, 0u64, partitions as usize)?;
         let passes = Arc::new(alloc, passes)?;

@@ -11,7 +11,6 @@ mod pass;
 mod passes;
 mod seat;
 mod view;
-mod world;
 
 pub use entry::{Commits, Entry};
 pub use journal::{Journal, MAX_COMMITS, SerialList};
@@ -20,8 +19,7 @@ pub use kit::{Kit, MAX_CLIENTS, MAX_PARTITIONS, make};
 pub use laws::{beginnings_of_kept_lists, projections_agree, telling_all_leaves_none_behind};
 pub use pass::Pass;
 pub use passes::Passes;
-pub use seat::PartitionSeat;
-pub use world::World;
+pub use seat::{PartitionSeat, SerialSeat};
 
 #[cfg(test)]
 mod tests;

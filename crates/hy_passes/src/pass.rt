@@ -6,8 +6,8 @@ ghost use mathlib.Core.List.{IsPrefix};
 use crate::entry::{Commits, Entry};
 use crate::passes::Passes;
 use crate::view::View;
-use crate::world::World;
 use atomic_table::Seat;
+use hy_worlds::World;
 use std::marker::{Model, PhantomData};
 
 /// A client's pass: a beginning of the serial list that the client has seen.

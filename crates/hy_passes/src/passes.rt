@@ -1,6 +1,6 @@
 //! The shared word: how many commits the serial list has.
 
-ghost use Rattle.std.specs.Prelude.{suc, ◌≡◌, ℕ, ◌+◌, ◌≤◌, ◌<◌, ◌^◌, [], ◌∷◌, length, true, Some};
+ghost use Rattle.std.specs.Prelude.{suc, ◌≡◌, ℕ, ◌+◌, ◌≤◌, ◌<◌, ◌^◌, [], ◌∷◌, length, true, Some, IfOk};
 ghost use mathlib.Core.List.{IsPrefix};
 ghost use Rattle.hy_passes.specs.SerialList.{kept_of};
 ghost use Rattle.hy_passes.specs.Law.{after_dealing, after_leaving, appended, boarded, is_told, leaving, Looks};
@@ -9,10 +9,12 @@ ghost use Rattle.hy_passes.specs.Worlds.{new_client, new_partition};
 use crate::entry::{Commits, Entry};
 use crate::law::{Admit, Append, Board, Deal, Leave, Look, Meet, Word};
 use crate::pass::Pass;
-use crate::seat::PartitionSeat;
+use crate::seat::SerialSeat;
 use crate::view::View;
-use crate::world::World;
 use atomic_table::Seat;
+use hy_ledger::{Purse, Purses};
+use hy_worlds::World;
+use std::alloc::AllocError;
 use std::marker::PhantomData;
 use std::mem;
 
@@ -21,7 +23,7 @@ use std::mem;
 pub struct Passes<C: Commits, K: World> {
     pub(crate) table: Word<C>,
     pub(crate) name: u64,
-    pub(crate) of: PhantomData<K>,
+    pub(crate) purses: Purses<K>,
     ghost word_is: { table.shared.table_id ≡ K.passes.word },
     ghost one_word: { table.shared.table_id.words ≡ 1 },
     ghost named: { name ≡ K.passes.name },
@@ -45,6 +47,13 @@ impl<C: Commits, K: World> Passes<C, K> {
         ensures client { pass.new.client ≡ pass.old.client }
     {
         pass.look(self)
+    }
+
+    /// An empty purse, for the shares of accepted commands. E1.
+    pub fn purse(&self) -> Result<Purse<K>, AllocError>
+        ensures { IfOk result (λ purse. purse.shares ≡ []) }
+    {
+        self.purses.purse()
     }
 
     // A look by any seat of the kit.
@@ -79,7 +88,7 @@ impl<C: Commits, K: World> Passes<C, K> {
         &self,
         journal: &mut Seat<Entry<C>, View<C>>,
         warehouse: u8,
-    ) -> PartitionSeat<C, K>
+    ) -> SerialSeat<C, K>
         requires journal { (journal.old.table_id ≡ K.passes.word) × (journal.old.id ≡ 0) }
         requires next { warehouse ≡ suc journal.old.me.0.dealt }
         requires range { warehouse ≤ K.passes.partitions }
@@ -89,7 +98,7 @@ impl<C: Commits, K: World> Passes<C, K> {
         ensures seat { result ≡ new_partition warehouse }
     {
         let seat = self.table.shared.split_seat::<Deal>(journal);
-        PartitionSeat {
+        SerialSeat {
             seat,
             warehouse,
             commits: 0,

@@ -1,9 +1,11 @@
 //! A small model of partitions that keep a list each, under real locks and on real threads.
 
 ghost use Rattle.std.specs.Prelude.{◌≡◌, ℕ, ◌==◌, ◌≢◌, suc, ◌+◌, ◌<◌, ◌≤◌, if◌then◌else◌, [], ◌∷◌, ◌++◌, length, true, Some, None};
+ghost use Rattle.hy_passes.specs.Pairs.{home_and_other, once-home_and_other};
 ghost use Rattle.hy_passes.specs.SerialList.{are_warehouses, kept_of, max_commits, numbers_of};
 
-use crate::{Commits, Entry, Journal, KeptList, Kit, MAX_COMMITS, Pass, Passes, World, make};
+use crate::{Commits, Entry, Journal, KeptList, Kit, MAX_COMMITS, Pass, Passes, make};
+use hy_worlds::World;
 use std::alloc::Global;
 use std::marker::Brand;
 use std::process::Abort;
@@ -22,7 +24,7 @@ struct Note {
 }
 
 impl Commits for Note {
-    ghost warehouses = { λ n. if n.other == 0 then n.home ∷ [] else n.home ∷ n.other ∷ [] };
+    ghost warehouses = { λ n. home_and_other n.home n.other };
 
     ghost number = { λ n. if n.other == 0 then None else Some n.crossing };
 
@@ -37,6 +39,8 @@ impl Commits for Note {
             Some(self.crossing)
         }
     }
+
+    ghost named_once = { λ n. once-home_and_other n.home n.other };
 }
 
 const TURNS: u64 = 1000;
@@ -196,6 +200,7 @@ fn two_threads<K: World + Send + Sync, R: Threads + Wait + Abort + Sync>(
     ) else {
         panic!(rt; "four passes")
     };
+    let ((first, _, _), (second, _, _)) = (first.part(), second.part());
     let lists = [
         Mutex::new(KeptList::new(alloc, first)),
         Mutex::new(KeptList::new(alloc, second)),
@@ -231,6 +236,7 @@ fn handed_over<K: World + Send + Sync, R: Threads + Wait + Abort + Sync>(
     let (Some(mut other), Some(pass)) = (clients.pop(), clients.pop()) else {
         panic!(rt; "two passes")
     };
+    let ((first, _, _), (second, _, _)) = (first.part(), second.part());
     let lists = [
         Mutex::new(KeptList::new(alloc, first)),
         Mutex::new(KeptList::new(alloc, second)),

@@ -3,7 +3,7 @@
 ghost use Rattle.hy_space.specs.Space.{owner_bytes};
 ghost use Rattle.hy_store.specs.Stored.{HasStore};
 
-use hy_commands::{Command, PurchaseLine};
+use hy_commands::{Command, PurchaseLines};
 use hy_layout::Layout;
 use hy_rows::{Customer, Stock};
 use hy_space::Space;
@@ -23,7 +23,7 @@ pub(crate) fn read_ahead<const N: usize>(
     match command {
         Command::NewOrder(order) => {
             let customer = glance_at::<Customer, N>(space, place);
-            customer ^ glance_at_lines(layout, space, order.lines.as_slice())
+            customer ^ glance_at_lines(layout, space, &order.lines)
         }
         Command::Payment(_) | Command::OrderStatus(_) => glance_at::<Customer, N>(space, place),
         Command::Delivery(_) | Command::StockLevel(_) => 0,
@@ -31,12 +31,12 @@ pub(crate) fn read_ahead<const N: usize>(
 }
 
 /// Looks at the rows of the items of lines.
-fn glance_at_lines<const N: usize>(layout: &Layout, space: &Space<N>, lines: &[PurchaseLine]) -> u64
+fn glance_at_lines<const N: usize>(layout: &Layout, space: &Space<N>, lines: &PurchaseLines) -> u64
     requires { HasStore N (owner_bytes space.now) }
 {
     let mut mixed = 0;
-    for line in lines {
-        mixed ^= glance_at_item(layout, space, line.item);
+    for place in 0..lines.len() {
+        mixed ^= glance_at_item(layout, space, lines.line(place).item);
     }
     mixed
 }

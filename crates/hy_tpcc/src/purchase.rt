@@ -42,7 +42,7 @@ fn line_behind(order: &Purchase, lines: u64) -> PurchaseLine
     requires { lines < length order.now.lines }
     ensures { line_behind order.now lines ≡ Some result }
 {
-    order.lines.as_slice()[lines as usize]
+    order.lines.line(lines as usize)
 }
 
 /// The next slice of a purchase behind its head and so many slices in all: its next line. E7 where the item of the line
@@ -132,7 +132,7 @@ pub(crate) fn buy<const N: usize>(
         };
     }
     place_line(layout, space, undo, order, place, done)?;
-    if done < order.lines.as_slice().len() as u64 {
+    if done < order.lines.len() as u64 {
         return Ok(None);
     }
     Ok(Some(reply_to_order(layout, space, order, place)))

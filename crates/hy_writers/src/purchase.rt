@@ -17,7 +17,7 @@ ghost use Rattle.hy_writers.specs.Limits.{most_applied};
 ghost use Rattle.hy_writers.specs.Purchases.{CanAddLine, CanAddOrder, line_for, with_order, with_order_entries, with_order_line, with_waiting};
 
 use crate::finds::{own_district, own_district_tax, own_next_order, own_stock, own_tax};
-use hy_commands::{Purchase, PurchaseLine};
+use hy_commands::{Purchase, PurchaseLine, PurchaseLines};
 use hy_frames::Shortage;
 use hy_layout::Layout;
 use hy_rows::{Customer, District, Item, NewOrder, Order, OrderLine, Stock};
@@ -43,11 +43,7 @@ fn district_after(row: &District) -> District
 fn is_all_local(order: &Purchase) -> bool
     ensures { result ≡ is_all_local order.now }
 {
-    order
-        .lines
-        .as_slice()
-        .iter()
-        .all(|line| line.supply_warehouse == order.warehouse)
+    order.lines.all_come_from(order.warehouse)
 }
 
 /// The row of ORDER for a purchase with a number.
@@ -63,7 +59,7 @@ fn order_for(order: &Purchase, home: u8, number: u32) -> Order
         customer: order.customer as u16,
         entry_date: order.at,
         carrier: 0,
-        line_count: order.lines.as_slice().len() as u8,
+        line_count: order.lines.len() as u8,
         all_local: is_all_local(order).into(),
     }
 }
@@ -265,7 +261,7 @@ fn total_of(cents: u64, discount: u16, warehouse_tax: u16, district_tax: u16) ->
 }
 
 /// The lines' cents together, where all their items are there.
-fn purchase_cents(layout: &Layout, lines: &[PurchaseLine]) -> u64
+fn purchase_cents(layout: &Layout, lines: &PurchaseLines) -> u64
     requires items { ItemsFit layout.now.load.items }
     requires known { All (λ line. has_item layout.now.load.items line ≡ true) lines.now }
     requires quantities { All (λ line. line.quantity ≤ max_quantity) lines.now }
@@ -274,8 +270,8 @@ fn purchase_cents(layout: &Layout, lines: &[PurchaseLine]) -> u64
     ensures small { result ≤ max_order_cents }
 {
     let mut cents = 0;
-    for line in lines {
-        cents += line_cents(layout, line);
+    for place in 0..lines.len() {
+        cents += line_cents(layout, &lines.line(place));
     }
     cents
 }
@@ -313,6 +309,6 @@ pub fn purchase_total<const N: usize>(
     let warehouse_tax = own_tax(layout, space);
     let district_tax = own_district_tax(layout, space, order.district);
     let discount = Customer::discount_in(row_bytes_at::<Customer, N>(space, place));
-    let cents = purchase_cents(layout, order.lines.as_slice());
+    let cents = purchase_cents(layout, &order.lines);
     total_of(cents, discount, warehouse_tax, district_tax)
 }

@@ -1,6 +1,7 @@
-use Rattle.std.proofs.Common.{◌≡◌, ◌≤◌, map}
-use Rattle.std.specs.Prelude.{vec_capacity, length}
+use Rattle.std.proofs.Common.{◌≡◌, ◌+◌, ◌≤◌, List, ◌++◌, map}
+use Rattle.std.specs.Prelude.{vec_capacity, vec_len, length}
 use Rattle.std.specs.List.{range_with_len}
+use Rattle.atomic_table.specs.Seated.{TableId}
 use Rattle.hy_passes.specs.Law.{dealer}
 use Rattle.hy_passes.specs.Worlds.{new_partition}
 use Rattle.hy_passes.proofs.kit.deal_seats.Given as goal
@@ -13,3 +14,7 @@ invariant-loop-before g l =
     × (l.seats.items ≡ map new_partition (range_with_len 1 l.before))
     × (length l.seats.items ≡ l.before)
     × (l.partitions ≤ vec_capacity l.seats)
+    × (length l.desks.items + l.before ≡ l.partitions)
+    × (vec_len l.desks + l.before ≡ l.partitions)
+    × (l.ledger ≡ l.before)
+    × ((given : List TableId) × (l.desks.items ++ given ≡ g.K.World.passes.desks))

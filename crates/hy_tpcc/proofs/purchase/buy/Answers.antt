@@ -10,8 +10,8 @@ pub reply_to_order-requires : goal.reply_to_order-requires
 reply_to_order-requires g c =
     let layout = c.args.layout.now in
     let before = c.requires.done.0 in
-    let lines : c.as_slice.result.now ≡ c.args.order.now.lines = c.as_slice.ensures in
-    let at_end : length c.args.order.now.lines ≤ c.args.done = subst (λ rows. length rows ≤ c.args.done) lines c.if-done-as_slice.false in
+    let at_end : length c.args.order.now.lines ≤ c.args.done = subst (λ lines. lines ≤ c.args.done) c.len.ensures.count
+    c.if-done-len.false in
     let last : c.args.done ≡ length c.args.order.now.lines = omega (arith, at_end, c.requires.next) in
     let after = c.in_ok-place_line.ensures.done.step before c.requires.done.1 in (
       lit< tt,
@@ -28,8 +28,8 @@ reply_to_order-requires g c =
 pub returns-clause-reply : goal.returns-clause-reply
 returns-clause-reply g c = λ before now.
     let layout = c.args.layout.now in
-    let lines : c.as_slice.result.now ≡ c.args.order.now.lines = c.as_slice.ensures in
-    let at_end : length c.args.order.now.lines ≤ c.args.done = subst (λ rows. length rows ≤ c.args.done) lines c.if-done-as_slice.false in
+    let at_end : length c.args.order.now.lines ≤ c.args.done = subst (λ lines. lines ≤ c.args.done) c.len.ensures.count
+    c.if-done-len.false in
     let last : c.args.done ≡ length c.args.order.now.lines = omega (arith, at_end, c.requires.next) in
     let after = c.in_ok-place_line.ensures.done.step before now in
     ap Some (c.reply_to_order.ensures before

@@ -1,7 +1,7 @@
 use Rattle.std.proofs.Common.{◌-◌, ◌∙◌, ap, ap₂}
 use Rattle.hy_rows.specs.declared.customer.Customer.{Customer}
 use Rattle.hy_rows.specs.Rows.{customer_of}
-use Rattle.hy_commands.specs.NewOrders.{purchase_cents, total_of}
+use Rattle.hy_commands.specs.NewOrders.{total_of}
 use Rattle.hy_store.specs.Writes.{stored_in}
 use Rattle.hy_writers.proofs.PurchaseLaws.{total-found}
 use Rattle.hy_writers.proofs.purchase.purchase_total.Goals as goal
@@ -19,4 +19,4 @@ returns g c =
     ∙ total-found c.args.layout.now.load.items c.args.layout.now.warehouse (c.args.order.now.district - 1) c.args.place
     cents c.args.order.now (stored_in g.row.N c.args.space.now).tables home.0 district.0 buyer c.requires.order
     home.1 district.1 c.requires.buyer c.row_bytes_at.ensures.row
-    (c.purchase_cents-cents.ensures.cents ∙ ap (purchase_cents c.args.layout.now.load.items) c.as_slice.ensures)
+    c.purchase_cents-cents.ensures.cents
