@@ -1,10 +1,10 @@
 -- A fork: the snapshot that it gives, and what is left where it was refused after its child was opened.
-use Rattle.std.proofs.Common.{◌≡◌, ◌≢◌, ℕ, ◌+◌, inl, inr, List, [], length, Option, Some, None, refl, sym, ap, ◌∙◌, subst, arith}
+use Rattle.std.proofs.Common.{◌≡◌, ◌≢◌, ℕ, ◌+◌, inl, inr, List, [], ◌++◌, map, filter, length, Option, Some, None, refl, sym, ap, ◌∙◌, subst, arith}
 use Rattle.std.specs.Prelude.{slice_index_or}
 use Rattle.std.specs.Option.{option_map}
 use Rattle.std.proofs.lemmas.Bool.{cases_eq}
 use Rattle.std.proofs.lemmas.List.{append-nil}
-use Rattle.hy_frames.specs.FrameTable.{count_of, free_of}
+use Rattle.hy_frames.specs.FrameTable.{IsPageSize, count_of, free_of}
 use Rattle.hy_rows.specs.Spelling.{HasTables, Spells}
 use Rattle.hy_space.specs.Space.{SpaceState, SameForOthers, SameForOwner, KeepsOwn, IsLeastFree, IsUnchanged, DropsUsers, child_bytes, child_table, child_times, owner_bytes, table_bytes}
 use Rattle.hy_space.proofs.TableLaws.{same_bytes, same_child_bytes}
@@ -14,12 +14,35 @@ use Rattle.hy_undo.specs.PrivatePages.{IsUndoLog}
 use Rattle.hy_undo.specs.Fork.{IsAsBefore}
 use Rattle.hy_undo.proofs.PrivatePageLaws.{IsUndoLog-kept, KeepsPages-unseen}
 use Rattle.hy_tpcc.specs.Executor.{ExecutorState}
-use Rattle.hy_partition.specs.Partition.{PartitionState, commits_of, rows_now}
-use Rattle.hy_partition.specs.Snapshots.{SnapshotState}
+use mathlib.Core.List.{IsPrefix}
+use Rattle.std.proofs.lemmas.List.{map-append}
+use Rattle.std.proofs.lemmas.List.Elements.{filter-append}
+use Rattle.hy_worlds.specs.Origins.{Origin, desk_of}
+use Rattle.hy_passes.specs.declared.entry.Entry.{Entry}
+use Rattle.hy_passes.specs.SerialList.{names}
+use Rattle.hy_passes.proofs.Beginnings.{begins_shorter}
+use Rattle.hy_commands.specs.declared.command.Commit.{Commit}
+use Rattle.hy_commands.specs.Commands.{warehouses_of_commit}
+use Rattle.hy_commands.specs.Replay.{rows_after as lists_after}
+use Rattle.hy_partition.specs.Jobs.{Log}
+use Rattle.hy_partition.specs.Partition.{PartitionState, commits_of, projection_of, rows_now}
+use Rattle.hy_partition.specs.Snapshots.{IsTakenBehind, SnapshotState}
 use Rattle.hy_partition.specs.inside.Soundness.{IsSound}
 use Rattle.hy_partition.specs.Steps.{Forks, KeepsOthers, StaysUnforked}
 use Rattle.hy_partition.proofs.SoundLaws.{sound-forked, sound-snapshots, snapshot_fresh, spells-store}
 use Rattle.hy_partition.proofs.SpellLaws.{spells-kept_more}
+
+-- what a beginning of a serial list has of a warehouse begins what the list has of it
+projection-begins : (warehouse : ℕ) (known log : Log) → IsPrefix known log
+    → IsPrefix (projection_of warehouse known) (projection_of warehouse log)
+projection-begins warehouse known log begins = (
+  projection_of warehouse begins.0,
+  sym (ap (projection_of warehouse) (sym begins.1)
+      ∙ ap (λ commits. filter (names warehouses_of_commit warehouse) commits)
+      (map-append (λ (e : Entry Commit). e.commit) known begins.0)
+      ∙ filter-append (names warehouses_of_commit warehouse) (map (λ (e : Entry Commit). e.commit) known)
+      (map (λ (e : Entry Commit). e.commit) begins.0)),
+)
 
 -- what holds of a space in which pages may be lent now
 unchanged_bytes : (old new : SpaceState) → IsUnchanged old new → owner_bytes new ≡ owner_bytes old
@@ -34,14 +57,14 @@ unchanged_child_bytes old new same child =
     ∙ same_child_bytes old.frames new.frames (child_table old child) (λ f more. same.pages f)
 
 -- a fork that the undo log refused: all is as before
-module _ (n places : ℕ) (executor : ExecutorState) (p : PartitionState) (sound : IsSound n places executor p)
+module _ (n room : ℕ) (executor : ExecutorState) (p : PartitionState) (sound : IsSound n room executor p)
     (same : SpaceState) (before : IsAsBefore p.space same) where
   pub sound-as_before : (snapshots : List (Option ℕ)) → snapshots ≡ p.snapshots
-      → IsSound n places executor (record p { space = same; snapshots = snapshots })
+      → IsSound n room executor (record p { space = same; snapshots = snapshots })
   sound-as_before snapshots stay =
       let after : PartitionState = record p { space = same } in
-      subst (λ (all : List (Option ℕ)). IsSound n places executor (record p { space = same; snapshots = all })) (sym stay)
-      (sound-snapshots n places executor p sound same p.snapshots before.owner
+      subst (λ (all : List (Option ℕ)). IsSound n room executor (record p { space = same; snapshots = all })) (sym stay)
+      (sound-snapshots n room executor p sound same p.snapshots before.owner
       (IsUndoLog-kept n p.space same p.undo (KeepsPages-unseen p.space same before.owner.bytes before.kept) sound.undo_log)
       (λ other. spells-kept_more n p after refl [] (sym (append-nil p.kept)) other refl (before.bytes other)
       (sound.snapshots other)))
@@ -51,15 +74,16 @@ module _ (n places : ℕ) (executor : ExecutorState) (p : PartitionState) (sound
       → StaysUnforked p (record p { space = same; snapshots = snapshots })
   stays-as_before snapshots stay limit = record {
     job = record {
-      load = refl;
-      warehouse = refl;
+      terms = refl;
       kept = refl;
-      max_kept = refl;
+      drained = refl;
+      book = refl;
       running = refl;
       undo = refl;
       finished = refl;
       owner = before.owner;
     };
+    seen = refl;
     snapshots = λ other. ap (λ (all : List (Option ℕ)). slice_index_or all other None) stay;
     tables = before.tables;
     bytes = before.bytes;
@@ -68,7 +92,7 @@ module _ (n places : ℕ) (executor : ExecutorState) (p : PartitionState) (sound
   }
 
 -- with pages of n bytes: the child was opened with the running transaction undone in it, and its pages may have got holds
-module _ (n places : ℕ) (executor : ExecutorState) (p : PartitionState) (sound : IsSound n places executor p) (mid held : SpaceState) (child : ℕ)
+module _ (n room : ℕ) (executor : ExecutorState) (p : PartitionState) (sound : IsSound n room executor p) (mid held : SpaceState) (child : ℕ)
     (least : IsLeastFree p.space child) (bytes : child_bytes mid child ≡ Some (undone (owner_bytes p.space) p.undo)) (others : SameForOthers p.space mid child) (owner : SameForOwner p.space mid)
     (log : IsUndoLog n mid p.undo) (lent : IsUnchanged mid held) (kept : KeepsOwn mid held) where
   held_owner : SameForOwner p.space held
@@ -95,31 +119,74 @@ module _ (n places : ℕ) (executor : ExecutorState) (p : PartitionState) (sound
 
   -- a snapshot stands at the child's place
   pub sound-opened : (snapshots : List (Option ℕ)) → slice_index_or snapshots child None ≡ Some (length p.kept)
-      → ((other : ℕ) → other ≢ child → slice_index_or snapshots other None ≡ commits_of p other) → IsSound n places executor (record p { space = held; snapshots = snapshots })
+      → ((other : ℕ) → other ≢ child → slice_index_or snapshots other None ≡ commits_of p other) → IsSound n room executor (record p { space = held; snapshots = snapshots })
   sound-opened snapshots commits others_commits =
-      sound-forked n places executor p sound held snapshots child held_owner held_others held_log held_bytes commits others_commits
+      sound-forked n room executor p sound held snapshots child held_owner held_others held_log held_bytes commits others_commits
 
-  pub forks : (snapshots : List (Option ℕ)) (snapshot : SnapshotState) → slice_index_or snapshots child None ≡ Some (length p.kept)
+  -- what the snapshot that was taken has
+  pub taken_behind : IsPageSize n → (snapshot : SnapshotState) → snapshot.load ≡ p.load → snapshot.warehouse ≡ p.warehouse
+      → snapshot.commits ≡ length p.kept → snapshot.kept ≡ p.kept → child_bytes mid child ≡ Some snapshot.bytes
+      → IsTakenBehind n snapshot
+  taken_behind size snapshot load warehouse count kept seen =
+      let seen_is : snapshot.bytes ≡ undone (owner_bytes p.space) p.undo = some_pages (sym seen ∙ bytes) in
+      record {
+        whole = record { size = size; tables = whole snapshot.bytes seen };
+        commits = count ∙ sym (ap length kept);
+        spells = subst (λ lists. Spells n snapshot.bytes (lists_after lists snapshot.warehouse snapshot.kept)) (sym load)
+            (subst (λ number. Spells n snapshot.bytes (lists_after p.load number snapshot.kept)) (sym warehouse)
+            (subst (λ commits. Spells n snapshot.bytes (lists_after p.load p.warehouse commits)) (sym kept)
+            (subst (λ pages. Spells n pages (lists_after p.load p.warehouse p.kept)) (sym seen_is)
+            (spells-store sound.live))));
+      }
+    where
+      some_pages : {one other : List (List (List ℕ))} → Some one ≡ Some other → one ≡ other
+      some_pages same = cc
+
+  -- the snapshot that was taken, where the partition was told the serial list
+  pub forks : (kit : Origin) (log known : Log) (snapshots : List (Option ℕ)) (snapshot : SnapshotState)
+      → slice_index_or snapshots child None ≡ Some (length p.kept)
       → ((other : ℕ) → other ≢ child → slice_index_or snapshots other None ≡ commits_of p other)
       → free_of mid.frames + touched p.undo ≡ free_of p.space.frames → mid.frames.max ≡ p.space.frames.max
-      → snapshot.items ≡ p.load.items → snapshot.warehouse ≡ p.warehouse → snapshot.child ≡ child → snapshot.commits ≡ length p.kept → child_bytes mid child ≡ Some snapshot.bytes
-      → Forks n p (record p { space = held; snapshots = snapshots }) snapshot
-  forks snapshots snapshot commits others_commits free limit items warehouse at count seen =
+      → snapshot.load ≡ p.load → snapshot.warehouse ≡ p.warehouse → snapshot.name ≡ kit.name
+      → snapshot.desk ≡ desk_of kit p.warehouse → snapshot.child ≡ child → snapshot.commits ≡ length p.kept
+      → snapshot.kept ≡ p.kept → child_bytes mid child ≡ Some snapshot.bytes → IsPrefix p.seen log → IsPrefix known log
+      → p.kept ≡ projection_of p.warehouse log
+      → Forks n kit log known p (record p { seen = log; space = held; snapshots = snapshots }) snapshot
+  forks kit log known snapshots snapshot commits others_commits free limit load warehouse name desk at count kept seen told
+      client_told all =
       let seen_is : snapshot.bytes ≡ undone (owner_bytes p.space) p.undo = some_same (sym seen ∙ bytes) in
-      let after : PartitionState = record p { space = held; snapshots = snapshots } in
+      let after : PartitionState = record p { seen = log; space = held; snapshots = snapshots } in
+      let shorter = projection-begins p.warehouse known log client_told in
       record {
-        items = items;
+        load = load;
         warehouse = warehouse;
+        name = name;
+        desk = desk;
         child = subst (λ (c : ℕ). IsLeastFree p.space c) (sym at) least;
-        fresh = ap (commits_of p) at ∙ snapshot_fresh n places executor p sound child least.closed;
+        fresh = ap (commits_of p) at ∙ snapshot_fresh n room executor p sound child least.closed;
         commits = count;
+        kept = kept;
         bytes = seen_is;
         spells = subst (λ (pages : List (List (List ℕ))). Spells n pages (rows_now p)) (sym seen_is) (spells-store sound.live);
         open_bytes = ap (child_bytes held) at ∙ unchanged_child_bytes mid held lent child ∙ seen;
         open_commits = ap (commits_of after) at ∙ commits ∙ ap Some (sym count);
         free = omega (arith, free, lent.free);
         max_frames = lent.limit ∙ limit;
-        job = record { load = refl; warehouse = refl; kept = refl; max_kept = refl; running = refl; undo = refl; finished = refl; owner = held_owner };
+        told = told;
+        client_told = client_told;
+        seen = refl;
+        all = all;
+        no_older = omega (arith, begins_shorter _ _ shorter, ap length all, count);
+        job = record {
+          terms = refl;
+          kept = refl;
+          drained = refl;
+          book = refl;
+          running = refl;
+          undo = refl;
+          finished = refl;
+          owner = held_owner;
+        };
         others = subst (λ (c : ℕ). KeepsOthers p after c) (sym at) (record { bytes = held_others; commits = others_commits });
       }
     where
@@ -145,18 +212,28 @@ module _ (n places : ℕ) (executor : ExecutorState) (p : PartitionState) (sound
       | inr apart ↦ still.bytes other apart ∙ held_others.bytes other apart
     ]
 
-    pub sound-unforked : (snapshots : List (Option ℕ)) → snapshots ≡ p.snapshots → IsSound n places executor (record p { space = closed; snapshots = snapshots })
+    pub sound-unforked : (snapshots : List (Option ℕ)) → snapshots ≡ p.snapshots → IsSound n room executor (record p { space = closed; snapshots = snapshots })
     sound-unforked snapshots same =
         let after : PartitionState = record p { space = closed } in
-        subst (λ (all : List (Option ℕ)). IsSound n places executor (record p { space = closed; snapshots = all })) (sym same)
-        (sound-snapshots n places executor p sound closed p.snapshots closed_owner
+        subst (λ (all : List (Option ℕ)). IsSound n room executor (record p { space = closed; snapshots = all })) (sym same)
+        (sound-snapshots n room executor p sound closed p.snapshots closed_owner
         (IsUndoLog-kept n held closed p.undo (KeepsPages-unseen held closed owner_still.bytes kept_still) held_log)
         (λ other. spells-kept_more n p after refl [] (sym (append-nil p.kept)) other refl (closed_bytes other) (sound.snapshots other)))
 
     pub stays_unforked : (snapshots : List (Option ℕ)) → snapshots ≡ p.snapshots → ((f : ℕ) → count_of mid.frames f ≡ count_of p.space.frames f + child_times f (child_table mid child)) → mid.frames.max ≡ p.space.frames.max
         → DropsUsers held.frames closed.frames (λ f. child_times f (child_table held child)) → StaysUnforked p (record p { space = closed; snapshots = snapshots })
     stays_unforked snapshots same users limit drops = record {
-      job = record { load = refl; warehouse = refl; kept = refl; max_kept = refl; running = refl; undo = refl; finished = refl; owner = closed_owner };
+      job = record {
+        terms = refl;
+        kept = refl;
+        drained = refl;
+        book = refl;
+        running = refl;
+        undo = refl;
+        finished = refl;
+        owner = closed_owner;
+      };
+      seen = refl;
       snapshots = λ other. ap (λ (all : List (Option ℕ)). slice_index_or all other None) same;
       tables = closed_table;
       bytes = closed_bytes;

@@ -6,5 +6,8 @@ pub mod SoundLaws
 pub mod StepsToLaws
 pub mod FinishLaws
 pub mod ForkLaws
-pub mod ScheduleLaws
+pub mod AccountLaws
+pub mod TieLaws
 pub mod MadeLaws
+pub mod ScheduleLaws
+pub mod SeatLaws

@@ -104,6 +104,8 @@ keeps-replay loaded items number tables [] keeps = keeps
 keeps-replay loaded items number tables (commits.Local command ∷ kept) keeps =
     keeps-replay loaded items number (act items number command tables).tables kept
     (keeps-act loaded items number command tables keeps)
+keeps-replay loaded items number tables (commits.Cross crossing command ∷ kept) keeps =
+    keeps-replay loaded items number tables kept keeps
 
 -- the replay of what a command adds to the kept list
 pub replay-append : (items : List Item) (number : ℕ) (loaded : Tables) (kept : List Commit) (command : Command)

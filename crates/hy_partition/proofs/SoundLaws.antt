@@ -28,11 +28,10 @@ use Rattle.hy_writers.specs.Limits.{most_applied}
 use Rattle.hy_writers.specs.Waiting.{IsSoundStore}
 use Rattle.hy_tpcc.specs.Executor.{ExecutorState, IsUnderWay, StaysInBounds}
 use Rattle.hy_partition.specs.Headline.{SpellsBeginning}
-use Rattle.hy_partition.specs.Jobs.{DoneState, RunningJob}
+use Rattle.hy_ledger.specs.Books.{BookState}
+use Rattle.hy_partition.specs.Jobs.{DoneState, Log, RunningJob, with_slice_done}
 use Rattle.hy_partition.specs.Limits.{most_kept}
 use Rattle.hy_partition.specs.Partition.{PartitionState, commits_of, layout_of, outcome_now, refusal_now, rows_after, rows_now}
-use Rattle.hy_partition.specs.Snapshots.{SnapshotState}
-use Rattle.hy_partition.specs.Steps.{IsOpen}
 use Rattle.hy_partition.specs.inside.Soundness.{IsSound, IsStoreOf, Rests, Runs}
 use Rattle.hy_partition.proofs.ReplayLaws.{bounds-rows, places-rows, replay-kept_of, sound-rows, stays_in_bounds}
 use Rattle.hy_partition.proofs.SpellLaws.{spells-kept_more}
@@ -77,14 +76,14 @@ first_slice (commands.OrderStatus status) = lit< tt
 first_slice (commands.Delivery delivery) = lit< tt
 first_slice (commands.StockLevel level) = lit< tt
 
-module _ (n places : ℕ) (executor : ExecutorState) (p : PartitionState) (sound : IsSound n places executor p) where
+module _ (n room : ℕ) (executor : ExecutorState) (p : PartitionState) (sound : IsSound n room executor p) where
   pub rests : p.running ≡ None → Rests n p
   rests idle =
-      subst (λ (running : Option RunningJob). MatchOption running (Rests n p) (Runs n places executor p)) idle sound.job
+      subst (λ (running : Option RunningJob). MatchOption running (Rests n p) (Runs n room executor p)) idle sound.job
 
-  pub runs : (job : RunningJob) → p.running ≡ Some job → Runs n places executor p job
+  pub runs : (job : RunningJob) → p.running ≡ Some job → Runs n room executor p job
   runs job running =
-      subst (λ (running : Option RunningJob). MatchOption running (Rests n p) (Runs n places executor p)) running sound.job
+      subst (λ (running : Option RunningJob). MatchOption running (Rests n p) (Runs n room executor p)) running sound.job
 
   pub few_slices : ForSome p.running (λ job. job.slices < slice_count job.command)
   few_slices job running = (runs job running).slices
@@ -107,53 +106,37 @@ module _ (n places : ℕ) (executor : ExecutorState) (p : PartitionState) (sound
         indexes = pages.indexes;
       })
 
-  -- an open snapshot spells the rows after its number of commits
-  pub spells_open : (snapshot : SnapshotState) → IsOpen p snapshot
-      → (snapshot.commits ≤ length p.kept) × Spells n snapshot.bytes (rows_after p (take snapshot.commits p.kept))
-  spells_open snapshot is_open =
-      let rows : ℕ → Tables = λ commits. rows_after p (take commits p.kept) in
-      let bytes = child_bytes p.space snapshot.child in
-      let at : (snapshot.commits ≤ length p.kept) × IsSomeAnd bytes (λ seen. Spells n seen (rows snapshot.commits)) =
-      subst (λ (count : Option ℕ). MatchOption count (IsNone bytes)
-      (λ commits. (commits ≤ length p.kept) × IsSomeAnd bytes (λ seen. Spells n seen (rows commits)))) is_open.commits
-      (sound.snapshots snapshot.child) in (
-        at.0,
-        subst (λ (seen : Option (List (List (List ℕ)))). IsSomeAnd seen (λ bytes. Spells n bytes (rows snapshot.commits)))
-            is_open.bytes at.1,
-      )
-
   -- nothing runs, and nothing begins
-  pub sound-idle : (places' : ℕ) (executor' : ExecutorState) (kept : List Commit) → kept ≡ p.kept → p.running ≡ None
-      → executor'.layout ≡ executor.layout → IsSound n places' executor' (record p { kept = kept })
-  sound-idle places' executor' kept same idle layout =
-      subst (λ (kept : List Commit). IsSound n places' executor' (record p { kept = kept })) (sym same) (record {
-        snapshots = sound.snapshots;
-        live = sound.live;
-        undo_log = sound.undo_log;
-        load = sound.load;
-        warehouse = sound.warehouse;
-        layout = layout ∙ sound.layout;
-        within = sound.within;
-        limit = sound.limit;
-        job = subst (λ (job : Option RunningJob). MatchOption job (Rests n p) (Runs n places' executor' p)) (sym idle) (rests idle);
-      })
+  pub sound-idle : (room' : ℕ) (executor' : ExecutorState) → p.running ≡ None → executor'.layout ≡ executor.layout
+      → IsSound n room' executor' p
+  sound-idle room' executor' idle layout = record {
+    snapshots = sound.snapshots;
+    live = sound.live;
+    undo_log = sound.undo_log;
+    load = sound.load;
+    warehouse = sound.warehouse;
+    layout = layout ∙ sound.layout;
+    within = sound.within;
+    limit = sound.limit;
+    job = subst (λ (job : Option RunningJob). MatchOption job (Rests n p) (Runs n room' executor' p)) (sym idle) (rests idle);
+  }
 
   -- a job begins
-  pub sound-begun : (places' : ℕ) (executor' : ExecutorState) (kept : List Commit) (job : RunningJob) → kept ≡ p.kept
+  pub sound-begun : (room' : ℕ) (executor' : ExecutorState) (job : RunningJob)
       → p.running ≡ None → p.finished ≡ None → job.slices ≡ 0 → executor'.layout ≡ executor.layout
       → begin_refusal_of executor.layout.warehouse job.command (stored n (owner_bytes p.space)).tables ≡ None
       → (StaysInBounds executor.layout job.command (stored n (owner_bytes p.space)).tables
       → IsUnderWay executor' job.command 0 (stored n (owner_bytes p.space)).tables (stored n (owner_bytes p.space)))
-      → (is_reader job.command ≡ false → (length p.kept ≢ p.max_kept) × (length p.kept < places'))
-      → IsSound n places' executor' (record p { kept = kept; running = Some job })
-  sound-begun places' executor' kept job same idle no_reply fresh layout begins under_way room =
+      → (is_reader job.command ≡ false → (length p.kept ≢ p.max_kept) × (1 ≤ room'))
+      → IsSound n room' executor' (record p { running = Some job })
+  sound-begun room' executor' job idle no_reply fresh layout begins under_way room_for =
       let pages = (rests idle).pages in
       let begins_now : begin_refusal_of p.warehouse job.command (rows_now p) ≡ None =
       rw (sound.layout, pages.rows) at begins in
       let bounds : StaysInBounds executor.layout job.command (stored n (owner_bytes p.space)).tables =
       rw (sound.layout, pages.rows)
       (stays_in_bounds p.load p.warehouse p.kept sound.load sound.warehouse job.command few begins_now) in
-      let begun : Runs n places' executor' (record p { running = Some job }) job = record {
+      let begun : Runs n room' executor' (record p { running = Some job }) job = record {
         no_reply = no_reply;
         slices = omega (arith, fresh, first_slice job.command);
         store = pages.store;
@@ -161,11 +144,10 @@ module _ (n places : ℕ) (executor : ExecutorState) (p : PartitionState) (sound
             subst (λ (done : ℕ). IsUnderWay executor' job.command done (rows_now p) (stored n (owner_bytes p.space))) (sym fresh)
             (subst (λ (tables : Tables). IsUnderWay executor' job.command 0 tables (stored n (owner_bytes p.space))) pages.rows
             (under_way bounds));
-        has_room = λ writes. (room writes).1;
-        below_max = λ writes. omega (arith, sound.within, (room writes).0);
+        has_room = λ writes. (room_for writes).1;
+        below_max = λ writes. omega (arith, sound.within, (room_for writes).0);
       } in
-      subst (λ (kept : List Commit). IsSound n places' executor' (record p { kept = kept; running = Some job })) (sym same)
-      (record {
+      record {
         snapshots = sound.snapshots;
         live = sound.live;
         undo_log = sound.undo_log;
@@ -175,13 +157,13 @@ module _ (n places : ℕ) (executor : ExecutorState) (p : PartitionState) (sound
         within = sound.within;
         limit = sound.limit;
         job = begun;
-      })
+      }
 
   -- snapshots come and go, and the owner's pages stay
   pub sound-snapshots : (space : SpaceState) (snapshots : List (Option ℕ)) → SameForOwner p.space space
       → IsUndoLog n space p.undo
       → ((child : ℕ) → SpellsBeginning n (record p { space = space; snapshots = snapshots }) child)
-      → IsSound n places executor (record p { space = space; snapshots = snapshots })
+      → IsSound n room executor (record p { space = space; snapshots = snapshots })
   sound-snapshots space snapshots owner log spells = record {
     snapshots = spells;
     live = subst (λ (pages : List (List (List ℕ))). IsStoreOf n (rows_now p) (undone pages p.undo)) (sym owner.bytes) sound.live;
@@ -197,8 +179,8 @@ module _ (n places : ℕ) (executor : ExecutorState) (p : PartitionState) (sound
       after : PartitionState
       after = record p { space = space; snapshots = snapshots }
 
-      moved : (running : Option RunningJob) → MatchOption running (Rests n p) (Runs n places executor p)
-          → MatchOption running (Rests n after) (Runs n places executor after)
+      moved : (running : Option RunningJob) → MatchOption running (Rests n p) (Runs n room executor p)
+          → MatchOption running (Rests n after) (Runs n room executor after)
       moved None was = record {
         undo = empty_log-still p.space space p.undo owner.table was.undo;
         pages = subst (λ (pages : List (List (List ℕ))). IsStoreOf n (rows_now p) pages) (sym owner.bytes) was.pages;
@@ -213,13 +195,45 @@ module _ (n places : ℕ) (executor : ExecutorState) (p : PartitionState) (sound
         below_max = was.below_max;
       }
 
+  -- it was told of commits of others
+  pub sound-told : (seen : Log) (kept : List Commit) → kept ≡ p.kept
+      → IsSound n room executor (record p { seen = seen; kept = kept })
+  sound-told seen kept same =
+      subst (λ (commits : List Commit). IsSound n room executor (record p { seen = seen; kept = commits })) (sym same)
+      (record {
+        snapshots = sound.snapshots;
+        live = sound.live;
+        undo_log = sound.undo_log;
+        load = sound.load;
+        warehouse = sound.warehouse;
+        layout = sound.layout;
+        within = sound.within;
+        limit = sound.limit;
+        job = still p.running sound.job;
+      })
+    where
+      after : PartitionState
+      after = record p { seen = seen }
+
+      still : (running : Option RunningJob) → MatchOption running (Rests n p) (Runs n room executor p)
+          → MatchOption running (Rests n after) (Runs n room executor after)
+      still None was = record { undo = was.undo; pages = was.pages }
+      still (Some job) was = record {
+        no_reply = was.no_reply;
+        slices = was.slices;
+        store = was.store;
+        under_way = was.under_way;
+        has_room = was.has_room;
+        below_max = was.below_max;
+      }
+
   -- a snapshot is opened
   pub sound-forked : (space : SpaceState) (snapshots : List (Option ℕ)) (child : ℕ) → SameForOwner p.space space
       → SameForOthers p.space space child → IsUndoLog n space p.undo
       → child_bytes space child ≡ Some (undone (owner_bytes p.space) p.undo)
       → slice_index_or snapshots child None ≡ Some (length p.kept)
       → ((other : ℕ) → other ≢ child → slice_index_or snapshots other None ≡ commits_of p other)
-      → IsSound n places executor (record p { space = space; snapshots = snapshots })
+      → IsSound n room executor (record p { space = space; snapshots = snapshots })
   sound-forked space snapshots child owner others log bytes commits others_commits =
       sound-snapshots space snapshots owner log each
     where
@@ -254,7 +268,7 @@ module _ (n places : ℕ) (executor : ExecutorState) (p : PartitionState) (sound
       → SameForOthers p.space space child → IsUndoLog n space p.undo → child_bytes space child ≡ None
       → slice_index_or snapshots child None ≡ None
       → ((other : ℕ) → other ≢ child → slice_index_or snapshots other None ≡ commits_of p other)
-      → IsSound n places executor (record p { space = space; snapshots = snapshots })
+      → IsSound n room executor (record p { space = space; snapshots = snapshots })
   sound-closed space snapshots child owner others log bytes commits others_commits =
       sound-snapshots space snapshots owner log each
     where
@@ -279,7 +293,7 @@ module _ (n places : ℕ) (executor : ExecutorState) (p : PartitionState) (sound
   pub sound-refused : (executor' : ExecutorState) (space : SpaceState) (undo : UndoLog) (finished : Option DoneState)
       → executor'.layout ≡ executor.layout → undo ≡ empty_log space → IsUndoLog n space undo
       → owner_bytes space ≡ undone (owner_bytes p.space) p.undo → SameForChildren p.space space
-      → IsSound n places executor' (record p { running = None; undo = undo; finished = finished; space = space })
+      → IsSound n room executor' (record p { running = None; undo = undo; finished = finished; space = space })
   sound-refused executor' space undo finished layout none log bytes children =
       let after : PartitionState = record p { running = None; undo = undo; finished = finished; space = space } in
       let pages : IsStoreOf n (rows_now p) (owner_bytes space) =
@@ -308,15 +322,15 @@ module _ (n places : ℕ) (executor : ExecutorState) (p : PartitionState) (sound
     now_way = under_way (rows_now p) (runs job running).under_way
 
     -- another one follows
-    pub sound-continued : (undo : UndoLog) (next : RunningJob) → next ≡ record job { slices = job.slices + 1 }
+    pub sound-continued : (undo : UndoLog) (next : RunningJob) → next ≡ with_slice_done job
         → IsUndoLog n space undo → undone (owner_bytes space) undo ≡ undone (owner_bytes p.space) p.undo
         → job.slices + 1 < slice_count job.command
-        → IsSound n places executor' (record p { running = Some next; undo = undo; space = space })
+        → IsSound n room executor' (record p { running = Some next; undo = undo; space = space })
     sound-continued undo next next_is log bytes more =
         let was = runs job running in
         let after : PartitionState =
-        record p { running = Some (record job { slices = job.slices + 1 }); undo = undo; space = space } in
-        let begun : Runs n places executor' after (record job { slices = job.slices + 1 }) = record {
+        record p { running = Some (with_slice_done job); undo = undo; space = space } in
+        let begun : Runs n room executor' after (with_slice_done job) = record {
           no_reply = was.no_reply;
           slices = more;
           store = store;
@@ -324,7 +338,7 @@ module _ (n places : ℕ) (executor : ExecutorState) (p : PartitionState) (sound
           has_room = was.has_room;
           below_max = was.below_max;
         } in
-        subst (λ (j : RunningJob). IsSound n places executor' (record p { running = Some j; undo = undo; space = space }))
+        subst (λ (j : RunningJob). IsSound n room executor' (record p { running = Some j; undo = undo; space = space }))
         (sym next_is) (record {
           snapshots = λ child. spells-kept_more n p after refl [] (sym (append-nil p.kept)) child refl
               (children.bytes child) (sound.snapshots child);
@@ -355,19 +369,24 @@ module _ (n places : ℕ) (executor : ExecutorState) (p : PartitionState) (sound
           (rw (last, layout, sound.layout) at now_way.slices.rows)
           ∙ slices-act p.load.items p.warehouse job.command (rows_now p) begins known
 
-      pub sound-accepted : (places' : ℕ) (undo : UndoLog) (kept : List Commit) (finished : Option DoneState)
+      pub sound-accepted : (room' : ℕ) (undo : UndoLog) (seen : Log) (kept : List Commit) (book : BookState)
+          (finished : Option DoneState)
           → undo ≡ empty_log space → IsUndoLog n space undo → kept ≡ p.kept ++ kept_of job.command
-          → IsSound n places' executor' (record p {
+          → IsSound n room' executor' (record p {
+            seen = seen;
             kept = kept;
+            book = book;
             running = None;
             undo = undo;
             finished = finished;
             space = space;
           })
-      sound-accepted places' undo kept finished none log longer =
+      sound-accepted room' undo seen kept book finished none log longer =
           let was = runs job running in
           let after : PartitionState = record p {
+            seen = seen;
             kept = p.kept ++ kept_of job.command;
+            book = book;
             running = None;
             undo = undo;
             finished = finished;
@@ -379,7 +398,7 @@ module _ (n places : ℕ) (executor : ExecutorState) (p : PartitionState) (sound
                 ∙ sym (replay-kept_of p.load.items p.warehouse (own_rows (layout_of p)) p.kept job.command);
             indexes = now_way.slices.indexes;
           } in
-          let sound_after : IsSound n places' executor' after = record {
+          let sound_after : IsSound n room' executor' after = record {
             snapshots = λ child. spells-kept_more n p after refl (kept_of job.command) refl child refl
                 (children.bytes child) (sound.snapshots child);
             live = subst (λ (bytes : List (List (List ℕ))). IsStoreOf n (rows_now after) bytes)
@@ -392,8 +411,10 @@ module _ (n places : ℕ) (executor : ExecutorState) (p : PartitionState) (sound
             limit = sound.limit;
             job = record { undo = none; pages = pages };
           } in
-          subst (λ (kept : List Commit). IsSound n places' executor' (record p {
+          subst (λ (kept : List Commit). IsSound n room' executor' (record p {
+            seen = seen;
             kept = kept;
+            book = book;
             running = None;
             undo = undo;
             finished = finished;
@@ -452,12 +473,12 @@ emptied (item ∷ items) zero = refl
 emptied (item ∷ items) (suc place) = emptied items place
 
 -- a partition begins sound
-pub sound-new : (n places : ℕ) (executor : ExecutorState) (p : PartitionState) → p.kept ≡ [] → p.running ≡ None
+pub sound-new : (n room : ℕ) (executor : ExecutorState) (p : PartitionState) → p.kept ≡ [] → p.running ≡ None
     → p.undo ≡ empty_log p.space → IsUndoLog n p.space p.undo → p.snapshots ≡ [] → p.space.children ≡ []
     → p.max_kept ≤ most_kept → IsLoad p.load → IsBetween 1 (length p.load.tables.warehouses) p.warehouse
     → executor.layout ≡ layout_of p → IsStoreOf n (own_rows (layout_of p)) (owner_bytes p.space)
-    → IsSound n places executor p
-sound-new n places executor p kept running none log snapshots children limit load between layout store =
+    → IsSound n room executor p
+sound-new n room executor p kept running none log snapshots children limit load between layout store =
     let pages : IsStoreOf n (rows_now p) (owner_bytes p.space) =
     subst (λ (commits : List Commit). IsStoreOf n (rows_after p commits) (owner_bytes p.space)) (sym kept) store in
     record {
@@ -476,6 +497,6 @@ sound-new n places executor p kept running none log snapshots children limit loa
       layout = layout;
       within = omega (arith, ap length kept);
       limit = limit;
-      job = subst (λ (job : Option RunningJob). MatchOption job (Rests n p) (Runs n places executor p)) (sym running)
+      job = subst (λ (job : Option RunningJob). MatchOption job (Rests n p) (Runs n room executor p)) (sym running)
           (record { undo = none; pages = pages });
     }

@@ -2,13 +2,14 @@
 -- tables that map it; every open snapshot spells the warehouse's rows after a whole number of its kept commits,
 -- replayed one by one; the live pages with the running transaction undone spell the replay of all kept commits, and
 -- nothing is to be undone where nothing runs; and that replay meets the consistency conditions 1 to 9 and 12 (TPC-C
--- clause 3.3.2).
+-- clause 3.3.2). The kept commits are those that name the warehouse in the beginning of the serial list that the
+-- partition has been told of.
 use Rattle.std.specs.Prelude.{◌≡◌, ℕ, ◌≤◌, length, take, MatchOption, None, IsNone, IsSomeAnd}
 use Rattle.hy_rows.specs.Spelling.{Spells}
 use Rattle.hy_commands.specs.Invariant.{MeetsOwnConditions}
 use Rattle.hy_space.specs.Space.{CountsAreExact, NoFrameTwice, owner_bytes, child_bytes}
 use Rattle.hy_undo.specs.UndoLog.{undone, empty_log}
-use Rattle.hy_partition.specs.Partition.{PartitionState, rows_after, rows_now, commits_of}
+use Rattle.hy_partition.specs.Partition.{PartitionState, commits_of, projection_of, rows_after, rows_now}
 
 -- each frame's count is the number of page tables that map it, and no table maps a frame twice
 pub record FrameCountsAreExact (p : PartitionState) : Type 0 where
@@ -29,3 +30,4 @@ pub record Headline (n : ℕ) (p : PartitionState) : Type 0 where
   pub live_pages_undone_spell_all : Spells n (undone (owner_bytes p.space) p.undo) (rows_now p)
   pub nothing_to_undo_where_nothing_runs : p.running ≡ None → p.undo ≡ empty_log p.space
   pub replay_meets_the_conditions : MeetsOwnConditions (rows_now p)
+  pub kept_is_the_projection : p.kept ≡ projection_of p.warehouse p.seen

@@ -1,7 +1,9 @@
+pub mod Worlds
 pub mod Limits
 pub mod Jobs
 pub mod Snapshots
 pub mod Partition
+pub mod Accounts
 pub mod Headline
 pub mod Steps
 pub mod Schedules

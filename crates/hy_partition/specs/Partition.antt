@@ -1,31 +1,46 @@
 -- One warehouse: the load that it began from, what was kept since, the job that runs, the pages and the snapshots.
-use Rattle.std.specs.Prelude.{ℕ, List, Option, None, slice_index_or}
+use Rattle.std.specs.Prelude.{ℕ, List, Option, None, drop, slice_index_or}
+use Rattle.hy_passes.specs.SerialList.{kept_of}
+use Rattle.hy_ledger.specs.Books.{BookState}
 use Rattle.hy_commands.specs.declared.command.Command.{Command}
 use Rattle.hy_commands.specs.declared.command.Commit.{Commit}
 use Rattle.hy_rows.specs.Tables.{Lists, Tables, of_warehouse}
+use Rattle.hy_commands.specs.Commands.{warehouses_of_commit}
 use Rattle.hy_commands.specs.Replay.{replay}
 use Rattle.hy_commands.specs.Transactions.{Outcome, act, refusal_of}
 use Rattle.hy_schema.specs.declared.refusal.Refusal.{Refusal}
 use Rattle.hy_layout.specs.Layout.{LayoutState}
 use Rattle.hy_space.specs.Space.{SpaceState}
 use Rattle.hy_undo.specs.UndoLog.{UndoLog}
-use Rattle.hy_partition.specs.Jobs.{DoneState, RunningJob}
+use Rattle.hy_partition.specs.Jobs.{DoneState, Log, RunningJob}
 
 -- the value of a partition
 pub record PartitionState : Type 0 where
-  -- the load that it began from, and which warehouse of it this is
+  -- the load that it began from, which warehouse of it this is, and how many commits may be kept
   pub load : Lists
   pub warehouse : ℕ
-  -- the commits since then, in order, and how many there may be
-  pub kept : List Commit
   pub max_kept : ℕ
-  -- the job that runs, what it overwrote, and the reply that wasn't taken
+  -- what it has been told of the serial list, its commits in order, how many of them were drained, and its accounts
+  pub seen : Log
+  pub kept : List Commit
+  pub drained : ℕ
+  pub book : BookState
+  -- the job that runs, what it overwrote, and the answer that wasn't taken
   pub running : Option RunningJob
   pub undo : UndoLog
   pub finished : Option DoneState
   -- the live pages with those of the open snapshots, and for each open snapshot its number of commits
   pub space : SpaceState
   pub snapshots : List (Option ℕ)
+
+-- what no call changes
+pub record Terms : Type 0 where
+  pub load : Lists
+  pub warehouse : ℕ
+  pub max_kept : ℕ
+
+abbrev pub terms_of : PartitionState → Terms
+terms_of p = record { load = p.load; warehouse = p.warehouse; max_kept = p.max_kept }
 
 -- the warehouse of the load
 abbrev pub layout_of : PartitionState → LayoutState
@@ -37,6 +52,14 @@ rows_after p commits = replay p.load.items p.warehouse (of_warehouse p.warehouse
 
 abbrev pub rows_now : PartitionState → Tables
 rows_now p = rows_after p p.kept
+
+-- the commits that name a warehouse in a serial list, in its order
+abbrev pub projection_of : ℕ → Log → List Commit
+projection_of warehouse log = kept_of warehouses_of_commit warehouse log
+
+-- the commits since the last drain
+abbrev pub undrained : PartitionState → List Commit
+undrained p = drop p.drained p.kept
 
 -- the number of commits of an open snapshot, or none where no snapshot has this child of the page tables
 abbrev pub commits_of : PartitionState → ℕ → Option ℕ

@@ -1,18 +1,23 @@
 -- Schedules: what the calls on a partition come to, in whatever order they are made, in a model of lists. Its world has no
--- page, no frame and no byte: only the load, the commits that are kept, the job that runs, and the rows that each open
--- snapshot had when it was taken. Each call that succeeds is an event; one that is refused changes nothing.
-use Rattle.std.specs.Prelude.{◌≡◌, ℕ, ◌+◌, ◌≤◌, ◌==◌, ◌⊎◌, if◌then◌else◌, Bool, true, false, is_some, List, [], ◌∷◌, ◌++◌, length, take, Option, None, Some, IsSome, IsSomeAnd, MatchOption}
+-- page, no frame and no byte: only the load, the serial list of commits and those that are kept, how much of it each
+-- client has seen, the command that runs, and the rows that each open snapshot had when it was taken. Each call that
+-- succeeds is an event; one that is refused changes nothing. What other warehouses commit, and looks, are events too.
+use Rattle.std.specs.Prelude.{◌≡◌, ℕ, ◌+◌, ◌≤◌, ◌==◌, ◌⊎◌, if◌then◌else◌, Bool, true, false, is_some, List, [], ◌∷◌, ◌++◌, length, map, take, Option, None, Some, IsSome, IsSomeAnd, MatchOption}
+use Rattle.std.specs.Option.{option_map}
+use Rattle.hy_passes.specs.declared.entry.Entry.{Entry}
+use Rattle.hy_passes.specs.SerialList.{names, respects_stamps}
 use Rattle.hy_rows.specs.Spelling.{tables_of}
 use Rattle.hy_rows.specs.Tables.{Lists, Tables, of_warehouse}
 use Rattle.hy_commands.specs.declared.command.Command.{Command}
 use Rattle.hy_commands.specs.declared.command.Commit.{Commit}
-use Rattle.hy_commands.specs.Commands.{kept_of}
+use Rattle.hy_commands.specs.Commands.{kept_of, warehouses_of_commit}
 use Rattle.hy_commands.specs.Invariant.{MeetsOwnConditions}
 use Rattle.hy_commands.specs.Replay.{replay}
 use Rattle.hy_commands.specs.Transactions.{begin_refusal_of, refusal_of}
+use Rattle.hy_slices.specs.Slices.{slice_count}
 use Rattle.hy_space.specs.Space.{child_bytes}
-use Rattle.hy_partition.specs.Jobs.{RunningJob, is_last}
-use Rattle.hy_partition.specs.Partition.{PartitionState, commits_of}
+use Rattle.hy_partition.specs.Jobs.{Log, RunningJob}
+use Rattle.hy_partition.specs.Partition.{PartitionState, commits_of, projection_of}
 
 -- ---- the model's world
 
@@ -21,13 +26,22 @@ pub record Taken : Type 0 where
   pub commits : ℕ
   pub rows : Tables
 
--- a warehouse of a load, what was kept since, the job that runs, whether an answer waits to be taken, and the snapshot
--- that is open under each number, if there is one
+-- a command that runs, how many of its slices are done, its client, and how many commits that client knew when it began
+pub record Underway : Type 0 where
+  pub command : Command
+  pub slices : ℕ
+  pub client : ℕ
+  pub stamp : ℕ
+
+-- a warehouse of a load, the serial list, what was kept of it, how many commits each client knows, the command that runs,
+-- whether an answer waits to be taken, and the snapshot that is open under each number, if there is one
 pub record World : Type 0 where
   pub load : Lists
   pub warehouse : ℕ
+  pub log : Log
   pub kept : List Commit
-  pub running : Option RunningJob
+  pub known : ℕ → ℕ
+  pub running : Option Underway
   pub waits : Bool
   pub open_at : ℕ → Option Taken
 
@@ -44,7 +58,9 @@ abbrev pub fresh_world : Lists → ℕ → World
 fresh_world lists number = record {
   load = lists;
   warehouse = number;
+  log = [];
   kept = [];
+  known = λ client. 0;
   running = None;
   waits = false;
   open_at = λ number. None;
@@ -52,50 +68,81 @@ fresh_world lists number = record {
 
 -- ---- events
 
--- a command begins; the job that runs does a step; its answer is taken; a snapshot is taken under a number; that under a
--- number is closed
+-- a client's command begins; the command that runs does a step; its answer is taken; a client takes a snapshot under a
+-- number; that under a number is closed; a client looks; a commit of other warehouses enters the serial list
 pub data Event : Type 0 where
-  begins : Command → Event
+  begins : ℕ → Command → Event
   steps : Event
   takes : Event
-  forks : ℕ → Event
+  forks : ℕ → ℕ → Event
   closes : ℕ → Event
+  looks : ℕ → Event
+  enters : Entry Commit → Event
 
 -- the snapshots with another one under one number, or with none
 abbrev pub with_open : (ℕ → Option Taken) → ℕ → Option Taken → ℕ → Option Taken
 with_open open_at number snapshot other = if other == number then snapshot else open_at other
 
--- a job with one slice more done
-abbrev pub with_slice : World → RunningJob → World
+-- a client that knows all of a list
+abbrev pub with_known : (ℕ → ℕ) → ℕ → Log → ℕ → ℕ
+with_known known client log other = if other == client then length log else known other
+
+-- a command with one slice more done
+abbrev pub with_slice : World → Underway → World
 with_slice world job = record world { running = Some (record job { slices = job.slices + 1 }) }
 
--- a job ended and left these commits, and its answer waits
-abbrev pub with_end : World → List Commit → World
-with_end world kept = record world { kept = kept; running = None; waits = true }
+-- what an accepted command adds to the serial list
+abbrev pub entered : Underway → Log
+entered job = map (λ commit. record { commit = commit; stamp = job.stamp }) (kept_of job.command)
 
--- what a step of a job does: a slice behind which more are to come; the last one of a command that isn't refused, which
--- is kept where it doesn't only read; or a refusal, after which nothing is left of the job
-abbrev pub DoesStep : World → World → RunningJob → Type 0
+-- it was accepted, and its answer waits: its client knows all of the serial list
+abbrev pub with_accepted : World → Underway → World
+with_accepted world job = record world {
+  log = world.log ++ entered job;
+  kept = world.kept ++ kept_of job.command;
+  known = with_known world.known job.client (world.log ++ entered job);
+  running = None;
+  waits = true;
+}
+
+-- it was refused, and its answer waits
+abbrev pub with_refused : World → World
+with_refused world = record world { running = None; waits = true }
+
+-- whether the next slice of a command is the last one
+abbrev pub is_last_of : Underway → Bool
+is_last_of job = job.slices + 1 == slice_count job.command
+
+-- what a step of a command does: a slice behind which more are to come; the last one of a command that isn't refused,
+-- which is kept where it doesn't only read; or a refusal, after which nothing is left of it
+abbrev pub DoesStep : World → World → Underway → Type 0
 DoesStep old new job =
-    ((is_last job ≡ false) × (new ≡ with_slice old job))
-    ⊎ ((is_last job ≡ true) × (refusal_of old.load.items old.warehouse job.command (rows_of old) ≡ None)
-    × (new ≡ with_end old (old.kept ++ kept_of job.command)))
-    ⊎ (new ≡ with_end old old.kept)
+    ((is_last_of job ≡ false) × (new ≡ with_slice old job))
+    ⊎ ((is_last_of job ≡ true) × (refusal_of old.load.items old.warehouse job.command (rows_of old) ≡ None)
+    × (new ≡ with_accepted old job))
+    ⊎ (new ≡ with_refused old)
 
 -- what an event does
 abbrev pub Does : Event → World → World → Type 0
-Does (begins command) old new =
+Does (begins client command) old new =
     (old.running ≡ None) × (old.waits ≡ false) × (begin_refusal_of old.warehouse command (rows_of old) ≡ None)
-    × (new ≡ record old { running = Some (record { command = command; slices = 0 }) })
+    × (new ≡ record old {
+      running = Some (record { command = command; slices = 0; client = client; stamp = old.known client });
+    })
 Does steps old new = MatchOption old.running ⊥ (DoesStep old new)
 Does takes old new = (old.waits ≡ true) × (new ≡ record old { waits = false })
-Does (forks number) old new =
+Does (forks client number) old new =
     (old.open_at number ≡ None)
     × (new ≡ record old {
+      known = with_known old.known client old.log;
       open_at = with_open old.open_at number (Some (record { commits = length old.kept; rows = rows_of old }));
     })
 Does (closes number) old new =
     IsSome (old.open_at number) × (new ≡ record old { open_at = with_open old.open_at number None })
+Does (looks client) old new = new ≡ record old { known = with_known old.known client old.log }
+Does (enters entry) old new =
+    (names warehouses_of_commit old.warehouse entry.commit ≡ false) × (entry.stamp ≤ length old.log)
+    × (new ≡ record old { log = old.log ++ entry ∷ [] })
 
 -- what a call comes to: its event, or nothing where it is refused
 abbrev pub Happens : Event → World → World → Type 0
@@ -115,12 +162,16 @@ pub record IsBeginning (world : World) (taken : Taken) : Type 0 where
   pub conditions : MeetsOwnConditions taken.rows
 
 -- the load and the warehouse are those of the first moment, each open snapshot has the rows of a beginning, and the rows
--- after all that is kept meet the consistency conditions 1 to 9 and 12 (TPC-C clause 3.3.2)
+-- after all that is kept meet the consistency conditions 1 to 9 and 12 (TPC-C clause 3.3.2). What is kept are the commits
+-- of the warehouse in the serial list, which respects its stamps, and no client knows more than that list
 pub record KeepsAll (lists : Lists) (number : ℕ) (world : World) : Type 0 where
   pub load : world.load ≡ lists
   pub warehouse : world.warehouse ≡ number
   pub snapshots : (at : ℕ) (taken : Taken) → world.open_at at ≡ Some taken → IsBeginning world taken
   pub conditions : MeetsOwnConditions (rows_of world)
+  pub projection : world.kept ≡ projection_of world.warehouse world.log
+  pub stamps : respects_stamps world.log ≡ true
+  pub known : (client : ℕ) → world.known client ≤ length world.log
 
 -- ---- the world of a partition
 
@@ -131,16 +182,22 @@ IsTaken n commits bytes taken =
     MatchOption commits (taken ≡ None)
     (λ count. IsSomeAnd bytes (λ seen. taken ≡ Some (record { commits = count; rows = tables_of n seen })))
 
--- a world is that of a partition
-pub record IsWorldOf (n : ℕ) (p : PartitionState) (world : World) : Type 0 where
+-- a command that runs in a partition
+abbrev pub underway : RunningJob → Underway
+underway job =
+    record { command = job.command; slices = job.slices; client = job.pass.client; stamp = length job.pass.seen }
+
+-- a world is that of a partition, beside a journal with this serial list
+pub record IsWorldOf (n : ℕ) (log : Log) (p : PartitionState) (world : World) : Type 0 where
   pub load : world.load ≡ p.load
   pub warehouse : world.warehouse ≡ p.warehouse
+  pub log_is : world.log ≡ log
   pub kept : world.kept ≡ p.kept
-  pub running : world.running ≡ p.running
+  pub running : world.running ≡ option_map underway p.running
   pub waits : world.waits ≡ is_some p.finished
   pub snapshots : (number : ℕ)
       → IsTaken n (commits_of p number) (child_bytes p.space number) (world.open_at number)
 
--- an event happens in a world, and leaves that of a partition
-abbrev pub Leads : ℕ → Event → World → PartitionState → Type 0
-Leads n event world p = (next : World) × Does event world next × IsWorldOf n p next
+-- an event happens in a world, and leaves that of a partition beside a journal with this serial list
+abbrev pub Leads : ℕ → Event → World → Log → PartitionState → Type 0
+Leads n event world log p = (next : World) × Does event world next × IsWorldOf n log p next

@@ -1,5 +1,5 @@
 -- What the calls do at their edges, and a small partition in the middle of a payment, which the checker computes.
-use Rattle.std.specs.Prelude.{◌≡◌, ℕ, suc, pos, negsuc, Bool, true, false, Some, None, List, [], ◌∷◌, ◌++◌, ◌+◌, ◌-◌, ◌&&◌, nat_lt, codes, count_by, length, replicate, refl}
+use Rattle.std.specs.Prelude.{◌≡◌, ℕ, suc, pos, negsuc, Bool, true, false, Some, None, List, [], ◌∷◌, ◌++◌, ◌+◌, ◌-◌, ◌&&◌, nat_lt, codes, count_by, length, map, replicate, refl}
 use Rattle.std.specs.List.{list_all}
 use Rattle.std.proofs.Common.{zero, ◌<◌, ◌≤◌, ◌==◌, inl, inr, ap, ap₂, sym, ◌∙◌, subst, arith, lit<, lit≤}
 use Rattle.std.proofs.lemmas.Bool.{and_parts, cases_lt, eqb-true}
@@ -28,10 +28,19 @@ use Rattle.hy_slices.specs.Slices.{after_slices}
 use Rattle.hy_space.specs.Space.{CountsAreExact, NoFrameTwice, maps, owner_bytes, child_bytes, times}
 use Rattle.hy_undo.specs.UndoLog.{undone, page_counts}
 use Rattle.hy_undo.specs.Touched.{touched}
-use Rattle.hy_partition.specs.Jobs.{is_last}
+use Rattle.hy_ledger.specs.Books.{new_book}
+use Rattle.hy_ledger.specs.declared.view.ShareState.{ShareState}
+use Rattle.hy_passes.specs.Worlds.{PassState, new_client}
+use Rattle.hy_passes.specs.declared.entry.Entry.{Entry}
+use Rattle.hy_partition.specs.Accounts.{with_command}
+use Rattle.hy_partition.specs.Jobs.{Log, RunningJob, accepted_answer, entered_by, is_last, refused_answer, share_of}
 use Rattle.hy_partition.specs.Partition.{PartitionState, outcome_now, rows_now}
 use Rattle.hy_partition.specs.Headline.{Headline, SpellsBeginning}
 use Rattle.hy_partition.specs.Steps.{begin_refusal}
+
+-- so many slices of a command are done, of a client who has seen nothing
+abbrev job : Command → ℕ → RunningJob
+job command slices = record { command = command; slices = slices; pass = new_client 0 }
 
 -- ---- which command begins
 
@@ -40,8 +49,11 @@ abbrev with_kept : List Commit → ℕ → PartitionState
 with_kept kept max_kept = record {
   load = record { items = items; tables = sample };
   warehouse = 1;
-  kept = kept;
   max_kept = max_kept;
+  seen = map (λ commit. record { commit = commit; stamp = 0 }) kept;
+  kept = kept;
+  drained = 0;
+  book = new_book 1;
   running = None;
   undo = record { counts = []; images = [] };
   finished = None;
@@ -72,12 +84,12 @@ payment_with_room = refl
 other_customer_on_a_full_list : begin_refusal full (payment (who.Number 9) 2_500) ≡ Some refusals.NoSuchCustomer
 other_customer_on_a_full_list = refl
 
-busy_with_a_job : begin_refusal (record full { running = Some (record { command = status 1; slices = 0 }) }) (status 1)
+busy_with_a_job : begin_refusal (record full { running = Some (job (status 1) 0) }) (status 1)
     ≡ Some refusals.Busy
 busy_with_a_job = refl
 
 busy_with_an_answer : begin_refusal
-    (record full { finished = Some (record { reply = replies.Refused refusals.NoMemory }) }) (status 1)
+    (record full { finished = Some (refused_answer (new_client 0) refusals.NoMemory) }) (status 1)
     ≡ Some refusals.Busy
 busy_with_an_answer = refl
 
@@ -94,14 +106,44 @@ kept_of_payment = refl
 second_reply : (outcome_now full pay).reply ≡ replies.Payment 1 (negsuc 5_999)
 second_reply = refl
 
+-- ---- stamps, shares and accounts
+
+-- a client who has seen two commits
+abbrev knowing : PassState Commit
+knowing = record { client = 3; seen = record { commit = commits.Local pay; stamp = 0 } ∷ record { commit = commits.Local pay; stamp = 1 } ∷ []; looks = 1 }
+
+-- a payment enters with the number of commits that its client knew when it began; a command that only reads doesn't
+payment_is_stamped : entered_by pay knowing ≡ record { commit = commits.Local pay; stamp = 2 } ∷ []
+payment_is_stamped = refl
+
+reader_enters_nothing : entered_by (status 1) knowing ≡ []
+reader_enters_nothing = refl
+
+-- a payment's share has its cents, a purchase's none, and a command that only reads has no share
+share_of_payment : share_of 4 pay ≡ Some (record { warehouse = 4; cents = 2_500 })
+share_of_payment = refl
+
+share_of_purchase : share_of 4 (five_of_each 1) ≡ Some (record { warehouse = 4; cents = 0 })
+share_of_purchase = refl
+
+no_share_of_reader : share_of 4 level ≡ None
+no_share_of_reader = refl
+
+-- the book counts it, and a refused or read command leaves it
+book_of_payment : with_command (new_book 4) pay ≡ record { warehouse = 4; commits = 1; cents = 2_500 }
+book_of_payment = refl
+
+book_of_reader : with_command (new_book 4) level ≡ new_book 4
+book_of_reader = refl
+
 -- a purchase of five lines has six slices, and a command that only reads has one
-last_of_five_lines : is_last (record { command = five_of_each 1; slices = 5 }) ≡ true
+last_of_five_lines : is_last (job (five_of_each 1) 5) ≡ true
 last_of_five_lines = refl
 
-not_last_of_five_lines : is_last (record { command = five_of_each 1; slices = 4 }) ≡ false
+not_last_of_five_lines : is_last (job (five_of_each 1) 4) ≡ false
 not_last_of_five_lines = refl
 
-last_of_reader : is_last (record { command = status 1; slices = 0 }) ≡ true
+last_of_reader : is_last (job (status 1) 0) ≡ true
 last_of_reader = refl
 
 -- ---- a small partition: one warehouse without districts, on pages of 64 bytes. The first slice of a payment of 1.00 is
@@ -154,9 +196,12 @@ abbrev pub small : PartitionState
 small = record {
   load = record { items = []; tables = record no_rows { warehouses = before ∷ [] } };
   warehouse = 1;
-  kept = [];
   max_kept = 5;
-  running = Some (record { command = half_paid; slices = 1 });
+  seen = [];
+  kept = [];
+  drained = 0;
+  book = new_book 1;
+  running = Some (job half_paid 1);
   undo = record {
     counts = 2 ∷ replicate 7 1;
     images =
@@ -229,7 +274,7 @@ small-conditions = record {
 }
 
 -- the payment's next slice is its last
-pub small-is_last : is_last (record { command = half_paid; slices = 1 }) ≡ true
+pub small-is_last : is_last (job half_paid 1) ≡ true
 small-is_last = refl
 
 -- how many frames there are
@@ -320,6 +365,7 @@ small-headline = record {
   live_pages_undone_spell_all = spelled;
   nothing_to_undo_where_nothing_runs = λ idle. absurd (cc);
   replay_meets_the_conditions = small-conditions;
+  kept_is_the_projection = refl;
 }
   where
     snapshots : (child : ℕ) → SpellsBeginning 64 small child

@@ -1,16 +1,19 @@
 -- A schedule on the small warehouse of `hy_commands`: a snapshot, a command that only reads, and a payment between
 -- whose slices another snapshot is taken.
-use Rattle.std.specs.Prelude.{◌≡◌, ℕ, zero, suc, false, Option, Some, None, List, [], ◌∷◌, length, refl}
+use Rattle.std.specs.Prelude.{◌≡◌, ℕ, zero, suc, false, Option, Some, None, List, [], ◌∷◌, ◌++◌, length, refl}
 use Rattle.std.proofs.Common.{inl, inr, ap, arith}
 use Rattle.hy_rows.specs.Tables.{Lists, no_rows}
 use Rattle.hy_commands.specs.declared.command.Command.{Command}
+use Rattle.hy_commands.specs.declared.command.Commit.{Commit}
 use Rattle.hy_commands.specs.declared.command.Commit.TheVariants as commits
 use Rattle.hy_commands.specs.declared.command.Who.TheVariants as who
 use Rattle.hy_commands.specs.WorkedSample.{items, payment, sample, status}
-use Rattle.hy_partition.specs.Jobs.{RunningJob}
+use Rattle.std.specs.Option.{option_map}
+use Rattle.hy_passes.specs.declared.entry.Entry.{Entry}
+use Rattle.hy_partition.specs.Jobs.{Log}
 use Rattle.hy_partition.specs.Partition.{commits_of, rows_now}
 use Rattle.hy_space.specs.Space.{child_bytes}
-use Rattle.hy_partition.specs.Schedules.{Does, Event, IsTaken, IsWorldOf, Runs, Taken, World, begins, closes, forks, fresh_world, rows_of, steps, takes, with_end, with_open}
+use Rattle.hy_partition.specs.Schedules.{Does, Event, IsTaken, IsWorldOf, Runs, Taken, Underway, World, begins, closes, enters, forks, fresh_world, looks, rows_of, steps, takes, underway, with_accepted, with_known, with_open}
 use Rattle.hy_partition.specs.WorkedRows.{small}
 
 abbrev lists : Lists
@@ -20,13 +23,14 @@ lists = record { items = items; tables = sample }
 abbrev pay : Command
 pay = payment (who.Number 1) 2_500
 
--- so many slices of a command are done
-abbrev job : Command → ℕ → RunningJob
-job command slices = record { command = command; slices = slices }
+-- so many slices of a command are done, of client 5, who had looked at nothing
+abbrev job : Command → ℕ → Underway
+job command slices = record { command = command; slices = slices; client = 5; stamp = 0 }
 
--- a snapshot with what is kept, under a number
+-- a snapshot with what is kept, under a number, which client 6 takes
 abbrev opened : World → ℕ → World
 opened world number = record world {
+  known = with_known world.known 6 world.log;
   open_at = with_open world.open_at number (Some (record { commits = length world.kept; rows = rows_of world }));
 }
 
@@ -42,23 +46,26 @@ reading = record first { running = Some (job (status 1) 0) }
 
 -- a command that only reads leaves nothing
 abbrev read : World
-read = with_end first []
+read = with_accepted reading (job (status 1) 0)
+
+abbrev idle : World
+idle = record read { waits = false }
 
 abbrev paying : World
-paying = record first { running = Some (job pay 0) }
+paying = record idle { running = Some (job pay 0) }
 
 abbrev half : World
-half = record first { running = Some (job pay 1) }
+half = record idle { running = Some (job pay 1) }
 
 abbrev paid : World
-paid = with_end (opened half 1) (commits.Local pay ∷ [])
+paid = with_accepted (opened half 1) (job pay 1)
 
 abbrev last : World
 last = closed (record paid { waits = false }) 0
 
 abbrev events : List Event
 events =
-    forks 0 ∷ begins (status 1) ∷ steps ∷ takes ∷ begins pay ∷ steps ∷ forks 1 ∷ steps ∷ takes ∷ closes 0 ∷ []
+    forks 6 0 ∷ begins 5 (status 1) ∷ steps ∷ takes ∷ begins 5 pay ∷ steps ∷ forks 6 1 ∷ steps ∷ takes ∷ closes 0 ∷ []
 
 runs : Runs events (fresh_world lists 1) last
 runs = (first, inr (refl, refl), begun)
@@ -66,19 +73,36 @@ runs = (first, inr (refl, refl), begun)
     after : Runs (takes ∷ closes 0 ∷ []) paid last
     after = (record paid { waits = false }, inr (refl, refl), (last, inr (refl, refl), refl))
 
-    between : Runs (forks 1 ∷ steps ∷ takes ∷ closes 0 ∷ []) half last
+    between : Runs (forks 6 1 ∷ steps ∷ takes ∷ closes 0 ∷ []) half last
     between = (opened half 1, inr (refl, refl), (paid, inr (inr (inl (refl, refl, refl))), after))
 
-    second : Runs (begins pay ∷ steps ∷ forks 1 ∷ steps ∷ takes ∷ closes 0 ∷ []) first last
+    second : Runs (begins 5 pay ∷ steps ∷ forks 6 1 ∷ steps ∷ takes ∷ closes 0 ∷ []) idle last
     second = (paying, inr (refl, refl, refl, refl), (half, inr (inl (refl, refl)), between))
 
-    begun : Runs (begins (status 1) ∷ steps ∷ takes ∷ begins pay ∷ steps ∷ forks 1 ∷ steps ∷ takes ∷ closes 0 ∷ [])
+    begun : Runs (begins 5 (status 1) ∷ steps ∷ takes ∷ begins 5 pay ∷ steps ∷ forks 6 1 ∷ steps ∷ takes ∷ closes 0 ∷ [])
         first last
     begun = (
       reading,
       inr (refl, refl, refl, refl),
-      (read, inr (inr (inl (refl, refl, refl))), (first, inr (refl, refl), second)),
+      (read, inr (inr (inl (refl, refl, refl))), (idle, inr (refl, refl), second)),
     )
+
+-- the payment entered the serial list, and its client knows that; who took the snapshots knows what was there then
+entered_at_last : last.log ≡ record { commit = commits.Local pay; stamp = 0 } ∷ []
+entered_at_last = refl
+
+known_at_last : (last.known 5 ≡ 1) × (last.known 6 ≡ 0)
+known_at_last = (refl, refl)
+
+-- another warehouse's commit enters, and a client looks: it knows both then
+elsewhere : Entry Commit
+elsewhere = record { commit = commits.Local (status 2); stamp = 1 }
+
+abbrev seen_elsewhere : World
+seen_elsewhere = record last { log = last.log ++ elsewhere ∷ []; known = with_known last.known 6 (last.log ++ elsewhere ∷ []) }
+
+looked : seen_elsewhere.known 6 ≡ 2
+looked = refl
 
 -- one commit is kept; the snapshot that was taken between the slices has the loaded rows, and the first one is gone
 kept_at_last : last.kept ≡ commits.Local pay ∷ []
@@ -95,18 +119,19 @@ refused : Runs (steps ∷ takes ∷ []) first first
 refused = (first, inl refl, (first, inl refl, refl))
 
 -- the first slice of a payment keeps nothing
-not_kept : Does steps paying (with_end paying (commits.Local pay ∷ [])) → ⊥
+not_kept : Does steps paying (with_accepted paying (job pay 0)) → ⊥
 not_kept (inl more) = let same = ap (λ (w : World). w.waits) more.1 in absurd (cc)
 not_kept (inr (inl ended)) = let never = ended.0 in absurd (cc)
 not_kept (inr (inr ended)) =
     let kept = ap (λ (w : World). length w.kept) ended in absurd (omega (arith, kept))
 
 -- a second command doesn't begin before the answer to the first is taken
-not_begun : Does (begins pay) read (record read { running = Some (job pay 0) }) → ⊥
+not_begun : Does (begins 5 pay) read (record read { running = Some (job pay 0) }) → ⊥
 not_begun does = let waits = does.1 in absurd (cc)
 
 -- a snapshot doesn't have other rows than those of all that is kept
-not_taken : Does (forks 1) half (record half {
+not_taken : Does (forks 6 1) half (record half {
+  known = with_known half.known 6 half.log;
   open_at = with_open half.open_at 1 (Some (record { commits = 0; rows = no_rows }));
 }) → ⊥
 not_taken does =
@@ -121,12 +146,13 @@ under_zero zero = Some (record { commits = 0; rows = rows_now small })
 under_zero (suc number) = None
 
 abbrev small_world : World
-small_world = record (fresh_world small.load 1) { running = small.running; open_at = under_zero }
+small_world = record (fresh_world small.load 1) { running = option_map underway small.running; open_at = under_zero }
 
-small_is : IsWorldOf 64 small small_world
+small_is : IsWorldOf 64 [] small small_world
 small_is = record {
   load = refl;
   warehouse = refl;
+  log_is = refl;
   kept = refl;
   running = refl;
   waits = refl;

@@ -1,35 +1,40 @@
-//! Jobs: commands that are handed to a partition, and their replies.
+//! Jobs: commands that are handed to a partition, and their answers.
 
 ghost use Rattle.std.specs.Prelude.{◌≡◌, ◌+◌, ◌<◌};
-ghost use Rattle.hy_commands.specs.declared.reply.Reply.TheVariants as replies;
 ghost use Rattle.hy_slices.specs.Slices.{slice_count};
+ghost use Rattle.hy_partition.specs.Jobs.{begun, is_last, refused_answer, with_slice_done};
 
-use hy_commands::{Command, Reply};
+use hy_commands::{Command, Commit, Reply};
+use hy_ledger::Share;
+use hy_passes::Pass;
 use hy_rows::DISTRICTS_PER_WAREHOUSE;
 use hy_schema::Refusal;
+use hy_worlds::World;
 use std::marker::Model;
 
-/// A command on its way to a partition. It can't be cloned, so that it is done once at most.
+/// A command on its way to a partition, with the pass of the client who wants it. It can't be cloned, so that it is done
+/// once at most.
 #[derive(Drop)]
-pub struct Job {
+pub struct Job<K: World> {
     command: Command,
+    pass: Pass<Commit, K>,
 }
 
-// Clauses see the command.
-impl Model for Job {
+// Clauses see both.
+impl<K: World> Model for Job<K> {
     ghost use Rattle.hy_partition.specs.Jobs.{JobState};
 
     ghost Value = { JobState };
 
-    ghost view = { λ job. record { command = job.command } };
+    ghost view = { λ job. record { command = job.command; pass = job.pass } };
 }
 
-impl Job {
-    /// A job that runs a command.
-    pub fn new(command: Command) -> Job
-        ensures { result ≡ record { command = command } }
+impl<K: World> Job<K> {
+    /// A job that runs a command for a client.
+    pub fn new(command: Command, pass: Pass<Commit, K>) -> Job<K>
+        ensures { result ≡ record { command = command; pass = pass } }
     {
-        Job { command }
+        Job { command, pass }
     }
 
     /// The command.
@@ -39,54 +44,63 @@ impl Job {
         &self.command
     }
 
-    /// The answer to a job that nobody begins.
-    pub fn refuse(self, refusal: Refusal) -> Done
-        ensures { result ≡ record { reply = replies.Refused refusal } }
+    /// The answer to a job that nobody begins: the pass comes back as it was.
+    pub fn refuse(self, refusal: Refusal) -> Done<K>
+        ensures { result ≡ refused_answer self.pass refusal }
     {
-        let Job { command: _ } = self;
+        let Job { command: _, pass } = self;
         Done {
             reply: Reply::Refused(refusal),
+            pass,
+            share: None,
         }
     }
 
-    /// The command, to be begun.
-    pub(crate) fn into_command(self) -> Command
-        ensures { result ≡ self.command }
+    /// The job, begun.
+    pub(crate) fn begin(self) -> Running<K>
+        ensures { result ≡ begun self }
     {
-        let Job { command } = self;
-        command
+        let Job { command, pass } = self;
+        Running {
+            command,
+            slices: 0,
+            pass,
+        }
     }
 }
 
-/// A reply on its way back. It can't be cloned, so that it is read once at most.
+/// The answer to a job, on its way back: its reply, the client's pass, and a share where the command was accepted and
+/// doesn't only read. It can't be cloned, so that it is read once at most.
 #[derive(Drop)]
-pub struct Done {
+pub struct Done<K: World> {
     reply: Reply,
+    pass: Pass<Commit, K>,
+    share: Option<Share<K>>,
 }
 
-// Clauses see the reply.
-impl Model for Done {
+// Clauses see all of it.
+impl<K: World> Model for Done<K> {
     ghost use Rattle.hy_partition.specs.Jobs.{DoneState};
 
     ghost Value = { DoneState };
 
-    ghost view = { λ done. record { reply = done.reply } };
+    ghost view = { λ done. record { reply = done.reply; pass = done.pass; share = done.share } };
 }
 
-impl Done {
+impl<K: World> Done<K> {
     /// The answer to a job that ended.
-    pub(crate) fn new(reply: Reply) -> Done
-        ensures { result ≡ record { reply = reply } }
+    pub(crate) fn new(reply: Reply, pass: Pass<Commit, K>, share: Option<Share<K>>) -> Done<K>
+        ensures { result ≡ record { reply = reply; pass = pass; share = share } }
     {
-        Done { reply }
+        Done { reply, pass, share }
     }
 
-    /// The reply.
-    pub fn open(self) -> Reply
-        ensures { result ≡ self.reply }
+    /// The reply, the client's pass, and the share.
+    pub fn open(self) -> (Reply, Pass<Commit, K>, Option<Share<K>>)
+        ensures { (result.0 ≡ self.reply) × (result.1 ≡ self.pass) × (result.2 ≡ self.share) }
     {
-        let Done { reply } = self;
-        reply
+        let Done { reply, pass, share } = self;
+        (reply, pass, share)
     }
 }
 
@@ -99,32 +113,24 @@ pub enum Progress {
     Finished,
 }
 
-/// A command that runs, and how many of its slices are done.
-#[derive(Debug, Drop)]
-pub struct Running {
+/// A command that runs, how many of its slices are done, and its client's pass.
+#[derive(Drop)]
+pub struct Running<K: World> {
     command: Command,
     slices: u64,
+    pass: Pass<Commit, K>,
 }
 
-// Clauses see both.
-impl Model for Running {
+// Clauses see all of it.
+impl<K: World> Model for Running<K> {
     ghost use Rattle.hy_partition.specs.Jobs.{RunningJob};
 
     ghost Value = { RunningJob };
 
-    ghost view = { λ running. record { command = running.command; slices = running.slices } };
+    ghost view = { λ running. record { command = running.command; slices = running.slices; pass = running.pass } };
 }
 
-impl Running {
-    ghost use Rattle.hy_partition.specs.Jobs.{is_last};
-
-    /// A command of which no slice is done.
-    pub(crate) fn new(command: Command) -> Running
-        ensures { result ≡ record { command = command; slices = 0 } }
-    {
-        Running { command, slices: 0 }
-    }
-
+impl<K: World> Running<K> {
     /// The command.
     pub(crate) fn command(&self) -> &Command
         ensures { result.now ≡ self.now.command }
@@ -140,35 +146,47 @@ impl Running {
     }
 
     /// The job after one slice more.
-    pub(crate) fn next(self) -> Running
+    pub(crate) fn next(self) -> Running<K>
         requires { self.slices < slice_count self.command }
-        ensures { result ≡ record self { slices = self.slices + 1 } }
+        ensures { result ≡ with_slice_done self }
     {
-        let Running { command, slices } = self;
+        let Running {
+            command,
+            slices,
+            pass,
+        } = self;
         Running {
             command,
             slices: slices + 1,
+            pass,
         }
     }
 
-    /// The command, to be kept.
-    pub(crate) fn into_command(self) -> Command
-        ensures { result ≡ self.command }
+    /// The command, to be kept, and the pass.
+    pub(crate) fn part(self) -> (Command, Pass<Commit, K>)
+        ensures { (result.0 ≡ self.command) × (result.1 ≡ self.pass) }
     {
-        let Running { command, slices: _ } = self;
-        command
+        let Running {
+            command,
+            slices: _,
+            pass,
+        } = self;
+        (command, pass)
     }
 
     /// The answer to a job of which a slice was refused.
-    pub(crate) fn refuse(self, refusal: Refusal) -> Done
-        ensures { result ≡ record { reply = replies.Refused refusal } }
+    pub(crate) fn refuse(self, refusal: Refusal) -> Done<K>
+        ensures { result ≡ refused_answer self.pass refusal }
     {
         let Running {
             command: _,
             slices: _,
+            pass,
         } = self;
         Done {
             reply: Reply::Refused(refusal),
+            pass,
+            share: None,
         }
     }
 
@@ -186,7 +204,7 @@ fn slice_count(command: &Command) -> u64
     ensures { result ≡ slice_count command.now }
 {
     match command {
-        Command::NewOrder(order) => order.lines.as_slice().len() as u64 + 1,
+        Command::NewOrder(order) => order.lines.len() as u64 + 1,
         Command::Payment(_) => 2,
         Command::OrderStatus(_) | Command::StockLevel(_) => 1,
         Command::Delivery(_) => u64::from(DISTRICTS_PER_WAREHOUSE),

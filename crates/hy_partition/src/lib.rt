@@ -1,12 +1,15 @@
 //! One warehouse: transactions in slices, snapshots of what was committed, and the list of commits.
 #![tactic(auto)]
 
+mod answer;
 mod job;
 mod partition;
 mod schedules;
 mod snapshot;
+mod world;
 
 pub use job::{Done, Job, Progress};
 pub use partition::Partition;
 pub use schedules::{calls_are_events, every_schedule};
 pub use snapshot::Snapshot;
+pub use world::Loaded;

@@ -1,28 +1,36 @@
 //! The partition of one warehouse.
 
-ghost use Rattle.std.specs.Prelude.{◌≡◌, ◌≢◌, ℕ, ◌+◌, ◌++◌, ◌<◌, ◌≤◌, false, vec_capacity, slice_index_or, ◌↔◌, ◌⊎◌, IsTrue, IsSome, IsSomeAnd, List, length, take, Option, Some, None, Ok, Err, IfOk, IfErr, IsOk, IsOkAnd, OnOk, OnErr, MatchOption, MatchResult};
+ghost use Rattle.std.specs.Prelude.{◌≡◌, ◌≢◌, ℕ, ◌+◌, ◌++◌, ◌<◌, ◌≤◌, true, false, vec_capacity, slice_index_or, ◌↔◌, ◌⊎◌, IsTrue, IsSome, IsSomeAnd, List, [], length, take, Option, Some, None, Ok, Err, IfOk, IfErr, IsOk, IsOkAnd, OnOk, OnErr, MatchOption, MatchResult};
+ghost use Rattle.hy_worlds.specs.Origins.{desk_of};
+ghost use Rattle.hy_ledger.specs.Books.{with_book};
 ghost use Rattle.hy_frames.specs.FrameTable.{free_of, shared_of, IsLimitFor, IsPageSize, max_frames as most_frames};
 ghost use Rattle.hy_schema.specs.declared.refusal.Refusal.{Refusal};
-ghost use Rattle.hy_commands.specs.Commands.{is_reader, kept_of};
+ghost use Rattle.hy_commands.specs.Commands.{is_reader};
 ghost use Rattle.hy_space.specs.Space.{SameForChildren};
+ghost use Rattle.hy_partition.specs.Accounts.{IsBookOf};
 ghost use Rattle.hy_partition.specs.Headline.{Headline};
-ghost use Rattle.hy_partition.specs.Partition.{PartitionState, commits_of, rows_after, rows_now};
+ghost use Rattle.hy_partition.specs.Partition.{PartitionState, projection_of, undrained};
 ghost use Rattle.hy_partition.specs.Limits.{IsWhyUnmade, most_kept};
+ghost use Rattle.hy_partition.specs.inside.Soundness.{IsLaid};
 ghost use Rattle.hy_partition.specs.inside.Room.{LacksRoom, room_refusal};
-ghost use Rattle.hy_partition.specs.Jobs.{is_last};
+ghost use Rattle.hy_partition.specs.Jobs.{Log, is_last, told};
 ghost use Rattle.hy_undo.specs.Touched.{touched};
 ghost use Rattle.hy_undo.specs.PrivatePages.{IsUndoLog};
-ghost use Rattle.hy_rows.specs.Spelling.{Spells};
-ghost use Rattle.hy_partition.specs.Steps.{begin_refusal, Accepts, Begins, Closes, Forks, IsOpen, IsUnbegun, KeepsJob, Refuses, StaysUnforked, StepsTo};
+ghost use Rattle.hy_partition.specs.Steps.{begin_refusal, is_from, with_job, Accepts, Begins, Closes, Forks, IsUnbegun, KeepsJob, Refuses, StaysUnforked, StepsTo};
 
+use crate::answer::accept;
 use crate::job::{Done, Job, Progress, Running};
 use crate::snapshot::Snapshot;
+use crate::world::Loaded;
 use hy_commands::{Command, Commit};
 use hy_fill::filled_store;
 use hy_layout::Layout;
+use hy_ledger::{Balance, Book};
 use hy_loads::Load;
+use hy_passes::{Journal, KeptList, PartitionSeat, Pass};
 use hy_schema::Refusal;
 use hy_space::Space;
+use hy_tickets::Desk;
 use hy_tpcc::{Executor, refusal_of_shortage};
 use hy_undo::Undo;
 use std::alloc::Global;
@@ -30,22 +38,24 @@ use std::marker::Model;
 
 /// One warehouse: its rows on pages of `N` bytes, the commits that are kept, the job that runs, and the open snapshots.
 #[derive(Drop)]
-pub struct Partition<const N: usize> {
+pub struct Partition<const N: usize, K: Loaded> {
     executor: Executor,
-    kept: Vec<Commit>,
+    kept: KeptList<Commit, K>,
+    desk: Desk<K>,
+    book: Book<K>,
     max_kept: u64,
-    running: Option<Running>,
+    drained: usize,
+    running: Option<Running<K>>,
     undo: Undo<N>,
-    finished: Option<Done>,
+    finished: Option<Done<K>>,
     space: Space<N>,
     snapshots: Vec<Option<u64>>,
 }
 
 // Clauses see the whole of it; `specs/Partition.antt` has the words.
-impl<const N: usize> Model for Partition<N> {
-    ghost use Rattle.std.specs.Prelude.{vec_capacity};
+impl<const N: usize, K: Loaded> Model for Partition<N, K> {
     ghost use Rattle.hy_partition.specs.Partition.{PartitionState};
-    ghost use Rattle.hy_partition.specs.inside.Soundness.{IsSound};
+    ghost use Rattle.hy_partition.specs.inside.Soundness.{IsSound, IsTied};
 
     ghost Value = { PartitionState };
 
@@ -53,19 +63,21 @@ impl<const N: usize> Model for Partition<N> {
 
     ghost view = { partition_of };
 
-    ghost invariant = { λ p. IsSound N (vec_capacity p.kept) p.executor (partition_of p) };
+    ghost invariant = { λ p. IsSound N p.kept.room p.executor (partition_of p) × IsTied K.load p.kept p.desk (partition_of p) };
 }
 
-impl<const N: usize> Partition<N> {
-    /// The warehouse's rows of the load, with nothing kept and no snapshot; at most `max_kept` commits will be kept. E2
-    /// only where `max_frames` is no more than the frames that the rows and their entries take at most. E1.
+impl<const N: usize, K: Loaded> Partition<N, K> {
+    /// The warehouse's rows of the load, with nothing kept and no snapshot; at most `max_kept` commits will be kept. A
+    /// refusal gives the seat back: E2 only where `max_frames` is no more than the frames that the rows and their entries
+    /// take at most; E1.
     pub fn new(
         alloc: Global,
         load: &Load,
         warehouse: u8,
+        seat: PartitionSeat<Commit, K>,
         max_frames: u64,
         max_kept: u64,
-    ) -> Result<Partition<N>, Refusal>
+    ) -> Result<Partition<N, K>, (PartitionSeat<Commit, K>, Refusal)>
         requires size { IsPageSize N }
         requires some_frames { 1 ≤ max_frames }
         requires frames { max_frames ≤ most_frames }
@@ -73,18 +85,22 @@ impl<const N: usize> Partition<N> {
         requires kept { max_kept ≤ most_kept }
         requires first { 1 ≤ warehouse }
         requires last { warehouse ≤ length load.now.tables.warehouses }
+        requires load { load.now ≡ K.load }
+        requires seat { seat ≡ record { warehouse = warehouse; seen = [] } }
         ensures begins { IfOk result (Begins load.now warehouse max_frames max_kept) }
-        ensures refused { IfErr result (IsWhyUnmade N load.now warehouse max_frames) }
+        ensures refused { IfErr result (λ refused. IsWhyUnmade N load.now warehouse max_frames refused.1) }
+        ensures back { IfErr result (λ refused. refused.0 ≡ seat) }
     {
-        load.sound();
-        let layout = Layout::new(alloc, load, warehouse)?;
-        match filled_store(alloc, &layout, max_frames) {
-            Ok(space) => {
-                let undo = Undo::new(alloc, &space)?;
+        match rows_on_pages(alloc, load, warehouse, max_frames) {
+            Ok((executor, space, undo)) => {
+                let (list, desk, book) = seat.part();
                 Ok(Partition {
-                    executor: Executor::new(alloc, layout),
-                    kept: Vec::new(alloc),
+                    executor,
+                    kept: KeptList::new(alloc, list),
+                    desk,
+                    book,
                     max_kept,
+                    drained: 0,
                     running: None,
                     undo,
                     finished: None,
@@ -92,7 +108,7 @@ impl<const N: usize> Partition<N> {
                     snapshots: Vec::new(alloc),
                 })
             }
-            Err(shortage) => Err(refusal_of_shortage(shortage)),
+            Err(refusal) => Err((seat, refusal)),
         }
     }
 
@@ -103,12 +119,21 @@ impl<const N: usize> Partition<N> {
         self.space.sound();
     }
 
+    /// That the load is the one that the world names, that no more was drained than is kept, and that the book has what
+    /// was taken in.
+    pub fn ties(&self)
+        ensures load { self.now.load ≡ K.load }
+        ensures drained { self.now.drained ≤ length self.now.kept }
+        ensures book { IsBookOf self.now.load self.now.warehouse self.now.kept self.now.book }
+    {
+        let _drained = self.drained;
+    }
+
     /// Begins a job, and makes room for its commit, if it will have one. A refusal gives the job back and changes
     /// nothing. It is the first of these that holds: E9 where a job runs or its answer wasn't taken; E8, E4, E5, E6 of the
     /// command; E3 where the command doesn't only read and as many commits are kept as may be; E1.
-    pub fn begin(&mut self, job: Job) -> Result<(), (Job, Refusal)>
-        ensures begun { OnOk result (self.new
-            ≡ record self.old { running = Some (record { command = job.command; slices = 0 }) }) }
+    pub fn begin(&mut self, job: Job<K>) -> Result<(), (Job<K>, Refusal)>
+        ensures begun { OnOk result (self.new ≡ with_job self.old job) }
         ensures accepted { OnOk result (begin_refusal self.old job.command ≡ None) }
         ensures refused { IfErr result (λ refused. IsUnbegun self.old job.command refused.1) }
         ensures back { IfErr result (λ refused. refused.0 ≡ job) }
@@ -123,16 +148,30 @@ impl<const N: usize> Partition<N> {
         if let Err(refusal) = make_room(&mut self.kept, self.max_kept, job.command()) {
             return Err((job, refusal));
         }
-        put(&mut self.running, Running::new(job.into_command()));
+        put(&mut self.running, job.begin());
         Ok(())
     }
 
     /// Does one slice of the job that runs. The last one accepts the command; a slice that is refused undoes what was
     /// done: E7 exactly where its item isn't there, else E2 where it writes and no frame is free, or E1. In both cases the
-    /// reply waits to be taken. E10 where nothing runs.
-    pub fn step(&mut self) -> Result<Progress, Refusal>
+    /// answer waits to be taken. E10 where nothing runs. The journal is used at the last slice alone.
+    pub fn step(&mut self, journal: &mut Journal<Commit, K>) -> Result<Progress, Refusal>
+        ensures { MatchOption self.old.running
+            ((result ≡ Err Refusal.NotRunning) × (self.new ≡ self.old) × (journal.new.list.log ≡ journal.old.list.log))
+            (λ job. IsOkAnd result (StepsTo job (Some journal.old.list.log) (Some journal.new.list.log) self.old self.new)) }
+    {
+        if self.at_last() {
+            Ok(self.step_last(journal))
+        } else {
+            self.step_early()
+        }
+    }
+
+    /// The same without the journal, where the next slice isn't the job's last (`at_last`).
+    pub fn step_early(&mut self) -> Result<Progress, Refusal>
+        requires { IsSomeAnd self.old.running (λ job. is_last job ≡ true) → ⊥ }
         ensures { MatchOption self.old.running ((result ≡ Err Refusal.NotRunning) × (self.new ≡ self.old))
-            (λ job. IsOkAnd result (StepsTo job self.old self.new)) }
+            (λ job. IsOkAnd result (λ progress. (log : Option Log) → StepsTo job log log self.old self.new progress)) }
     {
         let Some(running) = self.running.take() else {
             return Err(Refusal::NotRunning);
@@ -146,12 +185,7 @@ impl<const N: usize> Partition<N> {
                 put(&mut self.running, running.next());
                 Ok(Progress::More)
             }
-            Ok(Some(reply)) => {
-                keep_command(&mut self.kept, running.into_command());
-                self.undo.commit(&self.space);
-                put(&mut self.finished, Done::new(reply));
-                Ok(Progress::Finished)
-            }
+            Ok(Some(_reply)) => unreachable!(),
             Err(refusal) => {
                 self.space.sound();
                 self.undo.roll_back(&mut self.space);
@@ -161,33 +195,73 @@ impl<const N: usize> Partition<N> {
         }
     }
 
+    /// The last slice.
+    fn step_last(&mut self, journal: &mut Journal<Commit, K>) -> Progress
+        requires { IsSomeAnd self.old.running (λ job. is_last job ≡ true) }
+        ensures { IsSomeAnd self.old.running
+            (λ job. StepsTo job (Some journal.old.list.log) (Some journal.new.list.log) self.old self.new result) }
+    {
+        let Some(running) = self.running.take() else {
+            unreachable!();
+        };
+        let done = running.slices();
+        match self
+            .executor
+            .slice(&mut self.space, &mut self.undo, running.command(), done)
+        {
+            Ok(None) => unreachable!(),
+            Ok(Some(reply)) => {
+                let done = accept(&mut self.kept, &mut self.book, journal, running, reply);
+                self.undo.commit(&self.space);
+                put(&mut self.finished, done);
+                Progress::Finished
+            }
+            Err(refusal) => {
+                self.space.sound();
+                self.undo.roll_back(&mut self.space);
+                put(&mut self.finished, running.refuse(refusal));
+                Progress::Finished
+            }
+        }
+    }
+
     /// Steps until nothing runs.
-    pub fn finish_running(&mut self)
-        ensures { MatchOption self.old.running (self.new ≡ self.old)
-            (λ job. Accepts job.command self.old self.new ⊎ Refuses job self.old self.new) }
+    pub fn finish_running(&mut self, journal: &mut Journal<Commit, K>)
+        ensures { MatchOption self.old.running
+            ((self.new ≡ self.old) × (journal.new.list.log ≡ journal.old.list.log))
+            (λ job. Accepts job (Some journal.old.list.log) (Some journal.new.list.log) self.old self.new
+            ⊎ Refuses job (Some journal.old.list.log) (Some journal.new.list.log) self.old self.new) }
     {
         while self.running.is_some() {
-            let _progress = self.step();
+            let _progress = self.step(journal);
         }
     }
 
     /// The answer to the job that ended, once.
-    pub fn take_done(&mut self) -> Option<Done>
+    pub fn take_done(&mut self) -> Option<Done<K>>
         ensures taken { result ≡ self.old.finished }
         ensures after { self.new ≡ record self.old { finished = None } }
     {
         self.finished.take()
     }
 
-    /// A snapshot of the rows after all kept commits. Where a job runs, the snapshot has it undone, and takes a frame
-    /// for each page that the job has touched. E2 exactly where fewer frames are free than that; else E1.
-    pub fn fork(&mut self) -> Result<Snapshot<N>, Refusal>
-        ensures forks { IfOk result (Forks N self.old self.new) }
+    /// A snapshot of the rows after all kept commits, which are all that the serial list has of the warehouse; list and
+    /// client are told all of it. Where a job runs, the snapshot has it undone, and takes a frame for each page that the
+    /// job has touched. E2 exactly where fewer frames are free than that; else E1.
+    pub fn fork(
+        &mut self,
+        journal: &mut Journal<Commit, K>,
+        pass: &mut Pass<Commit, K>,
+    ) -> Result<Snapshot<N>, Refusal>
+        ensures forks { IfOk result (Forks N K.passes journal.old.list.log pass.old.seen self.old self.new) }
+        ensures told { OnOk result (pass.new ≡ told pass.old journal.old.list.log) }
+        ensures log { journal.new.list.log ≡ journal.old.list.log }
         ensures no_frame { result ≡ Err Refusal.NoFrame
             ↔ (free_of self.old.space.frames < touched self.old.undo) }
         ensures refused { IfErr result
             (λ refusal. (refusal ≡ Refusal.NoFrame) ⊎ (refusal ≡ Refusal.NoMemory)) }
         ensures err { OnErr result (StaysUnforked self.old self.new) }
+        ensures untold { OnErr result (pass.new ≡ pass.old) }
     {
         self.space.sound();
         if self.space.free() < self.undo.touched() {
@@ -197,7 +271,6 @@ impl<const N: usize> Partition<N> {
         let Ok(load) = layout.load().share() else {
             return Err(Refusal::NoMemory);
         };
-        let warehouse = layout.warehouse();
         if self.snapshots.reserve(1).is_err() {
             return Err(Refusal::NoMemory);
         }
@@ -208,37 +281,29 @@ impl<const N: usize> Partition<N> {
             self.space.close(child);
             return Err(Refusal::NoMemory);
         };
-        let commits = self.kept.len() as u64;
+        self.kept.tell(journal);
+        journal.tell_client(pass);
+        let commits = self.kept.list().len() as u64;
         open_snapshot(&mut self.snapshots, child, commits);
-        Ok(Snapshot::new(load, warehouse, child, commits, pages))
-    }
-
-    /// That an open snapshot's bytes, and so the rows that it lists, are those of the first `commits()` kept commits.
-    pub fn spells(&self, snapshot: &Snapshot<N>)
-        requires { IsOpen self.now snapshot.now }
-        ensures within { snapshot.now.commits ≤ length self.now.kept }
-        ensures spells { Spells N snapshot.now.bytes
-            (rows_after self.now (take snapshot.now.commits self.now.kept)) }
-    {
-        let _kept = &self.kept;
-        let _commits = snapshot.commits();
+        let ticket = self.desk.give(child);
+        Ok(Snapshot::new(load, ticket, commits, self.kept.noted(), pages))
     }
 
     /// Closes a snapshot of this partition: the frames that only it had are free again. E11 where the snapshot is
-    /// another warehouse's, which comes back. Takes no memory.
+    /// another warehouse's or one of a kit with another name; it comes back. A snapshot with the warehouse and the kit's
+    /// name has to be one of that kit. Takes no memory.
     pub fn close(&mut self, snapshot: Snapshot<N>) -> Result<(), (Snapshot<N>, Refusal)>
-        requires { snapshot.warehouse ≡ self.old.warehouse
-            → commits_of self.old snapshot.child ≡ Some snapshot.commits }
-        ensures mine { IsOk result ↔ (snapshot.entry.warehouse ≡ self.old.warehouse) }
+        requires { is_from snapshot self.old.warehouse K.passes ≡ true → snapshot.desk ≡ desk_of K.passes self.old.warehouse }
+        ensures mine { IsOk result ↔ IsTrue (is_from snapshot.entry self.old.warehouse K.passes) }
         ensures closes { OnOk result (Closes self.old self.new snapshot.entry.child) }
         ensures refused { IfErr result
             (λ refused. (refused.0 ≡ snapshot.entry) × (refused.1 ≡ Refusal.NotMine)) }
         ensures err { OnErr result (self.new ≡ self.old) }
     {
-        if snapshot.warehouse() != self.warehouse() {
+        if !self.desk.is_from_here(snapshot.ticket()) {
             return Err((snapshot, Refusal::NotMine));
         }
-        let child = snapshot.spend();
+        let child = self.desk.take_back(snapshot.spend());
         self.space.close(child);
         self.snapshots[child as usize] = None;
         Ok(())
@@ -265,7 +330,41 @@ impl<const N: usize> Partition<N> {
     pub fn kept(&self) -> &[Commit]
         ensures { result.now ≡ self.now.kept }
     {
-        self.kept.as_slice()
+        self.kept.list()
+    }
+
+    /// The commits since the last drain, in order.
+    pub fn undrained(&self) -> &[Commit]
+        ensures { result.now ≡ undrained self.now }
+    {
+        &self.kept.list()[self.drained..]
+    }
+
+    /// Notes that all commits were drained. Takes no memory.
+    pub fn mark_drained(&mut self)
+        ensures { self.new ≡ record self.old { drained = length self.old.kept } }
+    {
+        self.drained = self.kept.list().len();
+    }
+
+    /// The accounts: the commits of this warehouse, and the cents that it took in since the load.
+    pub fn book(&self) -> &Book<K>
+        ensures { result.now ≡ self.now.book }
+    {
+        &self.book
+    }
+
+    /// Lays the accounts beside purses.
+    pub fn audit(&mut self, balance: &mut Balance<K>)
+        requires next { self.old.warehouse ≡ balance.old.audited + 1 }
+        ensures partition { self.new ≡ self.old }
+        ensures balance { balance.new ≡ record {
+          shares = balance.old.shares;
+          audited = balance.old.audited + 1;
+          books = with_book balance.old.books self.old.book;
+        } }
+    {
+        balance.audit(&mut self.book);
     }
 
     /// How many pages that were there at its begin the job that runs has written. No snapshot shares one of them.
@@ -296,6 +395,7 @@ impl<const N: usize> Partition<N> {
         ensures range { IsOk result ↔ IsLimitFor self.old.space.frames max }
         ensures max { OnOk result (self.new.space.frames.max ≡ max) }
         ensures job { OnOk result (KeepsJob self.old self.new) }
+        ensures seen { self.new.seen ≡ self.old.seen }
         ensures snapshots { self.new.snapshots ≡ self.old.snapshots }
         ensures children { SameForChildren self.old.space self.new.space }
         ensures refused { IfErr result (λ refusal. refusal ≡ Refusal.OutOfRange) }
@@ -308,34 +408,54 @@ impl<const N: usize> Partition<N> {
     }
 }
 
+/// The warehouse's rows of the load on pages, with an executor that runs commands on them and an empty undo log.
+fn rows_on_pages<const N: usize>(
+    alloc: Global,
+    load: &Load,
+    warehouse: u8,
+    max_frames: u64,
+) -> Result<(Executor, Space<N>, Undo<N>), Refusal>
+    requires size { IsPageSize N }
+    requires some_frames { 1 ≤ max_frames }
+    requires frames { max_frames ≤ most_frames }
+    requires first { 1 ≤ warehouse }
+    requires last { warehouse ≤ length load.now.tables.warehouses }
+    ensures laid { IfOk result (λ laid. IsLaid N load.now warehouse max_frames laid.0 laid.1 laid.2) }
+    ensures refused { IfErr result (IsWhyUnmade N load.now warehouse max_frames) }
+{
+    load.sound();
+    let layout = Layout::new(alloc, load, warehouse)?;
+    match filled_store(alloc, &layout, max_frames) {
+        Ok(space) => {
+            let undo = Undo::new(alloc, &space)?;
+            Ok((Executor::new(alloc, layout), space, undo))
+        }
+        Err(shortage) => Err(refusal_of_shortage(shortage)),
+    }
+}
+
 /// Makes room for the commit of a command that doesn't only read. E3 where the list is full; E1.
-fn make_room(kept: &mut Vec<Commit>, max_kept: u64, command: &Command) -> Result<(), Refusal>
-    ensures kept { kept.new.items ≡ kept.old.items }
+fn make_room<K: Loaded>(
+    kept: &mut KeptList<Commit, K>,
+    max_kept: u64,
+    command: &Command,
+) -> Result<(), Refusal>
+    ensures kept { kept.new ≡ record kept.old { room = kept.new.room } }
     ensures room { OnOk result (is_reader command.now ≡ false
-        → (length kept.old.items ≢ max_kept) × (length kept.old.items < vec_capacity kept.new)) }
+        → (length (projection_of kept.old.warehouse kept.old.seen) ≢ max_kept) × (1 ≤ kept.new.room)) }
     ensures accepted { OnOk result
-        (room_refusal command.now (length kept.old.items) max_kept ≡ None) }
+        (room_refusal command.now (length (projection_of kept.old.warehouse kept.old.seen)) max_kept ≡ None) }
     ensures refused { IfErr result
-        (λ refusal. LacksRoom command.now (length kept.old.items) max_kept refusal) }
+        (λ refusal. LacksRoom command.now (length (projection_of kept.old.warehouse kept.old.seen)) max_kept refusal) }
 {
     if command.is_reader() {
         return Ok(());
     }
-    if kept.len() as u64 == max_kept {
+    if kept.list().len() as u64 == max_kept {
         return Err(Refusal::HistoryFull);
     }
-    kept.reserve(1)?;
+    kept.reserve()?;
     Ok(())
-}
-
-/// Keeps a command behind all others, if it doesn't only read.
-fn keep_command(kept: &mut Vec<Commit>, command: Command)
-    requires { is_reader command ≡ false → length kept.old.items < vec_capacity kept.old }
-    ensures { kept.new.items ≡ kept.old.items ++ kept_of command }
-{
-    if !command.is_reader() {
-        kept.push_reserved(Commit::Local(command));
-    }
 }
 
 /// Puts a value at a place.

@@ -1,91 +1,102 @@
 //! Snapshots: the committed rows of a warehouse at one moment.
 
-ghost use Rattle.std.specs.Prelude.{◌≡◌, ◌<◌, map, IfOk};
-ghost use Rattle.hy_rows.specs.Spelling.{list_at, segments};
-ghost use Rattle.hy_partition.specs.Snapshots.{IsWhole, lists_in};
+ghost use Rattle.std.specs.Prelude.{◌≡◌, ◌<◌, length, map, IfOk};
+ghost use Rattle.hy_rows.specs.Spelling.{Spells, list_at, segments};
+ghost use Rattle.hy_commands.specs.Replay.{rows_after};
+ghost use Rattle.hy_partition.specs.Snapshots.{IsTakenBehind, IsWhole, lists_in, snapshot_of, ticket_of};
 
+use hy_commands::Commit;
 use hy_frames::Hold;
 use hy_loads::Load;
 use hy_relation::Relation;
 use hy_rows::{Item, Listed, Row, Source};
+use hy_tickets::Ticket;
 use std::alloc::{AllocError, Global};
 use std::marker::Model;
+use std::snapshot::Snapshot as Noted;
 
 /// The rows of a warehouse after a number of its commits. It has a hold on its pages, so that no lock is needed to
-/// read it, and nothing changes it. It must be given back to its partition by `close`.
+/// read it, and nothing changes it. It must be given back to its partition by `close`, whose ticket it has.
 pub struct Snapshot<const N: usize> {
     load: Load,
-    warehouse: u8,
-    child: u64,
+    ticket: Ticket,
     commits: u64,
+    kept: Noted<Vec<Commit>>,
     pages: Vec<Vec<Hold<N>>>,
 }
 
-// Clauses see the numbers, and the bytes of the pages by segment.
+// Clauses see the numbers, the commits that it is behind, and the bytes of the pages by segment.
 impl<const N: usize> Model for Snapshot<N> {
     ghost use Rattle.std.specs.Prelude.{map};
-    ghost use Rattle.hy_partition.specs.Snapshots.{SnapshotState, IsWhole};
+    ghost use Rattle.hy_partition.specs.Snapshots.{SnapshotState, IsTakenBehind, snapshot_of};
 
     ghost Value = { SnapshotState };
 
-    ghost view = { λ snapshot. record {
-      items = snapshot.load.items;
-      warehouse = snapshot.warehouse;
-      child = snapshot.child;
-      commits = snapshot.commits;
-      bytes = map (λ segment. segment.items) snapshot.pages.items;
-    } };
+    ghost view = { λ snapshot.
+        snapshot_of snapshot.load snapshot.ticket snapshot.commits snapshot.kept.value.items
+        (map (λ segment. segment.items) snapshot.pages.items) };
 
-    ghost invariant = { λ snapshot. IsWhole N (map (λ segment. segment.items) snapshot.pages.items) };
+    ghost invariant = { λ snapshot.
+        IsTakenBehind N (snapshot_of snapshot.load snapshot.ticket snapshot.commits snapshot.kept.value.items
+        (map (λ segment. segment.items) snapshot.pages.items)) };
 }
 
 impl<const N: usize> Snapshot<N> {
-    /// A snapshot of a warehouse of the load with these pages.
+    /// A snapshot of a warehouse of the load, behind these commits, with these pages.
     pub(crate) fn new(
         load: Load,
-        warehouse: u8,
-        child: u64,
+        ticket: Ticket,
         commits: u64,
+        kept: Noted<Vec<Commit>>,
         pages: Vec<Vec<Hold<N>>>,
     ) -> Snapshot<N>
-        requires { IsWhole N (map (λ segment. segment.items) pages.items) }
-        ensures { result ≡ record {
-          items = load.items;
-          warehouse = warehouse;
-          child = child;
-          commits = commits;
-          bytes = map
-              (λ segment. segment.items) pages.entry.items;
-        } }
+        requires { IsTakenBehind N (snapshot_of load ticket commits kept.value.items
+            (map (λ segment. segment.items) pages.items)) }
+        ensures { result ≡ snapshot_of load ticket commits kept.value.items
+            (map (λ segment. segment.items) pages.entry.items) }
     {
         Snapshot {
             load,
-            warehouse,
-            child,
+            ticket,
             commits,
+            kept,
             pages,
         }
     }
 
-    /// The child of the page tables, which is to be closed.
-    pub(crate) fn spend(self) -> u64
-        ensures { result ≡ self.entry.child }
+    /// The ticket, which is to be given back.
+    pub(crate) fn spend(self) -> Ticket
+        ensures { result ≡ ticket_of self.entry }
     {
         let Snapshot {
             load: _,
-            warehouse: _,
-            child,
+            ticket,
             commits: _,
+            kept: _,
             pages: _,
         } = self;
-        child
+        ticket
+    }
+
+    /// The ticket.
+    pub(crate) fn ticket(&self) -> &Ticket
+        ensures { result.now ≡ ticket_of self.now }
+    {
+        &self.ticket
     }
 
     /// The number of the warehouse.
-    pub(crate) fn warehouse(&self) -> u8
+    pub fn warehouse(&self) -> u8
         ensures { result ≡ self.now.warehouse }
     {
-        self.warehouse
+        self.ticket.warehouse()
+    }
+
+    /// The name of the kit.
+    pub fn name(&self) -> u64
+        ensures { result ≡ self.now.name }
+    {
+        self.ticket.name()
     }
 
     /// How many commits there were.
@@ -93,6 +104,15 @@ impl<const N: usize> Snapshot<N> {
         ensures { result ≡ self.now.commits }
     {
         self.commits
+    }
+
+    /// That its bytes, and so the rows that it lists, are those of the warehouse of the load after `commits()` commits,
+    /// replayed one by one: those that were kept when it was taken.
+    pub fn spells(&self)
+        ensures commits { self.now.commits ≡ length self.now.kept }
+        ensures spells { Spells N self.now.bytes (rows_after self.now.load self.now.warehouse self.now.kept) }
+    {
+        let _commits = self.commits;
     }
 
     /// The rows of one table: those on its pages, or of ITEM those of the load. Only memory can lack.

@@ -1,17 +1,21 @@
 -- What holds of every partition, beside the counts of its frames, which its pages keep by themselves.
-use Rattle.std.specs.Prelude.{◌≡◌, ℕ, ◌<◌, ◌≤◌, false, List, length, None, MatchOption}
+use Rattle.std.specs.Prelude.{◌≡◌, ℕ, ◌<◌, ◌≤◌, true, false, List, [], length, None, IsSome, MatchOption}
 use Rattle.hy_rows.specs.Ranges.{IsBetween}
-use Rattle.hy_rows.specs.Tables.{Tables}
+use Rattle.hy_rows.specs.Tables.{Lists, Tables, of_warehouse}
 use Rattle.hy_schema.specs.Loads.{IsLoad}
+use Rattle.hy_passes.specs.Worlds.{KeptState}
+use Rattle.hy_tickets.specs.Desks.{DeskState, is_out}
+use Rattle.hy_commands.specs.declared.command.Commit.{Commit}
 use Rattle.hy_commands.specs.Commands.{is_reader}
 use Rattle.hy_slices.specs.Slices.{slice_count}
-use Rattle.hy_space.specs.Space.{owner_bytes}
-use Rattle.hy_undo.specs.UndoLog.{undone, empty_log}
+use Rattle.hy_space.specs.Space.{SpaceState, owner_bytes}
+use Rattle.hy_undo.specs.UndoLog.{UndoLog, undone, empty_log}
 use Rattle.hy_undo.specs.PrivatePages.{IsUndoLog}
 use Rattle.hy_store.specs.Stored.{HasStore, stored}
 use Rattle.hy_indexes.specs.Indexes.{HasIndexes}
 use Rattle.hy_tpcc.specs.Executor.{ExecutorState, IsUnderWay}
-use Rattle.hy_partition.specs.Partition.{PartitionState, layout_of, rows_now}
+use Rattle.hy_partition.specs.Accounts.{IsBookOf}
+use Rattle.hy_partition.specs.Partition.{PartitionState, commits_of, layout_of, rows_now}
 use Rattle.hy_partition.specs.Limits.{most_kept}
 use Rattle.hy_partition.specs.Jobs.{RunningJob}
 use Rattle.hy_partition.specs.Headline.{SpellsBeginning}
@@ -23,12 +27,12 @@ pub record IsStoreOf (n : ℕ) (tables : Tables) (bytes : List (List (List ℕ))
   pub indexes : HasIndexes (stored n bytes)
 
 -- a job runs: the executor has done its slices, and its commit has room, if it will have one
-pub record Runs (n places : ℕ) (executor : ExecutorState) (p : PartitionState) (job : RunningJob) : Type 0 where
+pub record Runs (n room : ℕ) (executor : ExecutorState) (p : PartitionState) (job : RunningJob) : Type 0 where
   pub no_reply : p.finished ≡ None
   pub slices : job.slices < slice_count job.command
   pub store : HasStore n (owner_bytes p.space)
   pub under_way : IsUnderWay executor job.command job.slices (rows_now p) (stored n (owner_bytes p.space))
-  pub has_room : is_reader job.command ≡ false → length p.kept < places
+  pub has_room : is_reader job.command ≡ false → 1 ≤ room
   pub below_max : is_reader job.command ≡ false → length p.kept < p.max_kept
 
 -- nothing runs: nothing is to be undone, and the live pages have the rows after all that is kept
@@ -36,8 +40,8 @@ pub record Rests (n : ℕ) (p : PartitionState) : Type 0 where
   pub undo : p.undo ≡ empty_log p.space
   pub pages : IsStoreOf n (rows_now p) (owner_bytes p.space)
 
--- with pages of n bytes, places for so many commits, and the executor of the warehouse
-pub record IsSound (n places : ℕ) (executor : ExecutorState) (p : PartitionState) : Type 0 where
+-- with pages of n bytes, room for so many more commits, and the executor of the warehouse
+pub record IsSound (n room : ℕ) (executor : ExecutorState) (p : PartitionState) : Type 0 where
   pub snapshots : (child : ℕ) → SpellsBeginning n p child
   pub live : IsStoreOf n (rows_now p) (undone (owner_bytes p.space) p.undo)
   pub undo_log : IsUndoLog n p.space p.undo
@@ -46,4 +50,26 @@ pub record IsSound (n places : ℕ) (executor : ExecutorState) (p : PartitionSta
   pub layout : executor.layout ≡ layout_of p
   pub within : length p.kept ≤ p.max_kept
   pub limit : p.max_kept ≤ most_kept
-  pub job : MatchOption p.running (Rests n p) (Runs n places executor p)
+  pub job : MatchOption p.running (Rests n p) (Runs n room executor p)
+
+-- how the parts of a partition belong together: they are of one warehouse, and of the load that the world names; a ticket
+-- that is out is that of an open snapshot; no more was drained than is kept; the book has what was taken in
+pub record IsTied (world : Lists) (list : KeptState Commit) (desk : DeskState) (p : PartitionState) : Type 0 where
+  pub load_is : p.load ≡ world
+  pub list_of : list.warehouse ≡ p.warehouse
+  pub desk_of : desk.warehouse ≡ p.warehouse
+  pub tickets : (child : ℕ) → is_out desk.out child ≡ true → IsSome (commits_of p child)
+  pub within : p.drained ≤ length p.kept
+  pub book : IsBookOf p.load p.warehouse p.kept p.book
+
+-- the rows of a warehouse of a load stand on pages of n bytes, in an index each, under a limit on frames; no snapshot is
+-- open, nothing is to be undone, and the executor is that of the warehouse
+pub record IsLaid (n : ℕ) (lists : Lists) (number frames : ℕ) (executor : ExecutorState) (space : SpaceState)
+    (undo : UndoLog) : Type 0 where
+  pub layout : executor.layout ≡ record { load = lists; warehouse = number }
+  pub load : IsLoad lists
+  pub store : IsStoreOf n (of_warehouse number lists.tables) (owner_bytes space)
+  pub undo_log : IsUndoLog n space undo
+  pub nothing : undo ≡ empty_log space
+  pub children : space.children ≡ []
+  pub max_frames : space.frames.max ≡ frames

@@ -7,6 +7,7 @@ use Rattle.hy_undo.proofs.PrivatePageLaws.{IsUndoLog-kept, KeepsPages-unseen}
 use Rattle.hy_partition.proofs.UndoLaws.{KeepsOwn-same_frames}
 use Rattle.hy_partition.proofs.SoundLaws.{sound-snapshots}
 use Rattle.hy_partition.proofs.SpellLaws.{spells-kept_more}
+use Rattle.hy_partition.proofs.TieLaws.{tied-unforked}
 use Rattle.hy_partition.proofs.partition.Partition.set_max.Goals as goal
 use Rattle.hy_partition.proofs.partition.Partition.set_max.Goals.{in-Ok, in-Err}
 
@@ -15,10 +16,10 @@ returns-clause-job g c =
     let p : PartitionState = partition_of c.self.inside in
     let new : PartitionState = record p { space = c.set_max.new.self } in
     let keeps : KeepsJob c.args.self.now new = subst (λ (old : PartitionState). KeepsJob old new) c.self.view_is (record {
-      load = refl;
-      warehouse = refl;
+      terms = refl;
       kept = refl;
-      max_kept = refl;
+      drained = refl;
+      book = refl;
       running = refl;
       undo = refl;
       finished = refl;
@@ -34,9 +35,11 @@ invariant_of-self g c =
     let p : PartitionState = partition_of c.self.inside in
     let owner = c.set_max.ensures.owner in
     let after : PartitionState = record p { space = c.set_max.new.self } in
-    let kept = KeepsOwn-same_frames p.space c.set_max.new.self owner.table c.set_max.ensures.frames in
-    sound-snapshots g.row.N _ _ p c.self.invariant c.set_max.new.self p.snapshots owner
-    (IsUndoLog-kept g.row.N p.space c.set_max.new.self p.undo (KeepsPages-unseen p.space c.set_max.new.self owner.bytes kept)
-    c.self.invariant.undo_log)
-    (λ child. spells-kept_more g.row.N p after refl [] (sym (append-nil p.kept)) child refl
-    (c.set_max.ensures.children.bytes child) (c.self.invariant.snapshots child))
+    let kept = KeepsOwn-same_frames p.space c.set_max.new.self owner.table c.set_max.ensures.frames in (
+      sound-snapshots g.row.N _ _ p c.self.invariant.0 c.set_max.new.self p.snapshots owner
+          (IsUndoLog-kept g.row.N p.space c.set_max.new.self p.undo (KeepsPages-unseen p.space c.set_max.new.self owner.bytes kept)
+          c.self.invariant.0.undo_log)
+          (λ child. spells-kept_more g.row.N p after refl [] (sym (append-nil p.kept)) child refl
+          (c.set_max.ensures.children.bytes child) (c.self.invariant.0.snapshots child)),
+      tied-unforked g.K.Loaded.load c.self.inside.kept c.self.inside.desk p c.self.invariant.1 c.set_max.new.self p.snapshots refl,
+    )

@@ -8,5 +8,5 @@ pub returns-clause-pages : goal.returns-clause-pages
 returns-clause-pages g c =
     let all = c.self.inside.pages.items in
     c.as_slice.ensures.value
-    ∙ segment_at (λ segment. segment.items) all c.args.number c.index.result.now (omega (arith, c.self.invariant.tables.all_segments, length-map all (λ segment. segment.items))) c.index.ensures
+    ∙ segment_at (λ segment. segment.items) all c.args.number c.index.result.now (omega (arith, c.self.invariant.whole.tables.all_segments, length-map all (λ segment. segment.items))) c.index.ensures
     ∙ ap (λ view. list_at view.bytes c.args.number) c.self.view_is

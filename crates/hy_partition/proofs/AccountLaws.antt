@@ -1,0 +1,131 @@
+-- What an accepted command does to the accounts.
+use Rattle.std.proofs.Common.{◌≡◌, ℕ, zero, suc, ◌+◌, ◌<◌, ◌≤◌, ℤ, pos, ◌+ℤ◌, ◌==◌, Bool, true, false, cond, List, [], ◌∷◌, ◌++◌, map, filter, length, Some, None, refl, sym, ap, ◌∙◌, subst, arith, eq-eqb, length-append, lit≤}
+use Rattle.std.specs.Prelude.{fold}
+use Rattle.std.proofs.lemmas.Int.{ints}
+use Rattle.std.proofs.lemmas.Bool.Decides.{nat_tests}
+use Rattle.std.proofs.lemmas.List.{append-nil}
+use Rattle.std.proofs.lemmas.List.Elements.{filter-append}
+use Rattle.hy_rows.specs.declared.item.Item.{Item}
+use Rattle.hy_rows.specs.declared.warehouse.Warehouse.{Warehouse}
+use Rattle.hy_rows.specs.Finding.{first_or, is_warehouse, with_changed}
+use Rattle.hy_rows.specs.Rows.{order_of}
+use Rattle.hy_schema.specs.Keys.{district_numbers}
+use Rattle.hy_schema.specs.Related.{is_order}
+use Rattle.hy_rows.specs.Tables.{Lists, Tables, of_warehouse}
+use Rattle.hy_schema.specs.Conditions.{column_sum}
+use Rattle.hy_ledger.specs.Books.{BookState, max_cents}
+use Rattle.hy_commands.specs.declared.command.Command.{Command}
+use Rattle.hy_commands.specs.declared.command.Command.TheVariants as commands
+use Rattle.hy_commands.specs.declared.command.Commit.{Commit}
+use Rattle.hy_commands.specs.declared.command.Commit.TheVariants as commits
+use Rattle.hy_commands.specs.declared.command.Delivery.{Delivery}
+use Rattle.hy_commands.specs.Commands.{command_of, home_of, is_reader, kept_of, warehouses_of}
+use Rattle.hy_commands.specs.Deliveries.{delivered_in, oldest, with_delivered}
+use Rattle.hy_commands.specs.Invariant.{IsSoundWarehouse}
+use Rattle.hy_commands.specs.Payments.{warehouse_paid}
+use Rattle.hy_commands.specs.Replay.{rows_after}
+use Rattle.hy_commands.specs.Transactions.{accepted, act, refusal_of}
+use Rattle.hy_commands.proofs.AcceptedLaws.{accepted-not_refused, accepted-payment}
+use Rattle.hy_commands.proofs.NamedLaws.{first-named, named-accepted}
+use Rattle.hy_partition.specs.Accounts.{IsBookOf, home_commits, taken_in, with_command}
+use Rattle.hy_partition.specs.Jobs.{cents_of}
+use Rattle.hy_partition.proofs.ReplayLaws.{act-accepted, replay-append}
+
+-- the home of an accepted command is the warehouse
+first-same : {one other : ℕ} {ones others : List ℕ} → one ∷ ones ≡ other ∷ others → one ≡ other
+first-same same = cc
+
+pub home-accepted : (items : List Item) (number : ℕ) (command : Command) (tables : Tables)
+    → refusal_of items number command tables ≡ None → home_of command ≡ number
+home-accepted items number command tables accepted =
+    first-same (sym (first-named command).1 ∙ named-accepted items number command tables accepted)
+
+-- W_YTD of the one warehouse after a payment
+taken-paid : (number cents : ℕ) (rows : List Warehouse) → map (λ (row : Warehouse). row.id) rows ≡ number ∷ []
+    → column_sum (λ (row : Warehouse). row.ytd) (with_changed (is_warehouse number) (warehouse_paid cents) rows)
+    ≡ column_sum (λ (row : Warehouse). row.ytd) rows +ℤ pos cents
+taken-paid number cents [] is = let short = ap length is in absurd (omega (arith, short))
+taken-paid number cents (row ∷ []) is =
+    let here : is_warehouse number row ≡ true = eq-eqb row.id number (first-same is) in
+    ap (λ b. column_sum (λ (row : Warehouse). row.ytd) (cond b (warehouse_paid cents row ∷ []) (row ∷ []))) here
+    ∙ omega (arith, ints)
+taken-paid number cents (row ∷ other ∷ rows) is = let long = ap length is in absurd (omega (arith, long))
+
+-- a delivery takes nothing in
+taken-delivered : (delivery : Delivery) (districts : List ℕ) (tables : Tables)
+    → (fold (delivered_in delivery) tables districts).warehouses ≡ tables.warehouses
+taken-delivered delivery [] tables = refl
+taken-delivered delivery (district ∷ districts) tables =
+    taken-delivered delivery districts (delivered_in delivery tables district) ∙ one
+  where
+    one : (delivered_in delivery tables district).warehouses ≡ tables.warehouses
+    one =
+        elim (oldest delivery.warehouse district tables == 0) as (λ b. (cond b tables (with_delivered delivery
+        (first_or (order_of []) (is_order delivery.warehouse district (oldest delivery.warehouse district tables))
+        tables.orders) tables)).warehouses ≡ tables.warehouses) [ true ↦ refl | false ↦ refl ]
+
+taken-accepted : (items : List Item) (number : ℕ) (command : Command) (tables : Tables)
+    → map (λ (row : Warehouse). row.id) tables.warehouses ≡ number ∷ [] → home_of command ≡ number
+    → taken_in (accepted items number command tables).tables ≡ taken_in tables +ℤ pos (cents_of command)
+taken-accepted items number (commands.NewOrder order) tables one home = omega (arith, ints)
+taken-accepted items number (commands.Payment payment) tables one home =
+    taken-paid payment.warehouse payment.amount tables.warehouses (one ∙ ap (λ n. n ∷ []) (sym home))
+taken-accepted items number (commands.OrderStatus status) tables one home = omega (arith, ints)
+taken-accepted items number (commands.Delivery delivery) tables one home =
+    ap (column_sum (λ (row : Warehouse). row.ytd)) (taken-delivered delivery district_numbers tables) ∙ omega (arith, ints)
+taken-accepted items number (commands.StockLevel level) tables one home = omega (arith, ints)
+
+-- the commits of a warehouse with one more of its own
+home-more : (number : ℕ) (kept : List Commit) (command : Command) → home_of command ≡ number
+    → length (home_commits number (kept ++ commits.Local command ∷ [])) ≡ length (home_commits number kept) + 1
+home-more number kept command home =
+    let test : Commit → Bool = λ commit. home_of (command_of commit) == number in
+    ap length (filter-append test kept (commits.Local command ∷ []))
+    ∙ ap (λ b. length (home_commits number kept ++ cond b (commits.Local command ∷ []) [])) (eq-eqb (home_of command) number home)
+    ∙ length-append (home_commits number kept) (commits.Local command ∷ [])
+
+-- the book after an accepted command is that of the commits with this one
+pub booked : (lists : Lists) (number : ℕ) (kept : List Commit) (book : BookState) (command : Command)
+    → IsSoundWarehouse lists.items number (rows_after lists number kept)
+    → refusal_of lists.items number command (rows_after lists number kept) ≡ None → IsBookOf lists number kept book
+    → IsBookOf lists number (kept ++ kept_of command) (with_command book command)
+booked lists number kept book command sound accepted is =
+    elim (is_reader command) as (λ b. is_reader command ≡ b
+    → IsBookOf lists number (kept ++ cond b [] (commits.Local command ∷ []))
+    (cond b book (record book { commits = book.commits + 1; cents = book.cents + cents_of command }))) [
+      | true ↦ λ reads. subst (λ commits. IsBookOf lists number commits book) (sym (append-nil kept)) is
+      | false ↦ λ writes.
+          let home = home-accepted lists.items number command (rows_after lists number kept) accepted in
+          record {
+            warehouse_is = is.warehouse_is;
+            commits_are = ap (λ n. n + 1) is.commits_are ∙ sym (home-more number kept command home);
+            cents_are =
+                ap taken_in (replay-append lists.items number (of_warehouse number lists.tables) kept command
+                ∙ ap (λ o. o.tables) (act-accepted lists.items number command (rows_after lists number kept) accepted))
+                ∙ taken-accepted lists.items number command (rows_after lists number kept) sound.rows.warehouse home
+                ∙ ap (λ z. z +ℤ pos (cents_of command)) is.cents_are
+                ∙ omega (arith, ints);
+          }
+    ] refl
+
+-- no command pays more than a share holds
+pub cents-small : (items : List Item) (number : ℕ) (command : Command) (tables : Tables)
+    → refusal_of items number command tables ≡ None → cents_of command ≤ max_cents
+cents-small items number (commands.Payment payment) tables accepted =
+    let amount = (accepted-payment items number payment tables
+    (accepted-not_refused items number (commands.Payment payment) tables accepted)).amount in
+    grind (arith, nat_tests, amount)
+cents-small items number (commands.NewOrder order) tables accepted = lit≤ tt
+cents-small items number (commands.OrderStatus status) tables accepted = lit≤ tt
+cents-small items number (commands.Delivery delivery) tables accepted = lit≤ tt
+cents-small items number (commands.StockLevel level) tables accepted = lit≤ tt
+
+-- there are no more commits of the warehouse than are kept
+pub home-few : (number : ℕ) (kept : List Commit) → length (home_commits number kept) ≤ length kept
+home-few number [] = lit≤ tt
+home-few number (commit ∷ kept) =
+    elim (home_of (command_of commit) == number) as
+    (λ b. length (cond b (commit ∷ home_commits number kept) (home_commits number kept)) ≤ suc (length kept)) [
+      | true ↦ omega (arith, home-few number kept)
+      | false ↦ omega (arith, home-few number kept)
+    ]

@@ -1,0 +1,146 @@
+-- The parts of a partition stay tied.
+use Rattle.std.proofs.Common.{◌≡◌, ◌≢◌, ℕ, ◌+◌, ◌<◌, ◌≤◌, ◌==◌, ◌||◌, Bool, true, false, not, cond, List, [], ◌∷◌, ◌++◌, filter, length, Option, Some, None, inl, inr, refl, sym, ap, ◌∙◌, subst, arith, eq-eqb, length-append, true≢false}
+use Rattle.std.specs.Prelude.{IsSome, is_some, slice_index_or}
+use Rattle.std.proofs.lemmas.Bool.{cases_eq, eqb-true}
+use Rattle.hy_rows.specs.Tables.{Lists}
+use Rattle.hy_passes.specs.Worlds.{KeptState}
+use Rattle.hy_ledger.specs.Books.{BookState, new_book}
+use Rattle.hy_tickets.specs.Desks.{DeskState, is_out, without}
+use Rattle.hy_commands.specs.declared.command.Command.{Command}
+use Rattle.hy_commands.specs.declared.command.Commit.{Commit}
+use Rattle.hy_commands.specs.Commands.{kept_of}
+use Rattle.hy_space.specs.Space.{SpaceState}
+use Rattle.hy_undo.specs.UndoLog.{UndoLog}
+use Rattle.hy_tpcc.specs.Executor.{ExecutorState}
+use Rattle.hy_partition.specs.Accounts.{IsBookOf, with_command}
+use Rattle.hy_partition.specs.Jobs.{DoneState, Log, RunningJob}
+use Rattle.hy_partition.specs.Partition.{PartitionState, commits_of, refusal_now}
+use Rattle.hy_partition.specs.inside.Soundness.{IsSound, IsTied}
+use Rattle.hy_partition.proofs.AccountLaws.{booked}
+use Rattle.hy_partition.proofs.SoundLaws.{sound_now}
+
+-- a number that isn't out where no snapshot has it
+none-some : {o : Option ℕ} → o ≡ None → IsSome o → ⊥
+none-some none some = true≢false (sym some ∙ ap is_some none)
+
+not-out : (b : Bool) → (b ≡ true → ⊥) → b ≡ false
+not-out true never = absurd (never refl)
+not-out false never = refl
+
+-- what is out with one more, and without one
+out-more : (out : List ℕ) (number other : ℕ) → is_out (number ∷ out) other ≡ true
+    → (number ≡ other → ⊥) → is_out out other ≡ true
+out-more out number other is apart = by (number == other) refl is
+  where
+    by : (b : Bool) → (number == other) ≡ b → (b || is_out out other) ≡ true → is_out out other ≡ true
+    by true same is = absurd (apart (eqb-true number other same))
+    by false same is = is
+
+out-less : (out : List ℕ) (number other : ℕ) → is_out (without out number) other ≡ true
+    → (other ≡ number → ⊥) × (is_out out other ≡ true)
+out-less [] number other is = absurd (true≢false (sym is))
+out-less (first ∷ out) number other is =
+    by (first == number) refl (first == other) refl is (out-less out number other)
+  where
+    by : (gone : Bool) → (first == number) ≡ gone → (here : Bool) → (first == other) ≡ here
+        → is_out (cond (not gone) (first ∷ without out number) (without out number)) other ≡ true
+        → (is_out (without out number) other ≡ true → (other ≡ number → ⊥) × (is_out out other ≡ true))
+        → (other ≡ number → ⊥) × ((here || is_out out other) ≡ true)
+    by true gone true here is later = let was = later is in (was.0, refl)
+    by true gone false here is later = later is
+    by false gone true here is later = (
+      λ same. true≢false (sym (eq-eqb first number (eqb-true first other here ∙ same)) ∙ gone),
+      refl,
+    )
+    by false gone false here is later =
+        later (ap (λ b. b || is_out (without out number) other) (sym here) ∙ is)
+
+module _ (world : Lists) (list : KeptState Commit) (desk : DeskState) (p : PartitionState) (tied : IsTied world list desk p) where
+  -- a job begins, goes on, or is refused
+  pub tied-same : (room : ℕ) (running : Option RunningJob) (undo : UndoLog) (finished : Option DoneState) (space : SpaceState)
+      → IsTied world (record list { room = room }) desk
+      (record p { running = running; undo = undo; finished = finished; space = space })
+  tied-same room running undo finished space = record {
+    load_is = tied.load_is;
+    list_of = tied.list_of;
+    desk_of = tied.desk_of;
+    tickets = tied.tickets;
+    within = tied.within;
+    book = tied.book;
+  }
+
+  -- a command was accepted
+  pub tied-accepted : (n room : ℕ) (executor : ExecutorState) (list' : KeptState Commit) (job : RunningJob) (kept : List Commit)
+      (book : BookState) (undo : UndoLog) (finished : Option DoneState) (space : SpaceState) → IsSound n room executor p
+      → refusal_now p job.command ≡ None → list'.warehouse ≡ list.warehouse → kept ≡ p.kept ++ kept_of job.command
+      → book ≡ with_command p.book job.command
+      → IsTied world list' desk (record p {
+        seen = list'.seen;
+        kept = kept;
+        book = book;
+        running = None;
+        undo = undo;
+        finished = finished;
+        space = space;
+      })
+  tied-accepted n room executor list' job kept book undo finished space sound accepted same longer more = record {
+    load_is = tied.load_is;
+    list_of = same ∙ tied.list_of;
+    desk_of = tied.desk_of;
+    tickets = tied.tickets;
+    within = omega (arith, tied.within, ap length longer, length-append p.kept (kept_of job.command));
+    book = subst (λ commits. IsBookOf p.load p.warehouse commits book) (sym longer)
+        (subst (λ b. IsBookOf p.load p.warehouse (p.kept ++ kept_of job.command) b) (sym more)
+        (booked p.load p.warehouse p.kept p.book job.command (sound_now n room executor p sound) accepted tied.book));
+  }
+
+  -- a child that no snapshot has is no ticket's number
+  pub free_number : (child : ℕ) → commits_of p child ≡ None → is_out desk.out child ≡ false
+  free_number child none = not-out (is_out desk.out child) (λ out. none-some none (tied.tickets child out))
+
+  -- a snapshot was opened, and the partition told of more that isn't its warehouse's
+  pub tied-opened : (list' : KeptState Commit) (kept : List Commit) (space : SpaceState) (snapshots : List (Option ℕ))
+      (child count : ℕ) → list'.warehouse ≡ list.warehouse → kept ≡ p.kept
+      → slice_index_or snapshots child None ≡ Some count
+      → ((other : ℕ) → other ≢ child → slice_index_or snapshots other None ≡ commits_of p other)
+      → IsTied world list' (record desk { out = child ∷ desk.out })
+      (record p { seen = list'.seen; kept = kept; space = space; snapshots = snapshots })
+  tied-opened list' kept space snapshots child count same still here others = record {
+    load_is = tied.load_is;
+    list_of = same ∙ tied.list_of;
+    desk_of = tied.desk_of;
+    tickets = λ other out. elim (cases_eq other child) [
+      | inl is ↦ subst (λ c. IsSome (slice_index_or snapshots c None)) (sym is) (ap is_some here)
+      | inr apart ↦ ap is_some (others other apart)
+          ∙ tied.tickets other (out-more desk.out child other out (λ is. apart (sym is)))
+    ];
+    within = omega (arith, tied.within, ap length still);
+    book = subst (λ commits. IsBookOf p.load p.warehouse commits p.book) (sym still) tied.book;
+  }
+
+  -- one was closed
+  pub tied-closed : (space : SpaceState) (snapshots : List (Option ℕ)) (child : ℕ)
+      → ((other : ℕ) → other ≢ child → slice_index_or snapshots other None ≡ commits_of p other)
+      → IsTied world list (record desk { out = without desk.out child })
+      (record p { space = space; snapshots = snapshots })
+  tied-closed space snapshots child others = record {
+    load_is = tied.load_is;
+    list_of = tied.list_of;
+    desk_of = tied.desk_of;
+    tickets = λ other out.
+        let was = out-less desk.out child other out in ap is_some (others other was.0) ∙ tied.tickets other was.1;
+    within = tied.within;
+    book = tied.book;
+  }
+
+  -- a fork was refused
+  pub tied-unforked : (space : SpaceState) (snapshots : List (Option ℕ)) → snapshots ≡ p.snapshots
+      → IsTied world list desk (record p { space = space; snapshots = snapshots })
+  tied-unforked space snapshots same = record {
+    load_is = tied.load_is;
+    list_of = tied.list_of;
+    desk_of = tied.desk_of;
+    tickets = λ other out. ap (λ all. is_some (slice_index_or all other None)) same ∙ tied.tickets other out;
+    within = tied.within;
+    book = tied.book;
+  }
