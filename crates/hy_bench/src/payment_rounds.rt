@@ -1,12 +1,17 @@
 //! Rounds over a partition of one warehouse.
 
-use hy_commands::{Command, Payment, Reply, Who};
+ghost use Rattle.std.specs.Prelude.{◌≡◌, ◌≤◌, length};
+ghost use Rattle.hy_passes.specs.Worlds.{new_partition};
+
+use hy_commands::{Command, Commit, Payment, Reply, Who};
 use hy_loads::Load;
-use hy_partition::{Job, Partition};
+use hy_partition::{Job, Loaded, Partition};
+use hy_passes::{Journal, Kit, PartitionSeat, Pass, make};
 use hy_rows::Warehouse;
 use hy_schema::Refusal;
 use hy_tables::generated;
 use std::alloc::Global;
+use std::marker::Brand;
 
 /// The bytes of a page.
 const SIZE: usize = 4096;
@@ -19,22 +24,56 @@ pub fn run(alloc: Global, rounds: u64, customers: u64) -> Option<u64> {
     if load.list::<Warehouse>().is_empty() {
         return None;
     }
-    let mut partition: Partition<SIZE> = Partition::new(
-        alloc,
-        &load,
-        1,
-        10_000_000,
-        100_000_000,
-    ).ok()?;
+    let kit = make::<Commit>(alloc, 1, 1, 1).ok()?;
+    payments::<Brand>(alloc, &load, kit, rounds).ok()
+}
+
+/// The same in the world of the load and the kit. Answers how many commits are kept.
+fn payments<K: Loaded>(
+    alloc: Global,
+    load: &Load,
+    kit: Kit<Commit>,
+    rounds: u64,
+) -> Result<u64, Refusal>
+    requires load { load.now ≡ K.load }
+    requires warehouse { 1 ≤ length load.now.tables.warehouses }
+    requires kit { kit ≡ K.passes }
+    requires partitions { kit.partitions ≡ 1 }
+    requires clients { kit.clients ≡ 1 }
+{
+    let (_passes, mut journal, mut seats, mut clients) = kit.open::<K>()?;
+    let mut pass = clients.take_last();
+    let seat = seats.take_last();
+    let mut partition = on_pages(alloc, load, seat)?;
     for _ in 0..rounds {
-        pay(&mut partition).ok()?;
+        pass = pay(&mut partition, &mut journal, pass)?;
     }
-    Some(partition.kept().len() as u64)
+    Ok(partition.kept().len() as u64)
+}
+
+/// The warehouse on pages, with as many frames and commits as may be.
+fn on_pages<K: Loaded>(
+    alloc: Global,
+    load: &Load,
+    seat: PartitionSeat<Commit, K>,
+) -> Result<Partition<SIZE, K>, Refusal>
+    requires load { load.now ≡ K.load }
+    requires warehouse { 1 ≤ length load.now.tables.warehouses }
+    requires seat { seat ≡ new_partition 1 }
+{
+    match Partition::new(alloc, load, 1, seat, 10_000_000, 100_000_000) {
+        Ok(partition) => Ok(partition),
+        Err((_seat, refusal)) => Err(refusal),
+    }
 }
 
 /// One payment, from its begin to its answer.
-fn pay(partition: &mut Partition<SIZE>) -> Result<(), Refusal> {
-    let job = Job::new(Command::Payment(Payment {
+fn pay<K: Loaded>(
+    partition: &mut Partition<SIZE, K>,
+    journal: &mut Journal<Commit, K>,
+    pass: Pass<Commit, K>,
+) -> Result<Pass<Commit, K>, Refusal> {
+    let payment = Command::Payment(Payment {
         warehouse: 1,
         district: 1,
         customer_warehouse: 1,
@@ -42,16 +81,15 @@ fn pay(partition: &mut Partition<SIZE>) -> Result<(), Refusal> {
         who: Who::Number(1),
         amount: 100,
         at: 1,
-    }));
-    if let Err((_job, refusal)) = partition.begin(job) {
+    });
+    if let Err((_job, refusal)) = partition.begin(Job::new(payment, pass)) {
         return Err(refusal);
     }
-    partition.finish_running();
-    match partition.take_done() {
-        Some(done) => match done.open() {
-            Reply::Refused(refusal) => Err(refusal),
-            _ => Ok(()),
-        },
+    partition.step(journal)?;
+    partition.step(journal)?;
+    match partition.take_done().map(|done| done.open()) {
+        Some((Reply::Refused(refusal), _, _)) => Err(refusal),
+        Some((_, pass, _share)) => Ok(pass),
         None => Err(Refusal::NotRunning),
     }
 }

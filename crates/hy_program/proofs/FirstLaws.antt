@@ -13,7 +13,7 @@ use Rattle.hy_commands.specs.Commands.{is_reader}
 use Rattle.hy_commands.specs.Replay.{replay}
 use Rattle.hy_commands.specs.Transactions.{act, begin_refusal_of, refusal_of}
 use Rattle.hy_partition.specs.Jobs.{RunningJob}
-use Rattle.hy_partition.specs.Partition.{PartitionState, refusal_now, rows_now}
+use Rattle.hy_partition.specs.Partition.{PartitionState, Terms, refusal_now, rows_now}
 use Rattle.hy_partition.specs.Steps.{Begins, begin_refusal, is_busy, is_full}
 use Rattle.hy_program.specs.First.{IsFirstRefusal, IsPaid, IsPayRefusal, IsYtdAfter, first_command, first_payment, ytds_of}
 use Rattle.hy_program.specs.Generated.{generated, generated_items}
@@ -36,16 +36,14 @@ HasBegun p = Begins (generated_lists 1 3 1) 1 100_000 1_000_000 p
 -- the rows that the partition has begun with
 rows-begun : (p : PartitionState) → HasBegun p → rows_now p ≡ of_warehouse 1 (generated 3)
 rows-begun p b =
-    ap (λ (load : Lists). replay load.items p.warehouse (of_warehouse p.warehouse load.tables) p.kept) b.load
-    ∙ ap (λ (w : ℕ). replay (generated_items 3) w (of_warehouse w (generated 3)) p.kept) b.warehouse
+    ap (λ (t : Terms). replay t.load.items t.warehouse (of_warehouse t.warehouse t.load.tables) p.kept) b.terms
     ∙ ap (replay (generated_items 3) 1 (of_warehouse 1 (generated 3))) b.kept
 
 -- what the warehouse refuses
 refusal-begun : (p : PartitionState) (command : Command) → HasBegun p
     → refusal_now p command ≡ refusal_of (generated_items 3) 1 command (generated 3)
 refusal-begun p command b =
-    ap (λ (load : Lists). refusal_of load.items p.warehouse command (rows_now p)) b.load
-    ∙ ap (λ (w : ℕ). refusal_of (generated_items 3) w command (rows_now p)) b.warehouse
+    ap (λ (t : Terms). refusal_of t.load.items t.warehouse command (rows_now p)) b.terms
     ∙ ap (refusal_of (generated_items 3) 1 command) (rows-begun p b)
 
 -- a partition that has just begun doesn't begin only what the warehouse refuses
@@ -55,7 +53,7 @@ begin-begun p command refusal b is =
     let running = ap (λ (r : Option RunningJob). is_some r || is_some p.finished) b.running in
     let busy : is_busy p ≡ false = running ∙ ap is_some b.finished in
     let full : is_full p ≡ false =
-    ap (λ (kept : List Commit). length kept == p.max_kept) b.kept ∙ ap (λ (n : ℕ). 0 == n) b.max_kept in
+    ap (λ (kept : List Commit). length kept == p.max_kept) b.kept ∙ ap (λ (t : Terms). 0 == t.max_kept) b.terms in
     let why = ap (λ (b : Bool). cond b (Some refusals.Busy) (option_or (begin_refusal_of p.warehouse command (rows_now p))
     (cond (not (is_reader command) && is_full p) (Some refusals.HistoryFull) None))) busy in
     let less = ap (λ (b : Bool). option_or (begin_refusal_of p.warehouse command (rows_now p))
@@ -72,8 +70,7 @@ ytd_after amount p new ytd b paid is =
     let command : Command = first_command amount in
     let kept = paid.kept ∙ ap (λ (kept : List Commit). kept ++ commits.Local command ∷ []) b.kept in
     let rows : rows_now new ≡ (act (generated_items 3) 1 command (of_warehouse 1 (generated 3))).tables =
-    ap (λ (load : Lists). replay load.items new.warehouse (of_warehouse new.warehouse load.tables) new.kept) (paid.load ∙ b.load)
-    ∙ ap (λ (w : ℕ). replay (generated_items 3) w (of_warehouse w (generated 3)) new.kept) (paid.warehouse ∙ b.warehouse)
+    ap (λ (t : Terms). replay t.load.items t.warehouse (of_warehouse t.warehouse t.load.tables) new.kept) (paid.terms ∙ b.terms)
     ∙ ap (replay (generated_items 3) 1 (of_warehouse 1 (generated 3))) kept in
     (sym (refusal-begun p command b) ∙ paid.accepted, sym (ap ytds_of rows) ∙ is)
 

@@ -15,7 +15,7 @@ use Rattle.hy_partition.specs.Jobs.{RunningJob}
 use Rattle.hy_slices.specs.Slices.{slice_count}
 use Rattle.hy_partition.specs.Steps.{begin_refusal}
 use Rattle.hy_rows.specs.Spelling.{tables_of}
-use Rattle.hy_partition.specs.Partition.{PartitionState, refusal_now}
+use Rattle.hy_partition.specs.Partition.{PartitionState, refusal_now, terms_of}
 use Rattle.hy_partition.specs.Snapshots.{SnapshotState}
 use Rattle.hy_undo.specs.UndoLog.{empty_log}
 use Rattle.hy_program.specs.declared.fault.RunFault.{RunFault}
@@ -56,8 +56,7 @@ HasTwoSlices job = (slice_count job.command ≡ 2) × (job.slices ≡ 0)
 -- a payment was accepted and kept, and nothing else
 pub record IsPaid (payment : Payment) (old new : PartitionState) : Type 0 where
   pub accepted : refusal_now old (commands.Payment payment) ≡ None
-  pub load : new.load ≡ old.load
-  pub warehouse : new.warehouse ≡ old.warehouse
+  pub terms : terms_of new ≡ terms_of old
   pub idle : new.running ≡ None
   pub undo : new.undo ≡ empty_log new.space
   pub kept : new.kept ≡ old.kept ++ commits.Local (commands.Payment payment) ∷ []

@@ -2,9 +2,10 @@
 use Rattle.std.proofs.Common.{◌≡◌, ◌∙◌, ◌+◌, ◌<◌, ℕ, zero, suc, List, [], ◌∷◌, ◌++◌, length, remove, slice_get, take, drop, IfSome, ap, append-nil, arith, refl}
 use Rattle.std.proofs.lemmas.List.{drop_all, take_all}
 use Rattle.std.specs.List.{AllByRecursion}
+use Rattle.hy_partition.specs.Jobs.{Log}
 use Rattle.hy_script.specs.Databases.{Each, WarehouseState}
 use Rattle.hy_script.specs.Steps.{Gains, Loses, StaysAsItWas}
-use Rattle.hy_script.specs.inside.Open.{CanLose, HasSnapshots}
+use Rattle.hy_script.specs.inside.Invariants.{CanLose, HasSnapshots}
 use Rattle.hy_script.proofs.ForkLaws.{length-push}
 
 pub length-each : (Becomes : WarehouseState → WarehouseState → Type 0) (old new : List WarehouseState)
@@ -26,14 +27,14 @@ can_lose count place within [] has = tt
 can_lose count place within (warehouse ∷ later) has =
     (omega (arith, has.0, within), can_lose count place within later has.1)
 
-pub gained : (n count : ℕ) (old new : List WarehouseState) → Each (Gains n) old new
+pub gained : (n count : ℕ) (log : Log) (old new : List WarehouseState) → Each (Gains n log) old new
     → AllByRecursion (HasSnapshots count) old → AllByRecursion (HasSnapshots (count + 1)) new
-gained n count [] [] each has = tt
-gained n count [] (new ∷ next) each has = absurd each
-gained n count (old ∷ later) [] each has = absurd each
-gained n count (old ∷ later) (new ∷ next) each has = (
+gained n count log [] [] each has = tt
+gained n count log [] (new ∷ next) each has = absurd each
+gained n count log (old ∷ later) [] each has = absurd each
+gained n count log (old ∷ later) (new ∷ next) each has = (
   omega (arith, has.0, ap length each.0.snapshots, length-push old.snapshots each.0.snapshot),
-  gained n count later next each.1 has.1,
+  gained n count log later next each.1 has.1,
 )
 
 pub stayed : (count : ℕ) (old new : List WarehouseState) → Each StaysAsItWas old new

@@ -6,21 +6,39 @@ use Rattle.std.proofs.lemmas.Bool.{cases_eq}
 use Rattle.hy_frames.specs.FrameTable.{count_of}
 use Rattle.hy_space.specs.Space.{CountsAreExact, SpaceState, child_bytes, child_table, maps}
 use Rattle.hy_partition.specs.Partition.{PartitionState, commits_of}
-use Rattle.hy_partition.specs.Steps.{StaysUnforked}
+use Rattle.hy_partition.specs.Jobs.{Log}
+use Rattle.hy_partition.specs.Steps.{KeepsJob, StaysUnforked}
 use Rattle.hy_partition.specs.Snapshots.{SnapshotState}
 use Rattle.hy_script.specs.Databases.{Each, WarehouseState}
 use Rattle.hy_script.specs.Steps.{Gains, Loses, StaysAsItWas}
 
-pub StaysAsItWas-refl : (warehouse : WarehouseState) → StaysAsItWas warehouse warehouse
-StaysAsItWas-refl warehouse = record {
-  load = refl;
-  warehouse = refl;
+pub KeepsJob-refl : (p : PartitionState) → KeepsJob p p
+KeepsJob-refl p = record {
+  terms = refl;
   kept = refl;
-  max_kept = refl;
+  drained = refl;
+  book = refl;
   running = refl;
   undo = refl;
   finished = refl;
   owner = record { table = refl; bytes = refl };
+}
+
+KeepsJob-then : (old middle new : PartitionState) → KeepsJob old middle → KeepsJob middle new → KeepsJob old new
+KeepsJob-then old middle new first next = record {
+  terms = next.terms ∙ first.terms;
+  kept = next.kept ∙ first.kept;
+  drained = next.drained ∙ first.drained;
+  book = next.book ∙ first.book;
+  running = next.running ∙ first.running;
+  undo = next.undo ∙ first.undo;
+  finished = next.finished ∙ first.finished;
+  owner = record { table = next.owner.table ∙ first.owner.table; bytes = next.owner.bytes ∙ first.owner.bytes };
+}
+
+pub StaysAsItWas-refl : (warehouse : WarehouseState) → StaysAsItWas warehouse warehouse
+StaysAsItWas-refl warehouse = record {
+  job = KeepsJob-refl warehouse.partition;
   max_frames = refl;
   open_snapshots = λ child. refl;
   tables = λ child. refl;
@@ -33,14 +51,7 @@ StaysAsItWas-refl warehouse = record {
 pub unforked : (old new : PartitionState) (held : List SnapshotState) → StaysUnforked old new
     → StaysAsItWas (record { partition = old; snapshots = held }) (record { partition = new; snapshots = held })
 unforked old new held stays = record {
-  load = stays.job.load;
-  warehouse = stays.job.warehouse;
-  kept = stays.job.kept;
-  max_kept = stays.job.max_kept;
-  running = stays.job.running;
-  undo = stays.job.undo;
-  finished = stays.job.finished;
-  owner = stays.job.owner;
+  job = stays.job;
   max_frames = stays.max_frames;
   open_snapshots = stays.snapshots;
   tables = stays.tables;
@@ -109,10 +120,10 @@ none_mapped : {A B : Type 0} (to : A → B) (value : Option A) → option_map to
 none_mapped to None is = refl
 none_mapped to (Some x) is = absurd (cc)
 
-pub closed_again : (n : ℕ) (old middle new : WarehouseState) → Gains n old middle
+pub closed_again : (n : ℕ) (log : Log) (old middle new : WarehouseState) → Gains n log old middle
     → Loses (length middle.snapshots - 1) middle new
     → CountsAreExact old.partition.space → CountsAreExact new.partition.space → StaysAsItWas old new
-closed_again n old middle new gains loses old_exact new_exact =
+closed_again n log old middle new gains loses old_exact new_exact =
     let at : length middle.snapshots - 1 ≡ length old.snapshots =
     omega (arith, ap length gains.snapshots, length-push old.snapshots gains.snapshot) in
     let there : slice_get (old.snapshots ++ gains.snapshot ∷ []) (length middle.snapshots - 1) ≡ Some loses.snapshot =
@@ -139,18 +150,8 @@ closed_again n old middle new gains loses old_exact new_exact =
     ] in
     let owner = loses.closes.job.owner.table ∙ gains.forks.job.owner.table in
     record {
-      load = loses.closes.job.load ∙ gains.forks.job.load;
-      warehouse = loses.closes.job.warehouse ∙ gains.forks.job.warehouse;
-      kept = loses.closes.job.kept ∙ gains.forks.job.kept;
-      max_kept = loses.closes.job.max_kept ∙ gains.forks.job.max_kept;
-      running = loses.closes.job.running ∙ gains.forks.job.running;
-      undo = loses.closes.job.undo ∙ gains.forks.job.undo;
-      finished = loses.closes.job.finished ∙ gains.forks.job.finished;
-      owner = record {
-        table = loses.closes.job.owner.table ∙ gains.forks.job.owner.table;
-        bytes = loses.closes.job.owner.bytes ∙ gains.forks.job.owner.bytes;
-      };
-      max_frames = loses.closes.users.limit ∙ gains.forks.max_frames;
+      job = KeepsJob-then old.partition middle.partition new.partition gains.forks.job loses.closes.job;
+      max_frames = loses.closes.max_frames ∙ gains.forks.max_frames;
       open_snapshots = λ child. elim (cases_eq child gains.snapshot.child) [
         | inl it ↦ rw it (closed ∙ sym gains.forks.fresh)
         | inr other ↦ others child other ∙ gains.forks.others.commits child other

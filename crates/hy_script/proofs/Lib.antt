@@ -1,8 +1,12 @@
-pub mod OpenLaws
+pub mod ResultLaws
+pub mod ListLaws
 pub mod StepLaws
+pub mod SnapshotLaws
 pub mod ForkLaws
 pub mod EachLaws
 pub mod NameLaws
+pub mod SeatLaws
+pub mod AskLaws
 pub mod RowLaws
 pub mod HeldLaws
 pub mod RunLaws

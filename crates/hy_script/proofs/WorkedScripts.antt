@@ -11,7 +11,7 @@ use Rattle.hy_script.specs.Scripts.{IsBad, Prints}
 
 -- a database without warehouses
 abbrev nothing : DatabaseState
-nothing = record { warehouses = []; names = [] }
+nothing = record { warehouses = []; names = []; log = [] }
 
 warehouse_0_is_not_there : Asks 0 requests.Step nothing nothing (codes "refused E4 NoSuchWarehouse\n")
 warehouse_0_is_not_there = (refl, refl)

@@ -13,11 +13,12 @@ use Rattle.hy_frames.specs.FrameTable.{IsLimitFor, free_of, shared_of}
 use Rattle.hy_undo.specs.Touched.{touched}
 use Rattle.hy_partition.specs.declared.job.Progress.{Progress}
 use Rattle.hy_partition.specs.declared.job.Progress.TheVariants as progress
-use Rattle.hy_partition.specs.Jobs.{DoneState}
+use Rattle.hy_partition.specs.Jobs.{Log}
+use Rattle.hy_partition.specs.Steps.{IsUnbegun}
 use Rattle.hy_script.specs.declared.answer.Request.{Request}
 use Rattle.hy_script.specs.declared.answer.Request.TheVariants as requests
 use Rattle.hy_script.specs.Databases.{DatabaseState, Each, HasName, IsNameAt, WarehouseState, warehouse_at, with_warehouse}
-use Rattle.hy_script.specs.Steps.{Advances, Gains, IsBegun, IsLimited, IsUnbegun, IsWhyUnforked, Loses, Runs, StaysAsItWas, limit_for}
+use Rattle.hy_script.specs.Steps.{Advances, Gains, IsBegun, IsLimited, IsWhyUnforked, Loses, Runs, StaysAsItWas, limit_for, reply_waiting}
 
 -- ---- texts
 
@@ -57,45 +58,43 @@ closed_text name = codes "closed " ++ name ++ codes "\n"
 abbrev pub with_reply_taken : WarehouseState → WarehouseState
 with_reply_taken warehouse = record warehouse { partition = record warehouse.partition { finished = None } }
 
--- the reply that waits
-abbrev pub reply_waiting : Option DoneState → Option Reply
-reply_waiting None = None
-reply_waiting (Some done) = Some done.reply
-
-abbrev pub Grants : Request → WarehouseState → WarehouseState → List ℕ → Type 0
-Grants (requests.Run command) old new text =
-    (reply : Reply) × Runs command old new reply × (text ≡ reply_text reply)
-Grants (requests.Begin command) old new text =
-    (IsBegun command old new × (text ≡ begun_text))
-    ⊎ ((why : Refusal) × IsUnbegun command old why × (new ≡ old) × (text ≡ refused_text why))
-Grants requests.Step old new text =
-    MatchOption old.partition.running ((new ≡ old) × (text ≡ refused_text refusals.NotRunning)) (λ job.
-    (progress : Progress) × Advances job old new progress × (text ≡ progress_text progress))
-Grants requests.Done old new text =
-    (new ≡ with_reply_taken old) × (text ≡ waiting_text (reply_waiting old.partition.finished))
-Grants requests.Touched old new text =
-    (new ≡ old) × (text ≡ count_text (codes "touched") (touched old.partition.undo))
-Grants requests.Free old new text =
-    (new ≡ old) × (text ≡ count_text (codes "free") (free_of old.partition.space.frames))
-Grants requests.Shared old new text =
-    (new ≡ old) × (text ≡ count_text (codes "shared") (shared_of old.partition.space.frames))
-Grants (requests.Limit more) old new text =
-    (IsLimited more old new × (text ≡ count_text (codes "free") more))
+-- a request was granted: what it did to the serial list and to the warehouse, and what answers it
+abbrev pub Grants : Request → Log → Log → WarehouseState → WarehouseState → List ℕ → Type 0
+Grants (requests.Run command) before after old new text =
+    (reply : Reply) × Runs command before after old new reply × (text ≡ reply_text reply)
+Grants (requests.Begin command) before after old new text =
+    (after ≡ before) × ((IsBegun command old new × (text ≡ begun_text))
+    ⊎ ((why : Refusal) × IsUnbegun old.partition command why × (new ≡ old) × (text ≡ refused_text why)))
+Grants requests.Step before after old new text =
+    MatchOption old.partition.running ((after ≡ before) × (new ≡ old) × (text ≡ refused_text refusals.NotRunning)) (λ job.
+    (progress : Progress) × Advances job before after old new progress × (text ≡ progress_text progress))
+Grants requests.Done before after old new text =
+    (after ≡ before) × (new ≡ with_reply_taken old) × (text ≡ waiting_text (reply_waiting old.partition.finished))
+Grants requests.Touched before after old new text =
+    (after ≡ before) × (new ≡ old) × (text ≡ count_text (codes "touched") (touched old.partition.undo))
+Grants requests.Free before after old new text =
+    (after ≡ before) × (new ≡ old) × (text ≡ count_text (codes "free") (free_of old.partition.space.frames))
+Grants requests.Shared before after old new text =
+    (after ≡ before) × (new ≡ old) × (text ≡ count_text (codes "shared") (shared_of old.partition.space.frames))
+Grants (requests.Limit more) before after old new text =
+    (after ≡ before) × ((IsLimited more old new × (text ≡ count_text (codes "free") more))
     ⊎ ((¬ IsLimitFor old.partition.space.frames (limit_for old.partition.space.frames more)) × (new ≡ old)
-    × (text ≡ refused_text refusals.OutOfRange))
+    × (text ≡ refused_text refusals.OutOfRange)))
 
 -- a request to the warehouse of a number, which may not be there
 abbrev pub Asks : ℕ → Request → DatabaseState → DatabaseState → List ℕ → Type 0
 Asks number request old new text =
     MatchOption (warehouse_at old number) ((new ≡ old) × (text ≡ refused_text refusals.NoSuchWarehouse)) (λ warehouse.
-    (next : WarehouseState) × Grants request warehouse next text × (new ≡ with_warehouse old number next))
+    (next : WarehouseState) × Grants request old.log new.log warehouse next text
+    × (new ≡ record (with_warehouse old number next) { log = new.log }))
 
 -- ---- snapshots of all warehouses
 
 -- each warehouse was forked under a name that wasn't open
 pub record OpensName (page_size : ℕ) (name : List ℕ) (old new : DatabaseState) (text : List ℕ) : Type 0 where
-  pub forks : Each (Gains page_size) old.warehouses new.warehouses
+  pub forks : Each (Gains page_size old.log) old.warehouses new.warehouses
   pub names : new.names ≡ old.names ++ name ∷ []
+  pub log : new.log ≡ old.log
   pub prints : text ≡ snapshot_text name new.warehouses
 
 -- for want of frames or of memory no name was opened, and no snapshot is left of it
@@ -104,6 +103,7 @@ pub record OpensNone (old new : DatabaseState) (text : List ℕ) : Type 0 where
   pub reason : IsWhyUnforked old.warehouses why
   pub stays : Each StaysAsItWas old.warehouses new.warehouses
   pub names : new.names ≡ old.names
+  pub log : new.log ≡ old.log
   pub prints : text ≡ refused_text why
 
 -- the snapshot of a name was closed in each warehouse
@@ -112,6 +112,7 @@ pub record ClosesName (name : List ℕ) (old new : DatabaseState) (text : List �
   pub there : IsNameAt old.names name place
   pub closes : Each (Loses place) old.warehouses new.warehouses
   pub names : new.names ≡ remove old.names place
+  pub log : new.log ≡ old.log
   pub prints : text ≡ closed_text name
 
 -- ---- events

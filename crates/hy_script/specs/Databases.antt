@@ -1,5 +1,6 @@
 -- The partitions that a script runs on, with the snapshots that it has open.
 use Rattle.std.specs.Prelude.{◌≡◌, ⊤, ℕ, zero, suc, List, [], ◌∷◌, Option, Some, None, slice_get, slice_set}
+use Rattle.hy_partition.specs.Jobs.{Log}
 use Rattle.hy_partition.specs.Partition.{PartitionState}
 use Rattle.hy_partition.specs.Snapshots.{SnapshotState}
 
@@ -9,10 +10,11 @@ pub record WarehouseState : Type 0 where
   pub snapshots : List SnapshotState
 
 -- one for each warehouse in order, and the names of the open snapshots in the order of their forks: the snapshots of a
--- name stand at the same place in each warehouse
+-- name stand at the same place in each warehouse; and the serial list of the commits of all warehouses
 pub record DatabaseState : Type 0 where
   pub warehouses : List WarehouseState
   pub names : List (List ℕ)
+  pub log : Log
 
 -- the warehouse of a number, counted from 1
 abbrev pub warehouse_at : DatabaseState → ℕ → Option WarehouseState

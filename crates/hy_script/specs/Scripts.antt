@@ -31,11 +31,12 @@ Prints page_size (line ∷ later) database text bad =
     ⊎ ((next : DatabaseState) × (answer : List ℕ) × (rest : List ℕ) × AnswersLine page_size line.1 database next answer
     × (text ≡ answer ++ rest) × Prints page_size later next rest bad)
 
--- a database as the load has it: one warehouse for each of its rows of WAREHOUSE, and no snapshot
+-- a database as the load has it: one warehouse for each of its rows of WAREHOUSE, no snapshot, and no commit
 pub record StartsFrom (lists : Lists) (frames commits : ℕ) (database : DatabaseState) : Type 0 where
   pub count : length database.warehouses ≡ length lists.tables.warehouses
   pub each : (place : ℕ) → IfSome (slice_get database.warehouses place) (Starts lists (place + 1) frames commits)
   pub names : database.names ≡ []
+  pub log : database.log ≡ []
 
 -- what the script prints from the load stands behind the bytes that were there
 pub record IsPrinted (page_size : ℕ) (lists : Lists) (frames commits : ℕ) (script : List ℕ) (old new : Option (List ℕ))

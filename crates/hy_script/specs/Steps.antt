@@ -1,21 +1,21 @@
 -- What an event does to one warehouse, or to each.
-use Rattle.std.specs.Prelude.{◌≡◌, ◌⊎◌, ℕ, List, ◌+◌, ◌-◌, [], ◌∷◌, ◌++◌, None, Some, false, length, remove, slice_get, ◌<◌, ◌≤◌}
+use Rattle.std.specs.Prelude.{◌≡◌, ◌⊎◌, ℕ, List, ◌+◌, ◌-◌, [], ◌∷◌, ◌++◌, Option, None, Some, length, remove, slice_get, ◌<◌, ◌≤◌}
+use Rattle.hy_worlds.specs.Origins.{Origin}
 use Rattle.hy_schema.specs.declared.refusal.Refusal.{Refusal}
 use Rattle.hy_schema.specs.declared.refusal.Refusal.TheVariants as refusals
-use Rattle.hy_commands.specs.Commands.{is_reader}
 use Rattle.hy_commands.specs.declared.command.Command.{Command}
 use Rattle.hy_commands.specs.declared.reply.Reply.{Reply}
 use Rattle.hy_commands.specs.declared.reply.Reply.TheVariants as replies
 use Rattle.hy_frames.specs.FrameTable.{FrameTable, IsLimitFor, count_of, free_of}
 use Rattle.hy_rows.specs.Tables.{Lists, of_warehouse}
-use Rattle.hy_space.specs.Space.{SameForChildren, SameForOwner, child_bytes, child_table}
+use Rattle.hy_space.specs.Space.{SameForChildren, child_bytes, child_table}
 use Rattle.hy_undo.specs.Touched.{touched}
 use Rattle.hy_fill.specs.Frames.{frames_for}
 use Rattle.hy_partition.specs.declared.job.Progress.{Progress}
-use Rattle.hy_partition.specs.Jobs.{RunningJob}
+use Rattle.hy_partition.specs.Jobs.{DoneState, JobState, Log, RunningJob, begun}
 use Rattle.hy_partition.specs.Partition.{PartitionState, commits_of}
 use Rattle.hy_partition.specs.Snapshots.{SnapshotState}
-use Rattle.hy_partition.specs.Steps.{Accepts, Begins, Closes, Forks, KeepsJob, Refuses, StepsTo, begin_refusal}
+use Rattle.hy_partition.specs.Steps.{Accepts, Begins, Closes, Forks, IsUnbegun, KeepsJob, Refuses, StepsTo, begin_refusal, with_job}
 use Rattle.hy_script.specs.Databases.{WarehouseState}
 
 -- a warehouse of the load as the script finds it
@@ -37,50 +37,54 @@ IsWhyUnstarted page_size lists frames why =
 
 -- ---- commands
 
--- the partition with a job more, of which no slice is done
-abbrev pub with_job : PartitionState → Command → PartitionState
-with_job p command = record p { running = Some (record { command = command; slices = 0 }) }
-
--- the command is begun
+-- a job that does the command is begun
 pub record IsBegun (command : Command) (old new : WarehouseState) : Type 0 where
   pub accepted : begin_refusal old.partition command ≡ None
-  pub after : new ≡ record old { partition = with_job old.partition command }
+  pub job : JobState
+  pub command_is : job.command ≡ command
+  pub after : new ≡ record old { partition = with_job old.partition job }
 
--- why a command isn't begun: the partition refuses it, or there is no memory for its commit
-abbrev pub IsUnbegun : Command → WarehouseState → Refusal → Type 0
-IsUnbegun command old why =
-    (begin_refusal old.partition command ≡ Some why)
-    ⊎ ((begin_refusal old.partition command ≡ None) × (is_reader command ≡ false) × (why ≡ refusals.NoMemory))
+-- a job that runs comes to its end, with the serial list before and after
+abbrev pub Ends : RunningJob → Log → Log → PartitionState → PartitionState → Type 0
+Ends job before after old ended =
+    Accepts job (Some before) (Some after) old ended ⊎ Refuses job (Some before) (Some after) old ended
 
--- the job that runs comes to its end
-abbrev pub Ends : Command → PartitionState → PartitionState → Type 0
-Ends command old ended = Accepts command old ended ⊎ Refuses (record { command = command; slices = 0 }) old ended
+-- the reply that waits
+abbrev pub reply_waiting : Option DoneState → Option Reply
+reply_waiting None = None
+reply_waiting (Some done) = Some done.reply
 
 -- a whole command was begun, came to its end, and its reply was taken
-pub record IsDone (command : Command) (old new : WarehouseState) (reply : Reply) : Type 0 where
+pub record IsDone (command : Command) (before after : Log) (old new : WarehouseState) (reply : Reply) : Type 0 where
   pub accepted : begin_refusal old.partition command ≡ None
+  pub job : JobState
+  pub command_is : job.command ≡ command
   pub ended : PartitionState
-  pub ends : Ends command (with_job old.partition command) ended
-  pub replies : ended.finished ≡ Some (record { reply = reply })
-  pub after : new ≡ record old { partition = record ended { finished = None } }
+  pub ends : Ends (begun job) before after (with_job old.partition job) ended
+  pub replies : reply_waiting ended.finished ≡ Some reply
+  pub leaves : new ≡ record old { partition = record ended { finished = None } }
 
 -- a whole command was run, or it wasn't begun and that is the reply
-abbrev pub Runs : Command → WarehouseState → WarehouseState → Reply → Type 0
-Runs command old new reply =
-    IsDone command old new reply
-    ⊎ ((why : Refusal) × IsUnbegun command old why × (reply ≡ replies.Refused why) × (new ≡ old))
+abbrev pub Runs : Command → Log → Log → WarehouseState → WarehouseState → Reply → Type 0
+Runs command before after old new reply =
+    IsDone command before after old new reply
+    ⊎ ((why : Refusal) × IsUnbegun old.partition command why × (reply ≡ replies.Refused why) × (new ≡ old)
+    × (after ≡ before))
 
 -- a step of the job that runs was done
-pub record Advances (job : RunningJob) (old new : WarehouseState) (progress : Progress) : Type 0 where
-  pub step : StepsTo job old.partition new.partition progress
+pub record Advances (job : RunningJob) (before after : Log) (old new : WarehouseState) (progress : Progress) : Type 0 where
+  pub step : StepsTo job (Some before) (Some after) old.partition new.partition progress
   pub snapshots : new.snapshots ≡ old.snapshots
 
 -- ---- snapshots
 
--- the warehouse was forked: it has one snapshot more, behind the others
-pub record Gains (page_size : ℕ) (old new : WarehouseState) : Type 0 where
+-- the warehouse was forked, for a client of its kit who had seen a beginning of the serial list: it has one snapshot
+-- more, behind the others
+pub record Gains (page_size : ℕ) (log : Log) (old new : WarehouseState) : Type 0 where
+  pub kit : Origin
+  pub known : Log
   pub snapshot : SnapshotState
-  pub forks : Forks page_size old.partition new.partition snapshot
+  pub forks : Forks page_size kit log known old.partition new.partition snapshot
   pub snapshots : new.snapshots ≡ old.snapshots ++ snapshot ∷ []
 
 -- the snapshot at this place was closed
@@ -107,14 +111,7 @@ IsWhyUnforked warehouses why =
 -- nothing was forked in the end: the job and what is kept stay, the open snapshots are those from before, with their
 -- tables and bytes, and each frame has as many users as before
 pub record StaysAsItWas (old new : WarehouseState) : Type 0 where
-  pub load : new.partition.load ≡ old.partition.load
-  pub warehouse : new.partition.warehouse ≡ old.partition.warehouse
-  pub kept : new.partition.kept ≡ old.partition.kept
-  pub max_kept : new.partition.max_kept ≡ old.partition.max_kept
-  pub running : new.partition.running ≡ old.partition.running
-  pub undo : new.partition.undo ≡ old.partition.undo
-  pub finished : new.partition.finished ≡ old.partition.finished
-  pub owner : SameForOwner old.partition.space new.partition.space
+  pub job : KeepsJob old.partition new.partition
   pub max_frames : new.partition.space.frames.max ≡ old.partition.space.frames.max
   pub open_snapshots : (child : ℕ) → commits_of new.partition child ≡ commits_of old.partition child
   pub tables : (child : ℕ) → child_table new.partition.space child ≡ child_table old.partition.space child
@@ -133,6 +130,7 @@ pub record IsLimited (more : ℕ) (old new : WarehouseState) : Type 0 where
   pub allowed : IsLimitFor old.partition.space.frames (limit_for old.partition.space.frames more)
   pub max : new.partition.space.frames.max ≡ limit_for old.partition.space.frames more
   pub job : KeepsJob old.partition new.partition
+  pub seen : new.partition.seen ≡ old.partition.seen
   pub open_snapshots : new.partition.snapshots ≡ old.partition.snapshots
   pub children : SameForChildren old.partition.space new.partition.space
   pub snapshots : new.snapshots ≡ old.snapshots

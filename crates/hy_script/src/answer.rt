@@ -2,14 +2,16 @@
 
 ghost use Rattle.std.specs.Prelude.{◌≡◌, ◌++◌, IsTrue, OnErr, OnOk, codes, decimal};
 ghost use Rattle.std.specs.Io.KnownBytes.{Appends};
+ghost use Rattle.hy_partition.specs.Jobs.{Log};
 ghost use Rattle.hy_script.specs.Answers.{Grants, begun_text, count_text, progress_text, refused_text, waiting_text};
 ghost use Rattle.hy_script.specs.Printed.{IsGranted};
 
 use crate::forked_partition::ForkedPartition;
-use hy_commands::{Command, Reply};
+use hy_commands::{Command, Commit, Reply};
 use hy_events::write_reply;
 use hy_output::Output;
-use hy_partition::Progress;
+use hy_partition::{Loaded, Progress};
+use hy_passes::Journal;
 use hy_schema::Refusal;
 use std::io;
 
@@ -35,20 +37,21 @@ pub enum Request {
 }
 
 /// Does what is asked of a warehouse, and writes the answer.
-pub fn grant<const N: usize, O: Output>(
-    warehouse: &mut ForkedPartition<N>,
+pub fn grant<const N: usize, K: Loaded, O: Output>(
+    warehouse: &mut ForkedPartition<N, K>,
+    journal: &mut Journal<Commit, K>,
     request: Request,
     out: &mut O,
 ) -> io::Result<()>
-    ensures granted { OnOk result
-        (IsGranted request warehouse.old warehouse.new (O.contents out.old) (O.contents out.new)) }
+    ensures granted { OnOk result (IsGranted request journal.old.list.log journal.new.list.log
+        warehouse.old warehouse.new (O.contents out.old) (O.contents out.new)) }
     ensures failed { OnErr result (IsTrue (O.has_failed out.new)) }
     ensures keeps { warehouse.new.snapshots ≡ warehouse.old.snapshots }
 {
     match request {
-        Request::Run(command) => run(warehouse, command, out),
+        Request::Run(command) => run(warehouse, journal, command, out),
         Request::Begin(command) => begin(warehouse, command, out),
-        Request::Step => step(warehouse, out),
+        Request::Step => step(warehouse, journal, out),
         Request::Done => write_waiting(out, warehouse.take_reply()),
         Request::Touched => write_count(out, "touched", warehouse.touched()),
         Request::Free => write_count(out, "free", warehouse.free()),
@@ -58,28 +61,29 @@ pub fn grant<const N: usize, O: Output>(
 }
 
 /// Runs a command as a whole, and writes its reply.
-fn run<const N: usize, O: Output>(
-    warehouse: &mut ForkedPartition<N>,
+fn run<const N: usize, K: Loaded, O: Output>(
+    warehouse: &mut ForkedPartition<N, K>,
+    journal: &mut Journal<Commit, K>,
     command: Command,
     out: &mut O,
 ) -> io::Result<()>
-    ensures granted { OnOk result
-        (IsGranted (Request.Run command) warehouse.old warehouse.new (O.contents out.old) (O.contents out.new)) }
+    ensures granted { OnOk result (IsGranted (Request.Run command) journal.old.list.log journal.new.list.log
+        warehouse.old warehouse.new (O.contents out.old) (O.contents out.new)) }
     ensures failed { OnErr result (IsTrue (O.has_failed out.new)) }
     ensures keeps { warehouse.new.snapshots ≡ warehouse.old.snapshots }
 {
-    let reply = warehouse.run(command);
+    let reply = warehouse.run(journal, command);
     write_reply(out, &reply)
 }
 
 /// Begins a command, and writes that it did or why not.
-fn begin<const N: usize, O: Output>(
-    warehouse: &mut ForkedPartition<N>,
+fn begin<const N: usize, K: Loaded, O: Output>(
+    warehouse: &mut ForkedPartition<N, K>,
     command: Command,
     out: &mut O,
 ) -> io::Result<()>
-    ensures granted { OnOk result
-        (IsGranted (Request.Begin command) warehouse.old warehouse.new (O.contents out.old) (O.contents out.new)) }
+    ensures granted { (log : Log) → OnOk result (IsGranted (Request.Begin command) log log
+        warehouse.old warehouse.new (O.contents out.old) (O.contents out.new)) }
     ensures failed { OnErr result (IsTrue (O.has_failed out.new)) }
     ensures keeps { warehouse.new.snapshots ≡ warehouse.old.snapshots }
 {
@@ -90,29 +94,30 @@ fn begin<const N: usize, O: Output>(
 }
 
 /// Does a slice of what runs, and writes whether more are to come.
-fn step<const N: usize, O: Output>(
-    warehouse: &mut ForkedPartition<N>,
+fn step<const N: usize, K: Loaded, O: Output>(
+    warehouse: &mut ForkedPartition<N, K>,
+    journal: &mut Journal<Commit, K>,
     out: &mut O,
 ) -> io::Result<()>
-    ensures granted { OnOk result
-        (IsGranted Request.Step warehouse.old warehouse.new (O.contents out.old) (O.contents out.new)) }
+    ensures granted { OnOk result (IsGranted Request.Step journal.old.list.log journal.new.list.log
+        warehouse.old warehouse.new (O.contents out.old) (O.contents out.new)) }
     ensures failed { OnErr result (IsTrue (O.has_failed out.new)) }
     ensures keeps { warehouse.new.snapshots ≡ warehouse.old.snapshots }
 {
-    match warehouse.step() {
+    match warehouse.step(journal) {
         Ok(progress) => write_progress(out, progress),
         Err(refusal) => write_refused(out, refusal),
     }
 }
 
 /// Sets the limit on frames, and writes how many more there may be.
-fn limit<const N: usize, O: Output>(
-    warehouse: &mut ForkedPartition<N>,
+fn limit<const N: usize, K: Loaded, O: Output>(
+    warehouse: &mut ForkedPartition<N, K>,
     more: u64,
     out: &mut O,
 ) -> io::Result<()>
-    ensures granted { OnOk result
-        (IsGranted (Request.Limit more) warehouse.old warehouse.new (O.contents out.old) (O.contents out.new)) }
+    ensures granted { (log : Log) → OnOk result (IsGranted (Request.Limit more) log log
+        warehouse.old warehouse.new (O.contents out.old) (O.contents out.new)) }
     ensures failed { OnErr result (IsTrue (O.has_failed out.new)) }
     ensures keeps { warehouse.new.snapshots ≡ warehouse.old.snapshots }
 {

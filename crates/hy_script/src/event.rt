@@ -11,6 +11,7 @@ use crate::answer::{Request, write_refused};
 use crate::database::Database;
 use hy_events::{Event, SnapshotName};
 use hy_output::Output;
+use hy_partition::Loaded;
 use std::io;
 
 /// Why an event has no answer.
@@ -31,8 +32,8 @@ impl From<io::Error> for Unanswered {
 }
 
 /// Does an event, and writes its answer.
-pub fn answer<'a, const N: usize, O: Output>(
-    database: &mut Database<'a, N>,
+pub fn answer<'a, const N: usize, K: Loaded, O: Output>(
+    database: &mut Database<'a, N, K>,
     event: Event<'a>,
     out: &mut O,
 ) -> Result<(), Unanswered>
@@ -67,8 +68,8 @@ pub fn answer<'a, const N: usize, O: Output>(
 
 /// Opens a snapshot of a name, and writes how many commits each warehouse has. Where that is refused, no snapshot is
 /// left of it.
-fn fork<'a, const N: usize, O: Output>(
-    database: &mut Database<'a, N>,
+fn fork<'a, const N: usize, K: Loaded, O: Output>(
+    database: &mut Database<'a, N, K>,
     name: SnapshotName<'a>,
     out: &mut O,
 ) -> Result<(), Unanswered>
@@ -90,8 +91,8 @@ fn fork<'a, const N: usize, O: Output>(
 }
 
 /// Closes the snapshot of a name, and writes that it did.
-fn close<const N: usize, O: Output>(
-    database: &mut Database<'_, N>,
+fn close<const N: usize, K: Loaded, O: Output>(
+    database: &mut Database<'_, N, K>,
     name: SnapshotName<'_>,
     out: &mut O,
 ) -> Result<(), Unanswered>

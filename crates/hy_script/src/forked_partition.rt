@@ -1,32 +1,36 @@
 //! One warehouse of a script: its partition, and the snapshots that the script has open of it.
 
-ghost use Rattle.std.specs.Prelude.{◌≡◌, ℕ, ◌+◌, ◌-◌, ◌<◌, ◌≤◌, ◌⊎◌, IfErr, IfOk, IsErr, IsOkAnd, MatchOption, MatchResult, None, OnErr, OnOk, Ok, Err, [], length, slice_get, remove};
+ghost use Rattle.std.specs.Prelude.{◌≡◌, ℕ, ◌+◌, ◌-◌, ◌<◌, ◌≤◌, ◌⊎◌, IfErr, IfOk, IsErr, IsOkAnd, MatchOption, None, OnErr, OnOk, Err, [], length};
 ghost use Rattle.std.specs.Option.{option_map};
 ghost use Rattle.hy_schema.specs.declared.refusal.Refusal.{Refusal};
 ghost use Rattle.hy_frames.specs.FrameTable.{IsLimitFor, IsPageSize, free_of, max_frames as most_frames, shared_of};
 ghost use Rattle.hy_space.specs.Space.{CountsAreExact};
 ghost use Rattle.hy_undo.specs.Touched.{touched};
 ghost use Rattle.hy_partition.specs.Limits.{IsWhyUnmade, most_kept};
-ghost use Rattle.hy_script.specs.Steps.{Advances, Gains, IsBegun, IsLimited, IsUnbegun, LacksFrames, Loses, Runs, Starts, StaysAsItWas, limit_for};
+ghost use Rattle.hy_partition.specs.Steps.{IsUnbegun};
+ghost use Rattle.hy_script.specs.Steps.{Advances, Gains, IsBegun, IsLimited, LacksFrames, Loses, Runs, Starts, StaysAsItWas, limit_for};
 
-use hy_commands::{Command, Reply};
+use hy_commands::{Command, Commit, Reply};
 use hy_loads::Load;
-use hy_partition::{Job, Partition, Progress, Snapshot};
+use hy_partition::{Job, Loaded, Partition, Progress, Snapshot};
+use hy_passes::{Journal, PartitionSeat, Pass};
 use hy_schema::Refusal;
 use std::alloc::Global;
 use std::marker::Model;
 
-/// A partition with the snapshots that are open of it, in the order of their forks. It is given up by `end`.
-pub struct ForkedPartition<const N: usize> {
-    partition: Partition<N>,
+/// A partition with the snapshots that are open of it, in the order of their forks, and the pass of the client whose
+/// commands it runs: the pass is here where no job runs and no answer waits. It is given up by `end`.
+pub struct ForkedPartition<const N: usize, K: Loaded> {
+    partition: Partition<N, K>,
+    pass: Option<Pass<Commit, K>>,
     max_frames: u64,
     snapshots: Vec<Snapshot<N>>,
 }
 
 // Clauses see the partition and the snapshots; `specs/Databases.antt` has the words.
-impl<const N: usize> Model for ForkedPartition<N> {
+impl<const N: usize, K: Loaded> Model for ForkedPartition<N, K> {
     ghost use Rattle.hy_script.specs.Databases.{WarehouseState};
-    ghost use Rattle.hy_script.specs.inside.Open.{IsWarehouse};
+    ghost use Rattle.hy_script.specs.inside.Invariants.{IsWarehouse};
 
     ghost Value = { WarehouseState };
 
@@ -36,35 +40,41 @@ impl<const N: usize> Model for ForkedPartition<N> {
     } };
 
     ghost invariant = { λ warehouse.
-        IsWarehouse warehouse.partition warehouse.max_frames warehouse.snapshots.items };
+        IsWarehouse K.passes warehouse.partition warehouse.pass warehouse.max_frames warehouse.snapshots.items };
 }
 
-impl<const N: usize> ForkedPartition<N> {
-    /// A warehouse of the load, with no snapshot. E2 only where `max_frames` is no more than the frames that its rows
-    /// and their entries take at most; E1.
+impl<const N: usize, K: Loaded> ForkedPartition<N, K> {
+    /// The warehouse of a seat, as the load has it, with no snapshot. E2 only where `max_frames` is no more than the
+    /// frames that its rows and their entries take at most; E1.
     pub fn new(
         alloc: Global,
         load: &Load,
-        number: u8,
+        seat: PartitionSeat<Commit, K>,
+        pass: Pass<Commit, K>,
         max_frames: u64,
         max_kept: u64,
-    ) -> Result<ForkedPartition<N>, Refusal>
+    ) -> Result<ForkedPartition<N, K>, Refusal>
         requires size { IsPageSize N }
         requires some_frames { 1 ≤ max_frames }
         requires frames { max_frames ≤ most_frames }
         requires some_kept { 1 ≤ max_kept }
         requires kept { max_kept ≤ most_kept }
-        requires first { 1 ≤ number }
-        requires last { number ≤ length load.now.tables.warehouses }
-        ensures starts { IfOk result (Starts load.now number max_frames max_kept) }
-        ensures refused { IfErr result (IsWhyUnmade N load.now number max_frames) }
+        requires load { load.now ≡ K.load }
+        requires last { seat.warehouse ≤ length load.now.tables.warehouses }
+        requires seat { seat.seen ≡ [] }
+        ensures starts { IfOk result (Starts load.now seat.warehouse max_frames max_kept) }
+        ensures refused { IfErr result (IsWhyUnmade N load.now seat.warehouse max_frames) }
     {
-        let partition = Partition::new(alloc, load, number, max_frames, max_kept)?;
-        Ok(ForkedPartition {
-            partition,
-            max_frames,
-            snapshots: Vec::new(alloc),
-        })
+        let number = seat.warehouse();
+        match Partition::new(alloc, load, number, seat, max_frames, max_kept) {
+            Ok(partition) => Ok(ForkedPartition {
+                partition,
+                pass: Some(pass),
+                max_frames,
+                snapshots: Vec::new(alloc),
+            }),
+            Err((_seat, refusal)) => Err(refusal),
+        }
     }
 
     /// How many commits are kept.
@@ -77,36 +87,43 @@ impl<const N: usize> ForkedPartition<N> {
     /// Begins a command. What refuses it changes nothing.
     pub fn begin(&mut self, command: Command) -> Result<(), Refusal>
         ensures begun { OnOk result (IsBegun command self.old self.new) }
-        ensures refused { IfErr result (IsUnbegun command self.old) }
+        ensures refused { IfErr result (IsUnbegun self.old.partition command) }
         ensures unchanged { OnErr result (self.new ≡ self.old) }
     {
-        match self.partition.begin(Job::new(command)) {
+        let Some(pass) = self.pass.take() else {
+            return Err(Refusal::Busy);
+        };
+        match self.partition.begin(Job::new(command, pass)) {
             Ok(()) => Ok(()),
-            Err((_job, refusal)) => Err(refusal),
+            Err((job, refusal)) => {
+                let (_reply, pass, _share) = job.refuse(refusal).open();
+                self.pass = Some(pass);
+                Err(refusal)
+            }
         }
     }
 
     /// Runs a command as a whole. Its reply is the refusal where it isn't begun.
-    pub fn run(&mut self, command: Command) -> Reply
-        ensures { Runs command self.old self.new result }
+    pub fn run(&mut self, journal: &mut Journal<Commit, K>, command: Command) -> Reply
+        ensures { Runs command journal.old.list.log journal.new.list.log self.old self.new result }
     {
         if let Err(refusal) = self.begin(command) {
             return Reply::Refused(refusal);
         }
-        self.partition.finish_running();
-        match self.partition.take_done() {
-            Some(done) => done.open(),
+        self.partition.finish_running(journal);
+        match self.take_reply() {
+            Some(reply) => reply,
             None => unreachable!(),
         }
     }
 
     /// Does a slice of the job that runs. E10 where nothing runs.
-    pub fn step(&mut self) -> Result<Progress, Refusal>
+    pub fn step(&mut self, journal: &mut Journal<Commit, K>) -> Result<Progress, Refusal>
         ensures { MatchOption self.old.partition.running
-            ((result ≡ Err Refusal.NotRunning) × (self.new ≡ self.old))
-            (λ job. IsOkAnd result (Advances job self.old self.new)) }
+            ((result ≡ Err Refusal.NotRunning) × (self.new ≡ self.old) × (journal.new.list.log ≡ journal.old.list.log))
+            (λ job. IsOkAnd result (Advances job journal.old.list.log journal.new.list.log self.old self.new)) }
     {
-        self.partition.step()
+        self.partition.step(journal)
     }
 
     /// The reply to the job that ended, once.
@@ -115,7 +132,11 @@ impl<const N: usize> ForkedPartition<N> {
         ensures after { self.new ≡ record self.old { partition = record self.old.partition { finished = None } } }
     {
         match self.partition.take_done() {
-            Some(done) => Some(done.open()),
+            Some(done) => {
+                let (reply, pass, _share) = done.open();
+                self.pass = Some(pass);
+                Some(reply)
+            }
             None => None,
         }
     }
@@ -165,15 +186,20 @@ impl<const N: usize> ForkedPartition<N> {
         self.partition.headline();
     }
 
-    /// Opens a snapshot, behind those that are open. E2 where fewer frames are free than that takes; E1.
-    pub fn fork(&mut self) -> Result<(), Refusal>
-        ensures gains { OnOk result (Gains N self.old self.new) }
+    /// Opens a snapshot for a client, behind those that are open. E2 where fewer frames are free than that takes; E1.
+    pub fn fork(
+        &mut self,
+        journal: &mut Journal<Commit, K>,
+        client: &mut Pass<Commit, K>,
+    ) -> Result<(), Refusal>
+        ensures gains { OnOk result (Gains N journal.old.list.log self.old self.new) }
+        ensures log { journal.new.list.log ≡ journal.old.list.log }
         ensures refused { IfErr result
             (λ refusal. ((refusal ≡ Refusal.NoFrame) × LacksFrames self.old) ⊎ (refusal ≡ Refusal.NoMemory)) }
         ensures stays { OnErr result (StaysAsItWas self.old self.new) }
     {
         self.snapshots.reserve(1)?;
-        let snapshot = self.partition.fork()?;
+        let snapshot = self.partition.fork(journal, client)?;
         self.snapshots.push_reserved(snapshot);
         Ok(())
     }
@@ -208,6 +234,7 @@ impl<const N: usize> ForkedPartition<N> {
         }
         let ForkedPartition {
             partition: _,
+            pass: _,
             max_frames: _,
             snapshots,
         } = self;

@@ -6,6 +6,7 @@ mod database;
 mod event;
 mod forked_partition;
 mod held;
+mod kit;
 mod names;
 mod script;
 

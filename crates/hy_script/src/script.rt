@@ -1,6 +1,6 @@
 //! Runs a script.
 
-ghost use Rattle.std.specs.Prelude.{◌≡◌, ◌⊎◌, ◌≤◌, IfErr, IsTrue, None, OnOk};
+ghost use Rattle.std.specs.Prelude.{◌≡◌, ◌≤◌, IfErr, IsTrue, None, OnOk};
 ghost use Rattle.hy_frames.specs.FrameTable.{IsPageSize, max_frames as most_frames};
 ghost use Rattle.hy_partition.specs.Limits.{most_kept};
 ghost use Rattle.hy_events.specs.Lines.{lines, numbered};
@@ -14,11 +14,14 @@ use crate::answer::write_refused;
 use crate::database::Database;
 use crate::event::{Unanswered, answer};
 use crate::held::{HELD_BYTES, Held};
+use crate::kit::{Pages, kit_for, run_over};
 use hy_events::{EventFault, Lines, ScriptLine, read_event};
 use hy_loads::Load;
 use hy_output::{Output, Take};
+use hy_partition::Loaded;
 use hy_schema::Refusal;
 use std::alloc::Global;
+use std::marker::Brand;
 use std::{io, mem};
 
 /// How many bytes more there is room for: no answer has more, where the names of its snapshots are short.
@@ -78,16 +81,14 @@ pub fn run_script<const N: usize, O: Output + Take + Drop>(
         (IsScriptFault N load.now max_frames max_kept script.now (O.contents out.old) (O.contents out.new)
         (out.new ≡ out.old) (IsTrue (O.has_failed out.new))) }
 {
-    let mut database = Database::<N>::new(alloc, load, max_frames, max_kept)?;
-    let ended = run_buffered(alloc, &mut database, script, out);
-    database.end();
-    ended
+    let kit = kit_for(alloc, load)?;
+    run_over::<Brand, Pages<N>, O>(alloc, load, kit, script, max_frames, max_kept, out)
 }
 
 /// The same on partitions that are there. Answers are held back, and handed on many at a time.
-fn run_buffered<'a, const N: usize, O: Output + Take + Drop>(
+pub fn run_buffered<'a, const N: usize, K: Loaded, O: Output + Take + Drop>(
     alloc: Global,
-    database: &mut Database<'a, N>,
+    database: &mut Database<'a, N, K>,
     script: &'a [u8],
     out: &mut O,
 ) -> Result<(), ScriptFault>
@@ -107,9 +108,9 @@ fn run_buffered<'a, const N: usize, O: Output + Take + Drop>(
 }
 
 /// The same with an output that holds answers back, and hands on the last of them at the end.
-fn run_held<'a, const N: usize, O: Output>(
+fn run_held<'a, const N: usize, K: Loaded, O: Output>(
     alloc: Global,
-    database: &mut Database<'a, N>,
+    database: &mut Database<'a, N, K>,
     script: &'a [u8],
     held: &mut Held<O>,
 ) -> Result<(), ScriptFault>
@@ -125,9 +126,9 @@ fn run_held<'a, const N: usize, O: Output>(
 }
 
 /// Does what the lines say, one after the other, up to the first bad event. The last answers are still held at the end.
-fn run_lines<'a, const N: usize, O: Output>(
+fn run_lines<'a, const N: usize, K: Loaded, O: Output>(
     alloc: Global,
-    database: &mut Database<'a, N>,
+    database: &mut Database<'a, N, K>,
     script: &'a [u8],
     held: &mut Held<O>,
 ) -> Result<(), ScriptFault>
@@ -148,9 +149,9 @@ fn run_lines<'a, const N: usize, O: Output>(
 }
 
 /// Does the event that a line says, and writes its answer.
-fn answer_line<'a, const N: usize, O: Output>(
+fn answer_line<'a, const N: usize, K: Loaded, O: Output>(
     alloc: Global,
-    database: &mut Database<'a, N>,
+    database: &mut Database<'a, N, K>,
     line: &'a [u8],
     out: &mut O,
 ) -> Result<(), Unanswered>

@@ -10,6 +10,6 @@ pub returns-in-Err-clause-stays : goal.returns-in-Err-clause-stays
 returns-in-Err-clause-stays g t c =
     search (
       rules,
-      closed_again g.row.N c.in-Some.first.now c.fork.new.self c.close_last.new.self
+      closed_again g.row.N c.args.journal.now.list.log c.in-Some.first.now c.fork.new.self c.close_last.new.self
           c.in_ok-fork.ensures.gains c.close_last.ensures.loses c.counts.ensures c.counts-in-Err.ensures,
     )

@@ -1,32 +1,50 @@
-use Rattle.std.proofs.Common.{◌≡◌, ◌+◌, ◌≤◌, ℕ, length, rules, ap, arith, vec_capacity, vec_len}
+use Rattle.std.proofs.Common.{◌≡◌, ◌∙◌, ◌+◌, ℕ, ◌∷◌, [], ap, arith, length, rules, sym, vec_len}
+use Rattle.std.specs.Vec.Iter.{into_iter_items, into_iter_len}
 use Rattle.hy_script.specs.Databases.{WarehouseState}
 use Rattle.hy_script.specs.Steps.{Starts}
-use Rattle.hy_script.specs.inside.Open.{AllStart}
+use Rattle.hy_script.specs.inside.Invariants.{AllStart}
 use Rattle.hy_script.proofs.EachLaws.{each_push}
-use Rattle.hy_script.proofs.RowLaws.{row_number, why_unstarted}
+use Rattle.hy_script.proofs.ForkLaws.{length-push}
+use Rattle.hy_script.proofs.SeatLaws.{later_seats, length-seats, next_seat, seats_from}
 use Rattle.hy_script.proofs.database.warehouses_of.Goals as goal
 
-pub loop-row-preserved : goal.loop-row-preserved
-loop-row-preserved g c =
-    let rows : c.deref.result.now ≡ c.args.load.now.tables.warehouses = search rules in
-    let number = row_number c.deref.result.now c.loop-row.row-index c.row-item.result c.loop-row-test.true c.row-item.is
-    (rw rows c.sound.ensures.warehouses.each) in
-    let counted : length c.loop-row.made.items ≡ c.loop-row.row-index = search rules in
-    let count : vec_len c.push_reserved.new.self ≡ c.loop-row.row-index + 1 = search rules in
-    let capacity : length c.deref.result.now ≤ vec_capacity c.push_reserved.new.self = search rules in
-    let starts : Starts c.args.load.now (length c.loop-row.made.items + 1) c.args.max_frames c.args.max_kept c.in-Ok.warehouse =
-    rw counted (rw number at c.in-Ok.ensures.starts) in
+pub loop-seat-init : goal.loop-seat-init
+loop-seat-init g c =
+    let gives = c.into_iter-seat-iterator.ensures.into_iter_gives in
+    let count = length c.args.load.now.tables.warehouses in
+    let all : length c.args.seats.items ≡ count = ap length c.requires.seats ∙ length-seats 1 count in
+    let seats : vec_len c.args.seats ≡ count = search (rules, all) in
+    let none : c.in_ok-made.made.items ≡ [] = c.in_ok-made.ensures.items in
+    rw (none, gives.1 ∙ seats) (
+      gives.0 ∙ c.requires.seats,
+      omega arith,
+      c.requires.passes,
+      omega (arith, c.in_ok-made.ensures.capacity, c.len.ensures, seats),
+      λ place. tt,
+    )
+
+pub loop-seat-preserved : goal.loop-seat-preserved
+loop-seat-preserved g c =
+    let made = c.loop-seat.made.items in
+    let left = into_iter_len c.next.new.self in
+    let before = into_iter_len c.loop-seat.seat-iterator in
+    let invariant = c.loop-seat.invariant in
+    let counted : left + 1 ≡ before = c.in-Some.ensures.steps.1 in
+    let are : c.in-Some.seat ∷ into_iter_items c.next.new.self ≡ seats_from (length made + 1) before =
+    sym c.in-Some.ensures.steps.0 ∙ invariant.0 in
+    let more : length c.push_reserved.new.self.items ≡ length made + 1 =
+    ap length c.push_reserved.ensures.items ∙ length-push made c.in-Ok.warehouse in
+    let number : c.in-Some.seat.warehouse ≡ length made + 1 =
+    ap (λ seat. seat.warehouse) (next_seat (length made + 1) left before c.in-Some.seat (into_iter_items c.next.new.self) counted are) in
+    let starts : Starts c.args.load.now (length made + 1) c.args.max_frames c.args.max_kept c.in-Ok.warehouse =
+    rw number at c.in-Ok.ensures.starts in
     let each : AllStart c.args.load.now c.args.max_frames c.args.max_kept c.push_reserved.new.self.items =
     rw c.push_reserved.ensures.items (each_push
     (λ (place : ℕ) (it : WarehouseState). Starts c.args.load.now (place + 1) c.args.max_frames c.args.max_kept it)
-    c.loop-row.made.items c.in-Ok.warehouse c.loop-row.invariant.2 starts) in
-    (count, capacity, each)
-
--- one warehouse that isn't made
-pub returns-in-Err-clause-refused : goal.returns-in-Err-clause-refused
-returns-in-Err-clause-refused g c =
-    let rows : c.deref.result.now ≡ c.args.load.now.tables.warehouses = search rules in
-    let number = row_number c.deref.result.now c.loop-row.row-index c.row-item.result c.loop-row-test.true c.row-item.is
-    (rw rows c.sound.ensures.warehouses.each) in
-    why_unstarted g.row.N c.args.load.now c.row-item.result.id c.args.max_frames c.in-Err.refusal
-    (omega (arith, number)) (omega (arith, number, c.loop-row-test.true, ap length rows)) c.in-Err.ensures.refused
+    made c.in-Ok.warehouse invariant.4 starts) in (
+      rw more (later_seats (length made + 1) left before c.in-Some.seat (into_iter_items c.next.new.self) counted are),
+      omega (arith, more, counted, invariant.1),
+      omega (arith, ap length c.take_last-pass.ensures.items, length-push c.take_last-pass.new.self.items c.take_last-pass.result, counted, invariant.2),
+      omega (arith, more, counted, c.push_reserved.ensures.capacity, invariant.3),
+      each,
+    )

@@ -1,8 +1,16 @@
-use Rattle.std.proofs.Common.{◌≡◌, ◌≤◌, length, vec_len, vec_capacity}
-use Rattle.hy_script.specs.inside.Open.{AllStart}
+use Rattle.std.proofs.Common.{◌≡◌, ◌+◌, ◌≤◌, length, map, vec_capacity}
+use Rattle.std.specs.List.{range_with_len}
+use Rattle.std.specs.Vec.Iter.{into_iter_items, into_iter_len}
+use Rattle.hy_passes.specs.Worlds.{new_partition}
+use Rattle.hy_script.specs.inside.Invariants.{AllStart}
 use Rattle.hy_script.proofs.database.warehouses_of.Given as goal
 
-abbrev pub invariant-loop-row : goal.invariant-loop-row
-invariant-loop-row g l =
-    (vec_len l.made ≡ l.row-index) × (length l.rows ≤ vec_capacity l.made)
+-- the seats that are left are those of the warehouses behind what was made, and there is a pass more
+abbrev pub invariant-loop-seat : goal.invariant-loop-seat
+invariant-loop-seat g l =
+    (into_iter_items l.seat-iterator
+    ≡ map new_partition (range_with_len (length l.made.items + 1) (into_iter_len l.seat-iterator)))
+    × (length l.made.items + into_iter_len l.seat-iterator ≡ length l.fn.load.tables.warehouses)
+    × (length l.passes.items ≡ into_iter_len l.seat-iterator + 1)
+    × (length l.made.items + into_iter_len l.seat-iterator ≤ vec_capacity l.made)
     × AllStart l.fn.load l.max_frames l.max_kept l.made.items

@@ -2,7 +2,7 @@ use Rattle.std.proofs.Common.{◌∙◌, rules, sym}
 use Rattle.std.proofs.lemmas.Bool.{false≢true}
 use Rattle.std.proofs.lemmas.Slice.Eq.{bytes_eq-Decides}
 use Rattle.hy_script.proofs.NameLaws.{none_at_all, none_more}
-use Rattle.hy_script.proofs.OpenLaws.{item_at}
+use Rattle.hy_script.proofs.ListLaws.{item_at}
 use Rattle.hy_script.proofs.names.place_of_name.Goals as goal
 
 pub returns-then-eq : goal.returns-then-eq

@@ -22,5 +22,5 @@ invariant_of-self-2 g c =
     let each = rw c.deref_mut.ensures.value at c.in_ok-fork_each.ensures.forks in
     let more : length c.push_reserved.new.self.items ≡ length c.self.inside.names.items + 1 =
     search (rules, c.push_reserved.ensures.items, c.reserve.ensures.items, length-push c.self.inside.names.items) in
-    rw (written c.self.inside.warehouses.len old new (search rules) (length-each (Gains g.row.N) old new each), more)
-    (gained g.row.N (length c.self.inside.names.items) old new each c.self.invariant)
+    rw (written c.self.inside.warehouses.len old new (search rules) (length-each (Gains g.row.N c.self.inside.journal.list.log) old new each), more)
+    (gained g.row.N (length c.self.inside.names.items) c.self.inside.journal.list.log old new each c.self.invariant)

@@ -1,49 +1,22 @@
-use Rattle.std.proofs.Common.{rules, ◌∙◌}
-use Rattle.hy_space.specs.Space.{child_bytes}
+use Rattle.std.proofs.Common.{◌≡◌, ◌∙◌, ◌++◌, ◌∷◌, [], ap, rules, subst}
+use Rattle.std.proofs.lemmas.List.Elements.{All-push}
+use Rattle.hy_script.specs.Databases.{WarehouseState}
+use Rattle.hy_script.specs.Steps.{Gains}
+use Rattle.hy_script.specs.inside.Invariants.{IsOf}
 use Rattle.hy_script.proofs.ForkLaws.{StaysAsItWas-refl, unforked}
-use Rattle.hy_script.specs.inside.Open.{IsOpenWith}
-use Rattle.hy_script.proofs.OpenLaws.{AreOpen-fresh, AreOpen-kept, AreOpen-others, AreOpen-push, IsOpenIn-fresh, IsOpenWith-kept, IsOpenWith-other}
 use Rattle.hy_script.proofs.forked_partition.ForkedPartition.fork.Goals as goal
-
-pub invariant_of-self-in_err-snapshot : goal.invariant_of-self-in_err-snapshot
-invariant_of-self-in_err-snapshot g c =
-    let stays = c.in_err-snapshot.ensures.err in
-    let number = c.self.inside.partition.warehouse in
-    let old = c.self.inside.partition.snapshots in
-    let new = c.fork.new.self.snapshots in
-    let seen = child_bytes c.self.inside.partition.space in
-    let sees = child_bytes c.fork.new.self.space in
-    record {
-      max = stays.max_frames ∙ c.self.invariant.max;
-      open_snapshots = rw (c.in_ok-reserve.ensures.items, stays.job.warehouse)
-          (AreOpen-kept (IsOpenWith number old seen) (IsOpenWith number new sees)
-          (IsOpenWith-kept number old new seen sees stays.snapshots stays.bytes)
-          c.self.inside.snapshots.items c.self.invariant.open_snapshots);
-    }
 
 pub invariant_of-self-2 : goal.invariant_of-self-2
 invariant_of-self-2 g c =
     let forks = c.in_ok-snapshot.ensures.forks in
     let snapshot = c.in_ok-snapshot.snapshot in
     let number = c.self.inside.partition.warehouse in
-    let old = c.self.inside.partition.snapshots in
-    let new = c.fork.new.self.snapshots in
-    let seen = child_bytes c.self.inside.partition.space in
-    let sees = child_bytes c.fork.new.self.space in
-    let held = c.self.inside.snapshots.items in
-    let before = c.self.invariant.open_snapshots in
-    let apart = AreOpen-fresh (IsOpenWith number old seen) snapshot.child
-    (λ it is. IsOpenIn-fresh number old snapshot.child forks.fresh it is.opened) held before in
-    let after = AreOpen-others (IsOpenWith number old seen) (IsOpenWith number new sees) snapshot.child
-    (IsOpenWith-other number old new seen sees snapshot.child forks.others.commits forks.others.bytes.bytes)
-    held apart before in
     record {
       max = forks.max_frames ∙ c.self.invariant.max;
-      open_snapshots = rw (c.push_reserved.ensures.items, c.reserve.ensures.items, forks.job.warehouse)
-          (AreOpen-push (IsOpenWith number new sees) snapshot (record {
-            opened = record { warehouse_is = forks.warehouse; commits = forks.open_commits };
-            bytes_are = forks.open_bytes;
-          }) held apart after);
+      one_pass = rw (forks.job.running, forks.job.finished) c.self.invariant.one_pass;
+      own = rw (c.push_reserved.ensures.items, c.reserve.ensures.items, ap (λ terms. terms.warehouse) forks.job.terms)
+          (All-push (IsOf g.K.World.passes number) c.self.inside.snapshots.items snapshot c.self.invariant.own
+          (record { warehouse_is = forks.warehouse; name_is = forks.name; desk_is = forks.desk }));
     }
 
 pub returns-in_err-reserve-clause-stays : goal.returns-in_err-reserve-clause-stays
@@ -56,3 +29,19 @@ returns-in_err-snapshot-clause-stays g c =
       c.reserve.ensures.items,
       unforked c.self.inside.partition c.fork.new.self c.self.inside.snapshots.items c.in_err-snapshot.ensures.err,
     )
+
+pub returns-clause-gains : goal.returns-clause-gains
+returns-clause-gains g c =
+    let log = c.args.journal.now.list.log in
+    let held = c.self.inside.snapshots.items in
+    let snapshot = c.in_ok-snapshot.snapshot in
+    let new : WarehouseState =
+    record { partition = c.fork.new.self; snapshots = c.push_reserved.new.self.items } in
+    let more : c.push_reserved.new.self.items ≡ held ++ snapshot ∷ [] = rw c.reserve.ensures.items at c.push_reserved.ensures.items in
+    subst (λ (now : WarehouseState). Gains g.row.N log now new) c.self.view_is (record {
+      kit = g.K.World.passes;
+      known = c.args.client.now.seen;
+      snapshot = snapshot;
+      forks = c.in_ok-snapshot.ensures.forks;
+      snapshots = more;
+    })
