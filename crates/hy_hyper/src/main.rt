@@ -10,11 +10,15 @@ mod example;
 #[cfg(test)]
 mod failing_tests;
 #[cfg(test)]
+mod forked;
+#[cfg(test)]
 mod lists;
 #[cfg(test)]
 mod load_tests;
 #[cfg(test)]
 mod partition_tests;
+#[cfg(test)]
+mod pass_tests;
 #[cfg(test)]
 mod row_tests;
 #[cfg(test)]

@@ -2,23 +2,42 @@
 
 ghost use Rattle.std.specs.Prelude.{◌≤◌};
 
-use hy_commands::{Command, Payment, Reply, Who};
-use hy_partition::{Job, Partition};
+use crate::forked::{Body, Forked, On, Size, of_items, run};
+use hy_commands::{Command, Commit, Payment, Reply, Who};
+use hy_loads::Load;
+use hy_partition::Loaded;
+use hy_passes::Kit;
 use hy_schema::Refusal;
-use hy_tables::generate;
 use std::process::Abort;
 
-/// The partition of a generated warehouse of three customers a district.
-fn begun(
-    rt: &(impl Abort + AllocGlobal),
-    frames: u64,
-    kept: u64,
-) -> Result<Partition<4096>, Refusal>
-    requires frames { (1 ≤ frames) × (frames ≤ 1000) }
-    requires kept { (1 ≤ kept) × (kept ≤ 1000) }
-{
-    let load = generate(rt.alloc(), 1, 3, 1).expect(rt, "a load");
-    Partition::new(rt.alloc(), &load, 1, frames, kept)
+/// What a test does with a partition.
+#[derive(Drop)]
+enum Case {
+    SecondJob,
+    RefusesInOrder,
+    Limits,
+    Spells,
+}
+
+impl<const N: usize> Body for On<N, Case> {
+    ghost page_size = { N };
+
+    fn run<K: Loaded, R: Abort + AllocGlobal>(
+        &self,
+        rt: &R,
+        load: &Load,
+        kit: Kit<Commit>,
+        size: Size,
+    ) -> Result<(), Refusal> {
+        let forked = Forked::<N, K>::new(rt, load, kit, size)?;
+        match &self.case {
+            Case::SecondJob => second_job(rt, forked),
+            Case::RefusesInOrder => refuses_each(rt, forked),
+            Case::Limits => one_is_kept(rt, forked),
+            Case::Spells => spells(rt, forked),
+        }
+        Ok(())
+    }
 }
 
 /// A payment in a district of a warehouse, by the customer of a district of a warehouse.
@@ -27,8 +46,8 @@ fn payment(
     (customer_warehouse, customer_district, customer): (u64, u64, u64),
     amount: u64,
     at: u64,
-) -> Job {
-    Job::new(Command::Payment(Payment {
+) -> Command {
+    Command::Payment(Payment {
         warehouse,
         district,
         customer_warehouse,
@@ -36,57 +55,50 @@ fn payment(
         who: Who::Number(customer),
         amount,
         at,
-    }))
+    })
 }
 
 /// A payment by customer 1 of district 1.
-fn paid(amount: u64) -> Job {
+fn paid(amount: u64) -> Command {
     payment((1, 1), (1, 1, 1), amount, 1)
 }
 
-/// The balance that a reply to a payment tells, in cents, or why it was refused.
-fn balance_of(reply: Reply) -> Result<i64, Refusal> {
-    match reply {
-        Reply::Payment { balance, .. } => Ok(balance),
-        Reply::Refused(refusal) => Err(refusal),
-        _ => Err(Refusal::OutOfRange),
+/// The balance after a payment of 1.00, or why it was refused.
+fn pay<const N: usize, K: Loaded>(
+    rt: &impl Abort,
+    forked: &mut Forked<N, K>,
+) -> Result<i64, Refusal> {
+    forked.begin(rt, paid(100))?;
+    forked.finish();
+    match forked.answer(rt) {
+        Some((Reply::Payment { balance, .. }, true)) => Ok(balance),
+        Some((Reply::Refused(refusal), false)) => Err(refusal),
+        _ => Err(Refusal::NotRunning),
     }
 }
 
-/// Why a job isn't begun.
-fn refusal_of(partition: &mut Partition<4096>, job: Job) -> Option<Refusal> {
-    match partition.begin(job) {
-        Ok(()) => None,
-        Err((job, refusal)) => match balance_of(job.refuse(refusal).open()) {
-            Ok(_) => None,
-            Err(refusal) => Some(refusal),
-        },
-    }
-}
-
-/// The balance after a payment, or why it was refused.
-fn pay(partition: &mut Partition<4096>, amount: u64) -> Result<i64, Refusal> {
-    if let Some(refusal) = refusal_of(partition, paid(amount)) {
-        return Err(refusal);
-    }
-    partition.finish_running();
-    match partition.take_done() {
-        Some(done) => balance_of(done.open()),
-        None => Err(Refusal::NotRunning),
-    }
+fn second_job<const N: usize, K: Loaded>(rt: &impl Abort, mut forked: Forked<N, K>) {
+    assert!(rt; forked.begin(rt, paid(100)).is_ok());
+    assert!(rt; forked.begin(rt, paid(200)) == Err(Refusal::Busy));
+    forked.end(rt);
 }
 
 #[test]
 fn a_second_job_is_refused(rt: HostRuntime) {
-    let mut partition = begun(&rt, 1000, 1000).expect(&rt, "a partition");
-    assert!(rt; partition.begin(paid(100)).is_ok());
-    assert!(rt; refusal_of(&mut partition, paid(200)) == Some(Refusal::Busy));
+    assert!(rt;
+        run(
+            &rt,
+            of_items(1),
+            &On::<4096, _> {
+                case: Case::SecondJob
+            }
+        )
+        .is_ok()
+    );
 }
 
-#[test]
-fn refuses_in_order(rt: HostRuntime) {
-    let mut partition = begun(&rt, 1000, 1000).expect(&rt, "a partition");
-    for (job, refusal) in [
+fn refuses_each<const N: usize, K: Loaded>(rt: &impl Abort, mut forked: Forked<N, K>) {
+    for (command, refusal) in [
         (payment((2, 1), (1, 1, 1), 99, 1), Refusal::OutOfRange),
         (payment((1, 1), (1, 1, 1), 100, 0), Refusal::OutOfRange),
         (
@@ -97,27 +109,63 @@ fn refuses_in_order(rt: HostRuntime) {
         (payment((1, 1), (1, 11, 4), 100, 1), Refusal::NoSuchDistrict),
         (payment((1, 1), (1, 1, 4), 100, 1), Refusal::NoSuchCustomer),
     ] {
-        assert!(rt; refusal_of(&mut partition, job) == Some(refusal));
+        assert!(rt; forked.begin(rt, command) == Err(refusal));
+    }
+    forked.end(rt);
+}
+
+#[test]
+fn refuses_in_order(rt: HostRuntime) {
+    assert!(rt;
+        run(
+            &rt,
+            of_items(1),
+            &On::<4096, _> {
+                case: Case::RefusesInOrder
+            }
+        )
+        .is_ok()
+    );
+}
+
+/// A partition without a free frame, which keeps one commit.
+fn one_is_kept<const N: usize, K: Loaded>(rt: &impl Abort, mut forked: Forked<N, K>) {
+    assert!(rt; forked.free() == 0 && forked.set_max(16) == Err(Refusal::OutOfRange));
+    assert!(rt; pay(rt, &mut forked).is_ok());
+    assert!(rt; pay(rt, &mut forked) == Err(Refusal::HistoryFull));
+    forked.end(rt);
+}
+
+/// What `Limits` says of a partition of at most so many frames.
+fn within(frames: u64) -> Size
+    requires { (1 ≤ frames) × (frames ≤ 1000) }
+    ensures frames { (1 ≤ result.frames) × (result.frames ≤ 1000) }
+    ensures kept { (1 ≤ result.kept) × (result.kept ≤ 10000) }
+{
+    Size {
+        items: 1,
+        frames,
+        kept: 1,
     }
 }
 
 #[test]
 fn limits_of_a_partition(rt: HostRuntime) {
-    assert!(rt; begun(&rt, 16, 1).err() == Some(Refusal::NoFrame));
-    let mut partition = begun(&rt, 17, 1).expect(&rt, "a partition");
-    assert!(rt; partition.free() == 0 && partition.set_max(16) == Err(Refusal::OutOfRange));
-    assert!(rt; pay(&mut partition, 100).is_ok());
-    assert!(rt; pay(&mut partition, 100) == Err(Refusal::HistoryFull));
+    assert!(rt;
+        run(&rt, within(16), &On::<4096, _> { case: Case::Limits }) == Err(Refusal::NoFrame)
+    );
+    assert!(rt; run(&rt, within(17), &On::<4096, _> { case: Case::Limits }) == Ok(()));
+}
+
+fn spells<const N: usize, K: Loaded>(rt: &impl Abort, mut forked: Forked<N, K>) {
+    assert!(rt; forked.fork(rt) == Ok(()));
+    forked.snapshot(rt, 0).spells();
+    forked.sound();
+    forked.close(rt, 0);
+    forked.end(rt);
 }
 
 #[test]
 fn a_snapshot_spells_its_rows(rt: HostRuntime) {
-    let mut partition = begun(&rt, 1000, 1000).expect(&rt, "a partition");
-    let snapshot = partition.fork().expect(&rt, "a snapshot");
-    partition.spells(&snapshot);
-    partition.headline();
-    match partition.close(snapshot) {
-        Ok(()) => {}
-        Err(_) => panic!(rt; "a snapshot of another partition"),
-    }
+    assert!(rt; run(&rt, of_items(1), &On::<4096, _> { case: Case::Spells }).is_ok());
 }

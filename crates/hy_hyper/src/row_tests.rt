@@ -296,13 +296,13 @@ fn names_warehouses(
         line_of(4, 1),
         line_of(5, supply_warehouse),
     ];
-    let lines = Vec::from_slice(rt.alloc(), &lines).expect(rt, "lines");
+    let lines = PurchaseLines::new(rt.alloc(), &lines).expect(rt, "lines");
     let order = Command::NewOrder(Purchase {
         warehouse: 1,
         district: 2,
         customer: 3,
         at: 1,
-        lines: PurchaseLines::new(lines),
+        lines,
     });
     assert!(rt; order.check().is_ok());
     order.warehouses().as_slice() == expected
@@ -326,8 +326,10 @@ fn commands_name_warehouses(rt: HostRuntime) {
 
 #[test]
 fn values_of_commands_are_slices(rt: HostRuntime) {
-    let lines = Vec::from_slice(rt.alloc(), &[line_of(1, 1)]).expect(&rt, "a line");
-    assert!(rt; PurchaseLines::new(lines).as_slice().len() == 1);
+    let lines = PurchaseLines::new(rt.alloc(), &[line_of(1, 1), line_of(2, 7)]).expect(
+        &rt, "lines",
+    );
+    assert!(rt; lines.len() == 2 && lines.line(1).supply_warehouse == 7);
     assert!(rt; Name::new(Vec::new(rt.alloc())).as_bytes().len() == 0);
     let order = PlacedOrder {
         number: 1,

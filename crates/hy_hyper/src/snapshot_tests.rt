@@ -1,148 +1,74 @@
 //! Snapshots beside payments and orders, with small and with large pages.
 
-ghost use Rattle.std.specs.Prelude.{◌≡◌, ◌≤◌};
+ghost use Rattle.std.specs.Prelude.{◌≤◌};
 ghost use Rattle.hy_frames.specs.FrameTable.{IsPageSize};
 
+use crate::forked::{Body, Forked, On, Size, of_items, run};
 use hy_commands::{
-    Command, OrderStatus, Payment, Purchase, PurchaseLine, PurchaseLines, Reply, Who,
+    Command, Commit, OrderStatus, Payment, Purchase, PurchaseLine, PurchaseLines, Reply, Who,
 };
-use hy_partition::{Job, Partition, Progress, Snapshot};
+use hy_loads::Load;
+use hy_partition::{Loaded, Progress, Snapshot};
+use hy_passes::Kit;
 use hy_rows::{District, Item, Listed, NewOrder, Order, OrderLine, Stock, Warehouse};
 use hy_schema::Refusal;
-use hy_tables::generate;
-use std::marker::Model;
 use std::process::Abort;
 
-/// How many frames the partitions may have.
-const FRAMES: u64 = 1000;
-
-/// A partition with the snapshots that are open of it, in the order in which they were taken.
-struct Forked<const N: usize> {
-    partition: Partition<N>,
-    snapshots: Vec<Snapshot<N>>,
+/// What a test does with a partition. HISTORY grows by so many pages, where a number is said.
+#[derive(Drop)]
+enum Case {
+    Stays,
+    ClosedInAnotherOrder(u64),
+    WithoutAFrame(u64),
+    Many(u64),
+    BetweenSlices(u64),
+    BetweenTwoPayments(u64),
+    RefusedBetweenSlices,
+    ThinHalfDone,
+    WithoutAFrameBehindTheFork,
+    WithoutTheFramesOfAFork,
+    OneByOne,
+    HalfDoneOrder,
+    OrderWithoutItsItem,
+    OrdersOverSplits,
 }
 
-// Each snapshot is open, with a child of its own. Clauses see the partition.
-impl<const N: usize> Model for Forked<N> {
-    ghost use Rattle.hy_partition.specs.Partition.{PartitionState};
-    ghost use Rattle.hy_script.specs.inside.Open.{AreOpen, IsOpenIn};
+impl<const N: usize> Body for On<N, Case> {
+    ghost page_size = { N };
 
-    ghost Value = { PartitionState };
-
-    ghost view = { λ forked. forked.partition };
-
-    ghost invariant = { λ forked.
-        AreOpen (IsOpenIn forked.partition.warehouse forked.partition.snapshots) forked.snapshots.items };
-}
-
-impl<const N: usize> Forked<N> {
-    /// The partition of a generated warehouse of three customers a district, without a snapshot.
-    fn new(rt: &(impl Abort + AllocGlobal), items: u64) -> Forked<N>
-        requires { IsPageSize N }
-    {
-        let load = generate(rt.alloc(), 1, 3, items).expect(rt, "a load");
-        let partition = Partition::new(rt.alloc(), &load, 1, FRAMES, 1000).expect(
-            rt,
-            "a partition",
-        );
-        Forked {
-            partition,
-            snapshots: Vec::new(rt.alloc()),
+    fn run<K: Loaded, R: Abort + AllocGlobal>(
+        &self,
+        rt: &R,
+        load: &Load,
+        kit: Kit<Commit>,
+        size: Size,
+    ) -> Result<(), Refusal> {
+        let forked = Forked::<N, K>::new(rt, load, kit, size)?;
+        match &self.case {
+            Case::Stays => stays(rt, forked),
+            Case::ClosedInAnotherOrder(grown) => closed_in_another_order(rt, forked, *grown),
+            Case::WithoutAFrame(grown) => without_a_frame(rt, forked, *grown),
+            Case::Many(grown) => many(rt, forked, *grown),
+            Case::BetweenSlices(grown) => between_slices(rt, forked, *grown),
+            Case::BetweenTwoPayments(grown) => between_two_payments(rt, forked, *grown),
+            Case::RefusedBetweenSlices => refused_between_slices(rt, forked),
+            Case::ThinHalfDone => thin_half_done(rt, forked),
+            Case::WithoutAFrameBehindTheFork => without_a_frame_behind_the_fork(rt, forked),
+            Case::WithoutTheFramesOfAFork => without_the_frames_of_a_fork(rt, forked),
+            Case::OneByOne => one_by_one(rt, forked),
+            Case::HalfDoneOrder => half_done_order(rt, forked),
+            Case::OrderWithoutItsItem => order_without_its_item(rt, forked),
+            Case::OrdersOverSplits => orders_over_splits(rt, forked),
         }
-    }
-
-    /// Takes a snapshot of all that is kept, behind the others.
-    fn fork(&mut self, rt: &impl Abort) -> Result<(), Refusal> {
-        self.snapshots.reserve(1).expect(rt, "a place");
-        let snapshot = self.partition.fork()?;
-        self.snapshots.push_reserved(snapshot);
         Ok(())
     }
+}
 
-    /// Closes the snapshot at a place.
-    fn close(&mut self, rt: &impl Abort, place: usize) {
-        assert!(rt; place < self.snapshots.len());
-        let snapshot = self.snapshots.remove(place);
-        match self.partition.close(snapshot) {
-            Ok(()) => {}
-            Err(_) => panic!(rt; "a snapshot of another partition"),
-        }
-    }
-
-    /// Begins a command.
-    fn begin(&mut self, command: Command) -> Result<(), Refusal> {
-        match self.partition.begin(Job::new(command)) {
-            Ok(()) => Ok(()),
-            Err((_job, refusal)) => Err(refusal),
-        }
-    }
-
-    /// One slice of the job that runs.
-    fn step(&mut self) -> Result<Progress, Refusal> {
-        self.partition.step()
-    }
-
-    /// All slices of the job that runs.
-    fn finish(&mut self) {
-        self.partition.finish_running();
-    }
-
-    /// The answer that waits to be taken.
-    fn answer(&mut self) -> Option<Reply> {
-        self.partition.take_done().map(|done| done.open())
-    }
-
-    /// Lets so many frames be free, of which there may be `FRAMES` until then.
-    fn limit(&mut self, rt: &impl Abort, free: u64) {
-        let used = FRAMES.saturating_sub(self.partition.free());
-        assert!(rt; self.partition.set_max(used.saturating_add(free)).is_ok());
-    }
-
-    /// The number of the warehouse.
-    fn warehouse(&self) -> u8 {
-        self.partition.warehouse()
-    }
-
-    /// Whether the next slice is the last one.
-    fn at_last(&self) -> bool {
-        self.partition.at_last()
-    }
-
-    /// How many frames are free.
-    fn free(&self) -> u64 {
-        self.partition.free()
-    }
-
-    /// How many frames more than one page table maps.
-    fn shared(&self) -> u64 {
-        self.partition.shared()
-    }
-
-    /// How many pages the job that runs has written.
-    fn touched(&self) -> u64 {
-        self.partition.touched()
-    }
-
-    /// How many commits are kept.
-    fn kept(&self) -> usize {
-        self.partition.kept().len()
-    }
-
-    /// The snapshot at a place.
-    fn snapshot(&self, rt: &impl Abort, place: usize) -> &Snapshot<N> {
-        self.snapshots.get(place).expect(rt, "a snapshot")
-    }
-
-    /// The partition, of which no snapshot is open any more, is given up. Answers how many frames are free.
-    fn end(self, rt: &impl Abort) -> u64 {
-        let Forked {
-            partition,
-            snapshots,
-        } = self;
-        assert!(rt; snapshots.is_empty() && partition.shared() == 0);
-        snapshots.destroy_empty();
-        partition.free()
-    }
+/// A case with a partition of so many items.
+fn try_case<const N: usize, R: Abort + AllocGlobal>(rt: &R, items: u64, case: Case)
+    requires { IsPageSize N }
+{
+    run(rt, of_items(items), &On::<N, _> { case }).expect(rt, "a partition");
 }
 
 /// A payment by customer 1 of district 1.
@@ -158,40 +84,51 @@ fn payment(amount: u64) -> Command {
     })
 }
 
-/// The balance that a reply to a payment tells, in cents, or why it was refused.
-fn balance_of(reply: Option<Reply>) -> Result<i64, Refusal> {
-    match reply {
-        Some(Reply::Payment { balance, .. }) => Ok(balance),
-        Some(Reply::Refused(refusal)) => Err(refusal),
+/// The balance that an answer to a payment tells, in cents, or why it was refused. Only an accepted one has a share.
+fn balance_of(answer: Option<(Reply, bool)>) -> Result<i64, Refusal> {
+    match answer {
+        Some((Reply::Payment { balance, .. }, true)) => Ok(balance),
+        Some((Reply::Refused(refusal), false)) => Err(refusal),
         _ => Err(Refusal::NotRunning),
     }
 }
 
 /// The balance after a payment, or why it was refused.
-fn pay<const N: usize>(forked: &mut Forked<N>, amount: u64) -> Result<i64, Refusal> {
-    forked.begin(payment(amount))?;
+fn pay<const N: usize, K: Loaded>(
+    rt: &impl Abort,
+    forked: &mut Forked<N, K>,
+    amount: u64,
+) -> Result<i64, Refusal> {
+    forked.begin(rt, payment(amount))?;
     forked.finish();
-    balance_of(forked.answer())
+    balance_of(forked.answer(rt))
 }
 
 /// The first slice of a payment.
-fn pay_half<const N: usize>(forked: &mut Forked<N>, amount: u64) -> Result<Progress, Refusal> {
-    forked.begin(payment(amount))?;
+fn pay_half<const N: usize, K: Loaded>(
+    rt: &impl Abort,
+    forked: &mut Forked<N, K>,
+    amount: u64,
+) -> Result<Progress, Refusal> {
+    forked.begin(rt, payment(amount))?;
     forked.step()
 }
 
 /// The last slice of the payment that runs, and the balance after it.
-fn pay_rest<const N: usize>(forked: &mut Forked<N>) -> Result<i64, Refusal> {
+fn pay_rest<const N: usize, K: Loaded>(
+    rt: &impl Abort,
+    forked: &mut Forked<N, K>,
+) -> Result<i64, Refusal> {
     match forked.step() {
-        Ok(Progress::Finished) => balance_of(forked.answer()),
+        Ok(Progress::Finished) => balance_of(forked.answer(rt)),
         _ => Err(Refusal::NotRunning),
     }
 }
 
 /// Whether W_YTD is this in the snapshot at a place.
-fn has_ytd<const N: usize>(
+fn has_ytd<const N: usize, K: Loaded>(
     rt: &(impl Abort + AllocGlobal),
-    forked: &Forked<N>,
+    forked: &Forked<N, K>,
     place: usize,
     ytd: i64,
 ) -> bool {
@@ -206,9 +143,9 @@ fn has_ytd<const N: usize>(
 }
 
 /// Whether the snapshot at a place has so many commits.
-fn has_commits<const N: usize>(
+fn has_commits<const N: usize, K: Loaded>(
     rt: &impl Abort,
-    forked: &Forked<N>,
+    forked: &Forked<N, K>,
     place: usize,
     commits: u64,
 ) -> bool {
@@ -216,12 +153,9 @@ fn has_commits<const N: usize>(
 }
 
 /// A snapshot before a payment and one behind it.
-fn stays<const N: usize>(rt: &(impl Abort + AllocGlobal))
-    requires { IsPageSize N }
-{
-    let mut forked: Forked<N> = Forked::new(rt, 1);
+fn stays<const N: usize, K: Loaded>(rt: &(impl Abort + AllocGlobal), mut forked: Forked<N, K>) {
     assert!(rt; forked.fork(rt) == Ok(()));
-    assert!(rt; pay(&mut forked, 100) == Ok(-1100));
+    assert!(rt; pay(rt, &mut forked, 100) == Ok(-1100));
     assert!(rt; forked.fork(rt) == Ok(()));
     assert!(rt; has_ytd(rt, &forked, 0, 30_000) && has_commits(rt, &forked, 0, 0));
     assert!(rt; has_ytd(rt, &forked, 1, 30_100) && has_commits(rt, &forked, 1, 1));
@@ -231,15 +165,16 @@ fn stays<const N: usize>(rt: &(impl Abort + AllocGlobal))
 }
 
 /// Three snapshots with payments between them, closed in another order than they were opened. HISTORY grows by some pages.
-fn closed_in_another_order<const N: usize>(rt: &(impl Abort + AllocGlobal), grown: u64)
-    requires { IsPageSize N }
-{
-    let mut forked: Forked<N> = Forked::new(rt, 1);
+fn closed_in_another_order<const N: usize, K: Loaded>(
+    rt: &(impl Abort + AllocGlobal),
+    mut forked: Forked<N, K>,
+    grown: u64,
+) {
     let free = forked.free();
     assert!(rt; forked.fork(rt) == Ok(()));
-    assert!(rt; pay(&mut forked, 100).is_ok());
+    assert!(rt; pay(rt, &mut forked, 100).is_ok());
     assert!(rt; forked.fork(rt) == Ok(()));
-    assert!(rt; pay(&mut forked, 500).is_ok());
+    assert!(rt; pay(rt, &mut forked, 500).is_ok());
     assert!(rt; forked.fork(rt) == Ok(()));
     forked.close(rt, 1);
     assert!(rt; has_ytd(rt, &forked, 0, 30_000) && has_ytd(rt, &forked, 1, 30_600));
@@ -250,36 +185,38 @@ fn closed_in_another_order<const N: usize>(rt: &(impl Abort + AllocGlobal), grow
 }
 
 /// A payment that finds one free frame, beside a snapshot, and once the snapshot is closed. HISTORY grows by some pages.
-fn without_a_frame<const N: usize>(rt: &(impl Abort + AllocGlobal), grown: u64)
-    requires { IsPageSize N }
-{
-    let mut forked: Forked<N> = Forked::new(rt, 1);
+fn without_a_frame<const N: usize, K: Loaded>(
+    rt: &(impl Abort + AllocGlobal),
+    mut forked: Forked<N, K>,
+    grown: u64,
+) {
     forked.limit(rt, 1);
     assert!(rt; forked.free() == 1 && forked.fork(rt) == Ok(()));
-    assert!(rt; pay(&mut forked, 100) == Err(Refusal::NoFrame));
+    assert!(rt; pay(rt, &mut forked, 100) == Err(Refusal::NoFrame));
     assert!(rt; forked.fork(rt) == Ok(()) && forked.kept() == 0);
     assert!(rt; has_ytd(rt, &forked, 0, 30_000) && has_ytd(rt, &forked, 1, 30_000));
     forked.close(rt, 0);
     forked.close(rt, 0);
-    assert!(rt; pay(&mut forked, 100) == Ok(-1100));
+    assert!(rt; pay(rt, &mut forked, 100) == Ok(-1100));
     assert!(rt; forked.fork(rt) == Ok(()) && has_ytd(rt, &forked, 0, 30_100));
     forked.close(rt, 0);
     assert!(rt; forked.end(rt).saturating_add(grown) == 1);
 }
 
 /// A snapshot with a payment beside it.
-fn paid_beside<const N: usize>(rt: &impl Abort, forked: &mut Forked<N>, free: u64) {
+fn paid_beside<const N: usize, K: Loaded>(rt: &impl Abort, forked: &mut Forked<N, K>, free: u64) {
     assert!(rt; forked.fork(rt) == Ok(()));
-    assert!(rt; pay(forked, 100).is_ok());
+    assert!(rt; pay(rt, forked, 100).is_ok());
     assert!(rt; forked.free() < free && forked.shared() > 0);
     forked.close(rt, 0);
 }
 
 /// Many snapshots, each with a payment beside it. HISTORY grows by some pages.
-fn many<const N: usize>(rt: &(impl Abort + AllocGlobal), grown: u64)
-    requires { IsPageSize N }
-{
-    let mut forked: Forked<N> = Forked::new(rt, 1);
+fn many<const N: usize, K: Loaded>(
+    rt: &(impl Abort + AllocGlobal),
+    mut forked: Forked<N, K>,
+    grown: u64,
+) {
     let free = forked.free();
     for _ in 0..50 {
         paid_beside(rt, &mut forked, free);
@@ -289,15 +226,16 @@ fn many<const N: usize>(rt: &(impl Abort + AllocGlobal), grown: u64)
 }
 
 /// Snapshots before, between and after the slices of a payment, closed in another order. HISTORY grows by some pages.
-fn between_slices<const N: usize>(rt: &(impl Abort + AllocGlobal), grown: u64)
-    requires { IsPageSize N }
-{
-    let mut forked: Forked<N> = Forked::new(rt, 1);
+fn between_slices<const N: usize, K: Loaded>(
+    rt: &(impl Abort + AllocGlobal),
+    mut forked: Forked<N, K>,
+    grown: u64,
+) {
     let free = forked.free();
     assert!(rt; forked.fork(rt) == Ok(()));
-    assert!(rt; pay_half(&mut forked, 100) == Ok(Progress::More));
+    assert!(rt; pay_half(rt, &mut forked, 100) == Ok(Progress::More));
     assert!(rt; forked.fork(rt) == Ok(()));
-    assert!(rt; pay_rest(&mut forked) == Ok(-1100));
+    assert!(rt; pay_rest(rt, &mut forked) == Ok(-1100));
     assert!(rt; forked.fork(rt) == Ok(()));
     assert!(rt; has_commits(rt, &forked, 1, 0) && has_commits(rt, &forked, 2, 1));
     forked.close(rt, 1);
@@ -309,15 +247,16 @@ fn between_slices<const N: usize>(rt: &(impl Abort + AllocGlobal), grown: u64)
 }
 
 /// Snapshots between the slices of two payments, the later one closed first. HISTORY grows by some pages.
-fn between_two_payments<const N: usize>(rt: &(impl Abort + AllocGlobal), grown: u64)
-    requires { IsPageSize N }
-{
-    let mut forked: Forked<N> = Forked::new(rt, 1);
+fn between_two_payments<const N: usize, K: Loaded>(
+    rt: &(impl Abort + AllocGlobal),
+    mut forked: Forked<N, K>,
+    grown: u64,
+) {
     let free = forked.free();
-    assert!(rt; pay_half(&mut forked, 100) == Ok(Progress::More) && forked.fork(rt) == Ok(()));
-    assert!(rt; pay_rest(&mut forked) == Ok(-1100));
-    assert!(rt; pay_half(&mut forked, 500) == Ok(Progress::More) && forked.fork(rt) == Ok(()));
-    assert!(rt; pay_rest(&mut forked) == Ok(-1600));
+    assert!(rt; pay_half(rt, &mut forked, 100) == Ok(Progress::More) && forked.fork(rt) == Ok(()));
+    assert!(rt; pay_rest(rt, &mut forked) == Ok(-1100));
+    assert!(rt; pay_half(rt, &mut forked, 500) == Ok(Progress::More) && forked.fork(rt) == Ok(()));
+    assert!(rt; pay_rest(rt, &mut forked) == Ok(-1600));
     assert!(rt; has_ytd(rt, &forked, 0, 30_000) && has_ytd(rt, &forked, 1, 30_100));
     forked.close(rt, 1);
     assert!(rt; has_ytd(rt, &forked, 0, 30_000));
@@ -326,13 +265,13 @@ fn between_two_payments<const N: usize>(rt: &(impl Abort + AllocGlobal), grown: 
 }
 
 /// A half-done payment beside a snapshot, and no frame free: the second slice is refused, and the first undone.
-fn refused_between_slices<const N: usize>(rt: &(impl Abort + AllocGlobal))
-    requires { IsPageSize N }
-{
-    let mut forked: Forked<N> = Forked::new(rt, 1);
-    assert!(rt; pay_half(&mut forked, 100) == Ok(Progress::More) && forked.fork(rt) == Ok(()));
+fn refused_between_slices<const N: usize, K: Loaded>(
+    rt: &(impl Abort + AllocGlobal),
+    mut forked: Forked<N, K>,
+) {
+    assert!(rt; pay_half(rt, &mut forked, 100) == Ok(Progress::More) && forked.fork(rt) == Ok(()));
     forked.limit(rt, 0);
-    assert!(rt; forked.free() == 0 && pay_rest(&mut forked) == Err(Refusal::NoFrame));
+    assert!(rt; forked.free() == 0 && pay_rest(rt, &mut forked) == Err(Refusal::NoFrame));
     assert!(rt; forked.fork(rt) == Ok(()) && forked.kept() == 0 && forked.touched() == 0);
     assert!(rt; has_ytd(rt, &forked, 0, 30_000) && has_ytd(rt, &forked, 1, 30_000));
     forked.close(rt, 0);
@@ -342,103 +281,121 @@ fn refused_between_slices<const N: usize>(rt: &(impl Abort + AllocGlobal))
 
 #[test]
 fn first_snapshot_stays(rt: HostRuntime) {
-    stays::<256>(&rt);
-    stays::<4096>(&rt);
+    try_case::<256, _>(&rt, 1, Case::Stays);
+    try_case::<4096, _>(&rt, 1, Case::Stays);
 }
 
 #[test]
 fn forks_closed_in_another_order(rt: HostRuntime) {
-    closed_in_another_order::<256>(&rt, 1);
-    closed_in_another_order::<4096>(&rt, 0);
+    try_case::<256, _>(&rt, 1, Case::ClosedInAnotherOrder(1));
+    try_case::<4096, _>(&rt, 1, Case::ClosedInAnotherOrder(0));
 }
 
 #[test]
 fn a_write_without_a_frame(rt: HostRuntime) {
-    without_a_frame::<256>(&rt, 1);
-    without_a_frame::<4096>(&rt, 0);
+    try_case::<256, _>(&rt, 1, Case::WithoutAFrame(1));
+    try_case::<4096, _>(&rt, 1, Case::WithoutAFrame(0));
 }
 
 #[test]
 fn frames_come_back(rt: HostRuntime) {
-    many::<256>(&rt, 10);
-    many::<4096>(&rt, 0);
+    try_case::<256, _>(&rt, 1, Case::Many(10));
+    try_case::<4096, _>(&rt, 1, Case::Many(0));
 }
 
 #[test]
 fn forks_between_slices(rt: HostRuntime) {
-    between_slices::<256>(&rt, 1);
-    between_slices::<4096>(&rt, 0);
-    between_two_payments::<256>(&rt, 1);
-    between_two_payments::<4096>(&rt, 0);
+    try_case::<256, _>(&rt, 1, Case::BetweenSlices(1));
+    try_case::<4096, _>(&rt, 1, Case::BetweenSlices(0));
+    try_case::<256, _>(&rt, 1, Case::BetweenTwoPayments(1));
+    try_case::<4096, _>(&rt, 1, Case::BetweenTwoPayments(0));
 }
 
 #[test]
 fn rollback_without_frames(rt: HostRuntime) {
-    refused_between_slices::<256>(&rt);
-    refused_between_slices::<4096>(&rt);
+    try_case::<256, _>(&rt, 1, Case::RefusedBetweenSlices);
+    try_case::<4096, _>(&rt, 1, Case::RefusedBetweenSlices);
 }
 
-/// A partition with the first slice of a payment of 100 cents done, and so many frames free. The slice has written the
-/// pages of its warehouse and of its district, and two of HISTORY.
-fn half_done(rt: &(impl Abort + AllocGlobal), free: u64) -> Forked<4096> {
-    let mut forked: Forked<4096> = Forked::new(rt, 1);
-    assert!(rt; pay_half(&mut forked, 100) == Ok(Progress::More));
+/// The first slice of a payment of 100 cents, and then so many frames are free. With pages of 4,096 bytes the slice has
+/// written the pages of its warehouse and of its district, and two of HISTORY.
+fn half_done<const N: usize, K: Loaded>(rt: &impl Abort, forked: &mut Forked<N, K>, free: u64) {
+    assert!(rt; pay_half(rt, forked, 100) == Ok(Progress::More));
     assert!(rt; forked.touched() == 4);
     forked.limit(rt, free);
     assert!(rt; forked.free() == free);
-    forked
 }
 
-#[test]
-fn thin_half_done(rt: HostRuntime) {
-    let mut forked = half_done(&rt, 5);
-    assert!(rt; forked.fork(&rt) == Ok(()) && forked.free() == 1);
-    assert!(rt; has_ytd(&rt, &forked, 0, 30_000));
-    assert!(rt; pay_rest(&mut forked) == Ok(-1100) && forked.free() == 0);
-    forked.close(&rt, 0);
-    forked.end(&rt);
+/// A half-done payment with one frame more than a fork takes.
+fn thin_half_done<const N: usize, K: Loaded>(
+    rt: &(impl Abort + AllocGlobal),
+    mut forked: Forked<N, K>,
+) {
+    half_done(rt, &mut forked, 5);
+    assert!(rt; forked.fork(rt) == Ok(()) && forked.free() == 1);
+    assert!(rt; has_ytd(rt, &forked, 0, 30_000));
+    assert!(rt; pay_rest(rt, &mut forked) == Ok(-1100) && forked.free() == 0);
+    forked.close(rt, 0);
+    forked.end(rt);
 }
 
-#[test]
-fn half_done_without_a_frame_behind_the_fork(rt: HostRuntime) {
-    let mut forked = half_done(&rt, 4);
-    assert!(rt; forked.fork(&rt) == Ok(()) && forked.free() == 0);
-    assert!(rt; has_ytd(&rt, &forked, 0, 30_000));
-    assert!(rt; pay_rest(&mut forked) == Err(Refusal::NoFrame));
-    forked.close(&rt, 0);
-    forked.end(&rt);
+/// With just the frames that a fork takes.
+fn without_a_frame_behind_the_fork<const N: usize, K: Loaded>(
+    rt: &(impl Abort + AllocGlobal),
+    mut forked: Forked<N, K>,
+) {
+    half_done(rt, &mut forked, 4);
+    assert!(rt; forked.fork(rt) == Ok(()) && forked.free() == 0);
+    assert!(rt; has_ytd(rt, &forked, 0, 30_000));
+    assert!(rt; pay_rest(rt, &mut forked) == Err(Refusal::NoFrame));
+    forked.close(rt, 0);
+    forked.end(rt);
 }
 
-#[test]
-fn half_done_without_the_frames_of_a_fork(rt: HostRuntime) {
-    let mut forked = half_done(&rt, 3);
-    assert!(rt; forked.fork(&rt) == Err(Refusal::NoFrame));
+/// With one frame less than a fork takes.
+fn without_the_frames_of_a_fork<const N: usize, K: Loaded>(
+    rt: &impl Abort,
+    mut forked: Forked<N, K>,
+) {
+    half_done(rt, &mut forked, 3);
+    assert!(rt; forked.fork(rt) == Err(Refusal::NoFrame));
     assert!(rt; forked.shared() == 0 && forked.free() == 3 && forked.touched() == 4);
-    assert!(rt; pay_rest(&mut forked) == Ok(-1100));
-    forked.end(&rt);
+    assert!(rt; pay_rest(rt, &mut forked) == Ok(-1100));
+    forked.end(rt);
+}
+
+/// What is seen between the slices of a payment.
+fn one_by_one<const N: usize, K: Loaded>(rt: &impl Abort, mut forked: Forked<N, K>) {
+    assert!(rt; forked.warehouse() == 1 && forked.step() == Err(Refusal::NotRunning));
+    assert!(rt; forked.begin(rt, payment(100)) == Ok(()));
+    assert!(rt; !forked.at_last() && forked.touched() == 0);
+    assert!(rt; forked.step() == Ok(Progress::More));
+    assert!(rt; forked.at_last() && forked.touched() == 4 && forked.kept() == 0);
+    assert!(rt; forked.begin(rt, payment(200)) == Err(Refusal::Busy));
+    assert!(rt; forked.step() == Ok(Progress::Finished));
+    assert!(rt; forked.touched() == 0 && forked.kept() == 1);
+    assert!(rt; balance_of(forked.answer(rt)) == Ok(-1100));
+    assert!(rt; forked.answer(rt).is_none());
+    forked.end(rt);
+}
+
+#[test]
+fn half_done_with_few_frames(rt: HostRuntime) {
+    try_case::<4096, _>(&rt, 1, Case::ThinHalfDone);
+    try_case::<4096, _>(&rt, 1, Case::WithoutAFrameBehindTheFork);
+    try_case::<4096, _>(&rt, 1, Case::WithoutTheFramesOfAFork);
 }
 
 #[test]
 fn slices_one_by_one(rt: HostRuntime) {
-    let mut forked: Forked<4096> = Forked::new(&rt, 1);
-    assert!(rt; forked.warehouse() == 1 && forked.step() == Err(Refusal::NotRunning));
-    assert!(rt; forked.begin(payment(100)) == Ok(()));
-    assert!(rt; !forked.at_last() && forked.touched() == 0);
-    assert!(rt; forked.step() == Ok(Progress::More));
-    assert!(rt; forked.at_last() && forked.touched() == 4 && forked.kept() == 0);
-    assert!(rt; forked.begin(payment(200)) == Err(Refusal::Busy));
-    assert!(rt; forked.step() == Ok(Progress::Finished));
-    assert!(rt; forked.touched() == 0 && forked.kept() == 1);
-    assert!(rt; balance_of(forked.answer()) == Ok(-1100));
-    assert!(rt; forked.answer().is_none());
-    forked.end(&rt);
+    try_case::<4096, _>(&rt, 1, Case::OneByOne);
 }
 
 /// Whether these orders, this next number in district 1 and this stock of item 1 are in the snapshot at a place, with
 /// as many items as it has rows of STOCK, the first of which costs 1.37.
-fn has_orders<const N: usize>(
+fn has_orders<const N: usize, K: Loaded>(
     rt: &(impl Abort + AllocGlobal),
-    forked: &Forked<N>,
+    forked: &Forked<N, K>,
     place: usize,
     (count, next, quantity): (usize, u32, u16),
 ) -> bool {
@@ -465,52 +422,52 @@ fn has_orders<const N: usize>(
 
 /// An order of five lines in district 1, for these items.
 fn order_of(rt: &(impl Abort + AllocGlobal), items: [u64; 5]) -> Command {
-    let mut lines = Vec::new(rt.alloc());
-    for item in items {
-        lines
-            .push(PurchaseLine {
-                item,
-                supply_warehouse: 1,
-                quantity: 5,
-            })
-            .expect(rt, "a line");
-    }
+    let lines = items.map(|item| PurchaseLine {
+        item,
+        supply_warehouse: 1,
+        quantity: 5,
+    });
+    let lines = PurchaseLines::new(rt.alloc(), &lines).expect(rt, "lines");
     Command::NewOrder(Purchase {
         warehouse: 1,
         district: 1,
         customer: 1,
         at: 1,
-        lines: PurchaseLines::new(lines),
+        lines,
     })
 }
 
-/// A partition of a generated warehouse of twenty items, with three slices done of an order of five lines.
-fn ordering<const N: usize>(rt: &(impl Abort + AllocGlobal), third: u64) -> Forked<N>
-    requires { IsPageSize N }
-{
-    let mut forked: Forked<N> = Forked::new(rt, 20);
-    assert!(rt; forked.begin(order_of(rt, [1, 2, third, 4, 5])).is_ok());
+/// Three slices of an order of five lines, where the partition has twenty items.
+fn order_three<const N: usize, K: Loaded>(
+    rt: &(impl Abort + AllocGlobal),
+    forked: &mut Forked<N, K>,
+    third: u64,
+) {
+    assert!(rt; forked.begin(rt, order_of(rt, [1, 2, third, 4, 5])).is_ok());
     for _ in 0..3 {
         assert!(rt; forked.step() == Ok(Progress::More));
     }
-    forked
 }
 
 /// A snapshot of a half-done order has nothing of it, also once the order is whole.
-fn half_done_order<const N: usize>(rt: &(impl Abort + AllocGlobal))
-    requires { IsPageSize N }
-{
-    let mut forked: Forked<N> = ordering(rt, 3);
+fn half_done_order<const N: usize, K: Loaded>(
+    rt: &(impl Abort + AllocGlobal),
+    mut forked: Forked<N, K>,
+) {
+    order_three(rt, &mut forked, 3);
     assert!(rt; forked.fork(rt) == Ok(()) && has_orders(rt, &forked, 0, (0, 1, 18)));
     forked.finish();
-    let answer = forked.answer();
+    let answer = forked.answer(rt);
     assert!(rt;
         matches!(
             answer,
-            Some(Reply::NewOrder {
-                order: 1,
-                total: 5536
-            })
+            Some((
+                Reply::NewOrder {
+                    order: 1,
+                    total: 5536
+                },
+                true
+            ))
         )
     );
     assert!(rt; has_orders(rt, &forked, 0, (0, 1, 18)));
@@ -521,13 +478,14 @@ fn half_done_order<const N: usize>(rt: &(impl Abort + AllocGlobal))
 }
 
 /// An order whose third item isn't there leaves nothing.
-fn order_without_its_item<const N: usize>(rt: &(impl Abort + AllocGlobal))
-    requires { IsPageSize N }
-{
-    let mut forked: Forked<N> = ordering(rt, 21);
+fn order_without_its_item<const N: usize, K: Loaded>(
+    rt: &(impl Abort + AllocGlobal),
+    mut forked: Forked<N, K>,
+) {
+    order_three(rt, &mut forked, 21);
     forked.finish();
-    let answer = forked.answer();
-    assert!(rt; matches!(answer, Some(Reply::Refused(Refusal::NoSuchItem))));
+    let answer = forked.answer(rt);
+    assert!(rt; matches!(answer, Some((Reply::Refused(Refusal::NoSuchItem), false))));
     assert!(rt; forked.kept() == 0 && forked.touched() == 0);
     assert!(rt; forked.fork(rt) == Ok(()) && has_orders(rt, &forked, 0, (0, 1, 18)));
     forked.close(rt, 0);
@@ -536,10 +494,10 @@ fn order_without_its_item<const N: usize>(rt: &(impl Abort + AllocGlobal))
 
 #[test]
 fn snapshots_of_orders(rt: HostRuntime) {
-    half_done_order::<256>(&rt);
-    half_done_order::<4096>(&rt);
-    order_without_its_item::<256>(&rt);
-    order_without_its_item::<4096>(&rt);
+    try_case::<256, _>(&rt, 20, Case::HalfDoneOrder);
+    try_case::<4096, _>(&rt, 20, Case::HalfDoneOrder);
+    try_case::<256, _>(&rt, 20, Case::OrderWithoutItsItem);
+    try_case::<4096, _>(&rt, 20, Case::OrderWithoutItsItem);
 }
 
 /// Whether two snapshots have the same rows of one table.
@@ -554,7 +512,11 @@ fn has_same<R: Listed + PartialEq, const N: usize>(
 }
 
 /// The snapshot at a place has the rows of the first one, in the tables that an order changes.
-fn agrees_with_first<const N: usize>(rt: &impl Abort, forked: &Forked<N>, place: usize) {
+fn agrees_with_first<const N: usize, K: Loaded>(
+    rt: &impl Abort,
+    forked: &Forked<N, K>,
+    place: usize,
+) {
     let (first, other) = (forked.snapshot(rt, 0), forked.snapshot(rt, place));
     assert!(rt; has_same::<District, N>(rt, first, other));
     assert!(rt; has_same::<Order, N>(rt, first, other));
@@ -564,16 +526,19 @@ fn agrees_with_first<const N: usize>(rt: &impl Abort, forked: &Forked<N>, place:
 }
 
 /// An order whose last item isn't there: snapshots before it, behind its fourth line and once it is rolled back.
-fn order_to_its_last<const N: usize>(rt: &(impl Abort + AllocGlobal), forked: &mut Forked<N>) {
+fn order_to_its_last<const N: usize, K: Loaded>(
+    rt: &(impl Abort + AllocGlobal),
+    forked: &mut Forked<N, K>,
+) {
     assert!(rt; forked.fork(rt) == Ok(()));
-    assert!(rt; forked.begin(order_of(rt, [1, 2, 3, 4, 21])).is_ok());
+    assert!(rt; forked.begin(rt, order_of(rt, [1, 2, 3, 4, 21])).is_ok());
     for _ in 0..5 {
         assert!(rt; forked.step() == Ok(Progress::More));
     }
     assert!(rt; forked.fork(rt) == Ok(()));
     forked.finish();
-    let answer = forked.answer();
-    assert!(rt; matches!(answer, Some(Reply::Refused(Refusal::NoSuchItem))));
+    let answer = forked.answer(rt);
+    assert!(rt; matches!(answer, Some((Reply::Refused(Refusal::NoSuchItem), false))));
     assert!(rt; forked.fork(rt) == Ok(()));
     for place in 1..3 {
         agrees_with_first(rt, forked, place);
@@ -584,25 +549,34 @@ fn order_to_its_last<const N: usize>(rt: &(impl Abort + AllocGlobal), forked: &m
 }
 
 /// The number that an order gets.
-fn number_of<const N: usize>(rt: &(impl Abort + AllocGlobal), forked: &mut Forked<N>) -> u32 {
-    assert!(rt; forked.begin(order_of(rt, [1, 2, 3, 4, 5])).is_ok());
+fn number_of<const N: usize, K: Loaded>(
+    rt: &(impl Abort + AllocGlobal),
+    forked: &mut Forked<N, K>,
+) -> u32 {
+    assert!(rt; forked.begin(rt, order_of(rt, [1, 2, 3, 4, 5])).is_ok());
     forked.finish();
-    match forked.answer() {
-        Some(Reply::NewOrder { order, .. }) => order,
+    match forked.answer(rt) {
+        Some((Reply::NewOrder { order, .. }, true)) => order,
         _ => panic!(rt; "an order"),
     }
 }
 
 /// The number of the last order of the customer who orders, and how many lines it has.
-fn last_order<const N: usize>(rt: &impl Abort, forked: &mut Forked<N>) -> (u32, usize) {
-    assert!(rt; forked.begin(status()).is_ok());
+fn last_order<const N: usize, K: Loaded>(
+    rt: &impl Abort,
+    forked: &mut Forked<N, K>,
+) -> (u32, usize) {
+    assert!(rt; forked.begin(rt, status()).is_ok());
     forked.finish();
-    match forked.answer() {
+    match forked.answer(rt) {
         Some(
-            Reply::OrderStatus {
-                order: Some(order),
-                ..
-            },
+            (
+                Reply::OrderStatus {
+                    order: Some(order),
+                    ..
+                },
+                false,
+            ),
         ) => { (order.number, order.lines.as_slice().len()) }
         _ => panic!(rt; "an order"),
     }
@@ -620,10 +594,10 @@ fn status() -> Command {
 /// Forty orders of five lines, before each of which one is rolled back behind its fourth line. With pages of 256 bytes a
 /// leaf of the lines' index has room for 17 of them, and keeps 13 when it is split for a line behind all others. So some
 /// third of the orders split one, most of them also when they are half-done.
-fn orders_over_splits<const N: usize>(rt: &(impl Abort + AllocGlobal))
-    requires { IsPageSize N }
-{
-    let mut forked: Forked<N> = Forked::new(rt, 20);
+fn orders_over_splits<const N: usize, K: Loaded>(
+    rt: &(impl Abort + AllocGlobal),
+    mut forked: Forked<N, K>,
+) {
     for number in 1..=40 {
         order_to_its_last(rt, &mut forked);
         assert!(rt; number_of(rt, &mut forked) == number);
@@ -634,5 +608,5 @@ fn orders_over_splits<const N: usize>(rt: &(impl Abort + AllocGlobal))
 
 #[test]
 fn half_done_orders_over_splits(rt: HostRuntime) {
-    orders_over_splits::<256>(&rt);
+    try_case::<256, _>(&rt, 20, Case::OrdersOverSplits);
 }
