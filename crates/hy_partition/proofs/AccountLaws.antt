@@ -1,5 +1,5 @@
 -- What an accepted command does to the accounts.
-use Rattle.std.proofs.Common.{◌≡◌, ℕ, zero, suc, ◌+◌, ◌<◌, ◌≤◌, ℤ, pos, ◌+ℤ◌, ◌==◌, Bool, true, false, cond, List, [], ◌∷◌, ◌++◌, map, filter, length, Some, None, refl, sym, ap, ◌∙◌, subst, arith, eq-eqb, length-append, lit≤}
+use Rattle.std.proofs.Common.{◌≡◌, ℕ, suc, ◌+◌, ◌≤◌, pos, ◌+ℤ◌, ◌==◌, Bool, true, false, cond, List, [], ◌∷◌, ◌++◌, map, length, None, refl, sym, ap, ◌∙◌, subst, arith, eq-eqb, length-append, lit≤}
 use Rattle.std.specs.Prelude.{fold}
 use Rattle.std.proofs.lemmas.Int.{ints}
 use Rattle.std.proofs.lemmas.Bool.Decides.{nat_tests}
@@ -19,12 +19,12 @@ use Rattle.hy_commands.specs.declared.command.Command.TheVariants as commands
 use Rattle.hy_commands.specs.declared.command.Commit.{Commit}
 use Rattle.hy_commands.specs.declared.command.Commit.TheVariants as commits
 use Rattle.hy_commands.specs.declared.command.Delivery.{Delivery}
-use Rattle.hy_commands.specs.Commands.{command_of, home_of, is_reader, kept_of, warehouses_of}
+use Rattle.hy_commands.specs.Commands.{command_of, home_of, is_reader, kept_of}
 use Rattle.hy_commands.specs.Deliveries.{delivered_in, oldest, with_delivered}
 use Rattle.hy_commands.specs.Invariant.{IsSoundWarehouse}
 use Rattle.hy_commands.specs.Payments.{warehouse_paid}
 use Rattle.hy_commands.specs.Replay.{rows_after}
-use Rattle.hy_commands.specs.Transactions.{accepted, act, refusal_of}
+use Rattle.hy_commands.specs.Transactions.{accepted, refusal_of}
 use Rattle.hy_commands.proofs.AcceptedLaws.{accepted-not_refused, accepted-payment}
 use Rattle.hy_commands.proofs.NamedLaws.{first-named, named-accepted}
 use Rattle.hy_partition.specs.Accounts.{IsBookOf, home_commits, taken_in, with_command}

@@ -1,5 +1,5 @@
 -- Why a partition isn't made.
-use Rattle.std.proofs.Common.{◌≡◌, ◌≤◌, ℕ, ◌+ℤ◌, pos, false, List, [], Option, None, Result, Err, inl, inr, true, refl, sym, ap, ◌∙◌, subst, arith, true≢false}
+use Rattle.std.proofs.Common.{◌≡◌, ◌≤◌, ℕ, [], None, Result, Err, inl, inr, refl, sym, ap, ◌∙◌, subst, arith, true≢false}
 use Rattle.std.proofs.lemmas.Int.{ints}
 use Rattle.std.specs.Prelude.{length}
 use Rattle.hy_frames.specs.declared.errors.Shortage.{Shortage}
@@ -9,7 +9,6 @@ use Rattle.hy_layout.specs.Layout.{LayoutState, own_rows}
 use Rattle.hy_tpcc.specs.Shortages.{refusal_of_shortage}
 use Rattle.hy_fill.specs.Frames.{frames_for}
 use Rattle.hy_rows.specs.Ranges.{IsBetween}
-use Rattle.hy_rows.specs.Tables.{of_warehouse}
 use Rattle.hy_passes.specs.Worlds.{KeptState}
 use Rattle.hy_ledger.specs.Books.{BookState, new_book}
 use Rattle.hy_tickets.specs.Desks.{DeskState, is_out}
@@ -20,7 +19,7 @@ use Rattle.hy_tpcc.specs.Executor.{ExecutorState}
 use Rattle.hy_commands.specs.Replay.{rows_after}
 use Rattle.hy_partition.specs.Accounts.{home_commits, taken_in}
 use Rattle.hy_partition.specs.Limits.{IsWhyUnmade, most_kept}
-use Rattle.hy_partition.specs.Partition.{PartitionState, layout_of, projection_of}
+use Rattle.hy_partition.specs.Partition.{PartitionState, projection_of}
 use Rattle.hy_partition.specs.Steps.{Begins}
 use Rattle.hy_partition.specs.inside.Soundness.{IsLaid, IsSound, IsTied}
 use Rattle.hy_partition.proofs.SoundLaws.{sound-new}

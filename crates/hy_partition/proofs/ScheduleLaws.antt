@@ -4,7 +4,6 @@ use Rattle.std.specs.Prelude.{◌==◌, ◌||◌, is_some, IsSome, MatchOption, 
 use Rattle.std.specs.List.{list_any}
 use Rattle.std.specs.Option.{option_map, ForSome}
 use Rattle.std.proofs.Common.{eq-eqb}
-use Rattle.hy_passes.specs.declared.entry.Entry.{Entry}
 use Rattle.hy_passes.specs.SerialList.{respects_stamps}
 use Rattle.hy_passes.proofs.Lists.{kept-adds, kept-skips}
 use Rattle.hy_passes.proofs.SerialLaws.{respects-more}

@@ -1,19 +1,18 @@
 -- The parts of a partition stay tied.
-use Rattle.std.proofs.Common.{◌≡◌, ◌≢◌, ℕ, ◌+◌, ◌<◌, ◌≤◌, ◌==◌, ◌||◌, Bool, true, false, not, cond, List, [], ◌∷◌, ◌++◌, filter, length, Option, Some, None, inl, inr, refl, sym, ap, ◌∙◌, subst, arith, eq-eqb, length-append, true≢false}
+use Rattle.std.proofs.Common.{◌≡◌, ◌≢◌, ℕ, ◌==◌, ◌||◌, Bool, true, false, not, cond, List, [], ◌∷◌, ◌++◌, length, Option, Some, None, inl, inr, refl, sym, ap, ◌∙◌, subst, arith, eq-eqb, length-append, true≢false}
 use Rattle.std.specs.Prelude.{IsSome, is_some, slice_index_or}
 use Rattle.std.proofs.lemmas.Bool.{cases_eq, eqb-true}
 use Rattle.hy_rows.specs.Tables.{Lists}
 use Rattle.hy_passes.specs.Worlds.{KeptState}
-use Rattle.hy_ledger.specs.Books.{BookState, new_book}
+use Rattle.hy_ledger.specs.Books.{BookState}
 use Rattle.hy_tickets.specs.Desks.{DeskState, is_out, without}
-use Rattle.hy_commands.specs.declared.command.Command.{Command}
 use Rattle.hy_commands.specs.declared.command.Commit.{Commit}
 use Rattle.hy_commands.specs.Commands.{kept_of}
 use Rattle.hy_space.specs.Space.{SpaceState}
 use Rattle.hy_undo.specs.UndoLog.{UndoLog}
 use Rattle.hy_tpcc.specs.Executor.{ExecutorState}
 use Rattle.hy_partition.specs.Accounts.{IsBookOf, with_command}
-use Rattle.hy_partition.specs.Jobs.{DoneState, Log, RunningJob}
+use Rattle.hy_partition.specs.Jobs.{DoneState, RunningJob}
 use Rattle.hy_partition.specs.Partition.{PartitionState, commits_of, refusal_now}
 use Rattle.hy_partition.specs.inside.Soundness.{IsSound, IsTied}
 use Rattle.hy_partition.proofs.AccountLaws.{booked}

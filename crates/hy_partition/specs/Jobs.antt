@@ -1,5 +1,5 @@
 -- Jobs on their way to a partition, those that run, and answers on their way back.
-use Rattle.std.specs.Prelude.{ℕ, ◌+◌, ◌==◌, Bool, List, [], if◌then◌else◌, map, length, Option, None, Some}
+use Rattle.std.specs.Prelude.{ℕ, ◌+◌, ◌==◌, Bool, List, if◌then◌else◌, map, length, Option, None, Some}
 use Rattle.hy_passes.specs.Worlds.{PassState}
 use Rattle.hy_passes.specs.declared.entry.Entry.{Entry}
 use Rattle.hy_ledger.specs.declared.view.ShareState.{ShareState}

@@ -29,11 +29,9 @@ use Rattle.hy_space.specs.Space.{CountsAreExact, NoFrameTwice, maps, owner_bytes
 use Rattle.hy_undo.specs.UndoLog.{undone, page_counts}
 use Rattle.hy_undo.specs.Touched.{touched}
 use Rattle.hy_ledger.specs.Books.{new_book}
-use Rattle.hy_ledger.specs.declared.view.ShareState.{ShareState}
 use Rattle.hy_passes.specs.Worlds.{PassState, new_client}
-use Rattle.hy_passes.specs.declared.entry.Entry.{Entry}
 use Rattle.hy_partition.specs.Accounts.{with_command}
-use Rattle.hy_partition.specs.Jobs.{Log, RunningJob, accepted_answer, entered_by, is_last, refused_answer, share_of}
+use Rattle.hy_partition.specs.Jobs.{RunningJob, entered_by, is_last, refused_answer, share_of}
 use Rattle.hy_partition.specs.Partition.{PartitionState, outcome_now, rows_now}
 use Rattle.hy_partition.specs.Headline.{Headline, SpellsBeginning}
 use Rattle.hy_partition.specs.Steps.{begin_refusal}

@@ -10,10 +10,9 @@ use Rattle.hy_commands.specs.declared.command.Who.TheVariants as who
 use Rattle.hy_commands.specs.WorkedSample.{items, payment, sample, status}
 use Rattle.std.specs.Option.{option_map}
 use Rattle.hy_passes.specs.declared.entry.Entry.{Entry}
-use Rattle.hy_partition.specs.Jobs.{Log}
 use Rattle.hy_partition.specs.Partition.{commits_of, rows_now}
 use Rattle.hy_space.specs.Space.{child_bytes}
-use Rattle.hy_partition.specs.Schedules.{Does, Event, IsTaken, IsWorldOf, Runs, Taken, Underway, World, begins, closes, enters, forks, fresh_world, looks, rows_of, steps, takes, underway, with_accepted, with_known, with_open}
+use Rattle.hy_partition.specs.Schedules.{Does, Event, IsTaken, IsWorldOf, Runs, Taken, Underway, World, begins, closes, forks, fresh_world, rows_of, steps, takes, underway, with_accepted, with_known, with_open}
 use Rattle.hy_partition.specs.WorkedRows.{small}
 
 abbrev lists : Lists

@@ -145,21 +145,13 @@ impl<K: World> Running<K> {
         self.slices
     }
 
-    /// The job after one slice more.
-    pub(crate) fn next(self) -> Running<K>
-        requires { self.slices < slice_count self.command }
-        ensures { result ≡ with_slice_done self }
+    /// One slice more is done.
+    pub(crate) fn advance(&mut self)
+        requires { self.old.slices < slice_count self.old.command }
+        ensures { self.new ≡ with_slice_done self.old }
     {
-        let Running {
-            command,
-            slices,
-            pass,
-        } = self;
-        Running {
-            command,
-            slices: slices + 1,
-            pass,
-        }
+        let _count = slice_count(&self.command);
+        self.slices += 1;
     }
 
     /// The command, to be kept, and the pass.

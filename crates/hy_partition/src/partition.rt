@@ -173,7 +173,7 @@ impl<const N: usize, K: Loaded> Partition<N, K> {
         ensures { MatchOption self.old.running ((result ≡ Err Refusal.NotRunning) × (self.new ≡ self.old))
             (λ job. IsOkAnd result (λ progress. (log : Option Log) → StepsTo job log log self.old self.new progress)) }
     {
-        let Some(running) = self.running.take() else {
+        let Some(running) = &mut self.running else {
             return Err(Refusal::NotRunning);
         };
         let done = running.slices();
@@ -182,13 +182,16 @@ impl<const N: usize, K: Loaded> Partition<N, K> {
             .slice(&mut self.space, &mut self.undo, running.command(), done)
         {
             Ok(None) => {
-                put(&mut self.running, running.next());
+                running.advance();
                 Ok(Progress::More)
             }
             Ok(Some(_reply)) => unreachable!(),
             Err(refusal) => {
                 self.space.sound();
                 self.undo.roll_back(&mut self.space);
+                let Some(running) = self.running.take() else {
+                    unreachable!();
+                };
                 put(&mut self.finished, running.refuse(refusal));
                 Ok(Progress::Finished)
             }

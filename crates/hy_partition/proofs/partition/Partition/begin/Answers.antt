@@ -1,7 +1,7 @@
-use Rattle.std.proofs.Common.{rules, ◌≡◌, Option, Some, refl, ap, sym, ◌∙◌, subst, arith}
+use Rattle.std.proofs.Common.{rules, ◌≡◌, Option, Some, ap, sym, ◌∙◌, subst, arith}
 use Rattle.hy_passes.specs.Worlds.{KeptState}
 use Rattle.hy_commands.specs.declared.command.Commit.{Commit}
-use Rattle.hy_partition.specs.Jobs.{RunningJob, begun}
+use Rattle.hy_partition.specs.Jobs.{RunningJob}
 use Rattle.hy_partition.specs.Partition.{PartitionState}
 use Rattle.hy_partition.specs.inside.Soundness.{IsSound, IsTied}
 use Rattle.hy_partition.specs.inside.Views.{partition_of, with_list}

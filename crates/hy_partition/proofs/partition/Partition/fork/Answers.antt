@@ -1,4 +1,4 @@
-use Rattle.std.proofs.Common.{rules, ◌≡◌, ℕ, List, Option, Some, None, ap, refl, ◌∙◌, sym, subst, length, arith}
+use Rattle.std.proofs.Common.{◌≡◌, ℕ, List, Option, Some, None, ap, refl, ◌∙◌, sym, subst, length, arith}
 use Rattle.std.specs.Prelude.{slice_index_or}
 use Rattle.hy_passes.specs.Worlds.{KeptState}
 use Rattle.hy_commands.specs.declared.command.Commit.{Commit}
@@ -13,7 +13,7 @@ use Rattle.hy_partition.specs.inside.Soundness.{IsSound, IsTied}
 use Rattle.hy_partition.specs.Steps.{Forks, StaysUnforked}
 use Rattle.hy_partition.specs.inside.Views.{partition_of}
 use Rattle.hy_partition.proofs.SoundLaws.{least_within, snapshot_fresh, sound-told}
-use Rattle.hy_partition.proofs.ForkLaws.{forks, sound-as_before, sound-opened, sound-unforked, stays-as_before, stays_unforked, taken_behind, whole}
+use Rattle.hy_partition.proofs.ForkLaws.{forks, sound-as_before, sound-opened, sound-unforked, stays-as_before, stays_unforked, taken_behind}
 use Rattle.hy_partition.proofs.TieLaws.{free_number, tied-opened, tied-unforked}
 use Rattle.hy_partition.proofs.partition.Partition.fork.Goals as goal
 

@@ -1,27 +1,22 @@
-use Rattle.std.proofs.Common.{rules, ◌≡◌, ℕ, ◌+◌, ◌<◌, ◌≤◌, ◌∷◌, [], ◌++◌, Bool, true, false, List, length, Option, Some, None, Ok, Err, ap, sym, ◌∙◌, refl, subst, arith, eq-eqb}
+use Rattle.std.proofs.Common.{◌≡◌, ◌+◌, true, false, Option, Some, None, Ok, Err, ap, sym, ◌∙◌, refl, subst, eq-eqb}
 use Rattle.hy_rows.specs.Tables.{Tables}
 use Rattle.hy_schema.specs.declared.refusal.Refusal.TheVariants as refusals
-use Rattle.hy_passes.specs.Worlds.{KeptState}
+use Rattle.hy_passes.specs.Worlds.{PassState}
 use Rattle.hy_commands.specs.declared.command.Commit.{Commit}
-use Rattle.hy_commands.specs.declared.reply.Reply.{Reply}
-use Rattle.hy_commands.specs.Commands.{kept_of, warehouses_of}
-use Rattle.hy_commands.proofs.NamedLaws.{named-accepted}
 use Rattle.hy_space.specs.Space.{SameForChildren, SpaceState, owner_bytes}
 use Rattle.hy_store.specs.Stored.{stored}
 use Rattle.hy_slices.specs.Slices.{has_item_at, slice_count}
-use Rattle.hy_layout.specs.Layout.{LayoutState}
 use Rattle.hy_tpcc.specs.Executor.{ExecutorState, IsUnderWay, answer_of}
 use Rattle.hy_tpcc.specs.Shortages.{FindsNoFrame}
-use Rattle.hy_partition.specs.Jobs.{DoneState, Log, RunningJob, accepted_answer, entered_by, is_last}
-use Rattle.hy_partition.specs.Partition.{PartitionState, projection_of, refusal_now}
+use Rattle.hy_partition.specs.Jobs.{DoneState, Log, RunningJob, is_last, refused_answer}
+use Rattle.hy_partition.specs.Partition.{PartitionState}
 use Rattle.hy_partition.specs.Steps.{StepsTo}
 use Rattle.hy_partition.specs.declared.job.Progress.TheVariants as progress
 use Rattle.hy_partition.specs.inside.Soundness.{IsSound, IsTied}
-use Rattle.hy_partition.specs.inside.Views.{partition_of, with_list}
-use Rattle.hy_partition.proofs.AccountLaws.{cents-small, home-few}
-use Rattle.hy_partition.proofs.SoundLaws.{accepted_now, relaid, sound-accepted, sound-continued, sound-refused}
+use Rattle.hy_partition.specs.inside.Views.{partition_of}
+use Rattle.hy_partition.proofs.SoundLaws.{relaid, sound-continued, sound-refused}
 use Rattle.hy_partition.proofs.StepsToLaws.{early-running, job-said, last-running, more-running, not_last, slices-running, steps-more, steps-refused}
-use Rattle.hy_partition.proofs.TieLaws.{tied-accepted, tied-same}
+use Rattle.hy_partition.proofs.TieLaws.{tied-same}
 use Rattle.hy_partition.proofs.partition.Partition.step_early.Goals as goal
 
 pub invariant_of-self-in-Ok-None : goal.invariant_of-self-in-Ok-None
@@ -33,7 +28,7 @@ invariant_of-self-in-Ok-None g c =
       slices = c.in-Some.running.slices;
       pass = c.in-Some.running.pass;
     } in
-    let running : p.running ≡ Some job = sym c.take.ensures.value ∙ c.in-Some.is in
+    let running : p.running ≡ Some job = c.in-Some.is in
     let executor : ExecutorState = inside.executor in
     let next : ExecutorState = c.slice.new.self in
     let space : SpaceState = c.slice.new.space in
@@ -45,22 +40,18 @@ invariant_of-self-in-Ok-None g c =
     → IsUnderWay executor job.command job.slices before (stored g.row.N (owner_bytes p.space))
     → None ≡ answer_of executor.layout job.command job.slices before =
     rw (c.command.ensures, c.slices-done.ensures, c.in-Ok-None.field-0-is) at c.in-Ok-None.ensures.reply in
-    let after : PartitionState = record p { running = c.put.new.place; undo = c.slice.new.undo; space = space } in
-    let put : Some c.next.result ≡ c.put.new.place = sym c.put.ensures in
+    let after : PartitionState = record p { running = Some c.advance.new.self; undo = c.slice.new.undo; space = space } in
     let more = more-running g.row.N _ executor p c.self.invariant.0 job running answered in
     let writes = c.slice.ensures.writes in
     relaid (λ q. IsSound g.row.N inside.kept.room next q × IsTied g.K.Loaded.load inside.kept inside.desk q) after
-    next.layout c.slice.ensures.layout
-    (subst (λ (place : Option RunningJob).
-    IsSound g.row.N inside.kept.room next (record after { running = place })
-    × IsTied g.K.Loaded.load inside.kept inside.desk (record after { running = place })) put (
+    next.layout c.slice.ensures.layout (
       sound-continued g.row.N _ executor p c.self.invariant.0 next space job running c.slice.ensures.layout
-          c.in-Ok-None.ensures.under_way.store under_way writes.children c.slice.new.undo c.next.result c.next.ensures
+          c.in-Ok-None.ensures.under_way.store under_way writes.children c.slice.new.undo c.advance.new.self c.advance.ensures
           writes.undoes.undo_log writes.undoes.undone
           (not_last job (slices-running g.row.N _ executor p c.self.invariant.0 job running) more),
-      tied-same g.K.Loaded.load inside.kept inside.desk p c.self.invariant.1 inside.kept.room (Some c.next.result)
+      tied-same g.K.Loaded.load inside.kept inside.desk p c.self.invariant.1 inside.kept.room (Some c.advance.new.self)
           c.slice.new.undo p.finished space,
-    ))
+    )
 
 pub returns-in-Ok-None : goal.returns-in-Ok-None
 returns-in-Ok-None g c =
@@ -71,7 +62,7 @@ returns-in-Ok-None g c =
       slices = c.in-Some.running.slices;
       pass = c.in-Some.running.pass;
     } in
-    let running : p.running ≡ Some job = sym c.take.ensures.value ∙ c.in-Some.is in
+    let running : p.running ≡ Some job = c.in-Some.is in
     let executor : ExecutorState = inside.executor in
     let next : ExecutorState = c.slice.new.self in
     let space : SpaceState = c.slice.new.space in
@@ -83,13 +74,11 @@ returns-in-Ok-None g c =
     → IsUnderWay executor job.command job.slices before (stored g.row.N (owner_bytes p.space))
     → None ≡ answer_of executor.layout job.command job.slices before =
     rw (c.command.ensures, c.slices-done.ensures, c.in-Ok-None.field-0-is) at c.in-Ok-None.ensures.reply in
-    let after : PartitionState = record p { running = c.put.new.place; undo = c.slice.new.undo; space = space } in
-    let put : Some c.next.result ≡ c.put.new.place = sym c.put.ensures in
+    let after : PartitionState = record p { running = Some c.advance.new.self; undo = c.slice.new.undo; space = space } in
     let more = more-running g.row.N _ executor p c.self.invariant.0 job running answered in
     let steps : (log : Option Log) → StepsTo job log log p after progress.More =
-    λ log. subst (λ (place : Option RunningJob). StepsTo job log log p (record after { running = place }) progress.More) put
-    (steps-more g.row.N _ executor p c.self.invariant.0 job running next space c.slice.new.undo c.slice.ensures.layout
-    c.slice.ensures.writes c.next.result c.next.ensures more under_way log) in
+    λ log. (steps-more g.row.N _ executor p c.self.invariant.0 job running next space c.slice.new.undo c.slice.ensures.layout
+    c.slice.ensures.writes c.advance.new.self c.advance.ensures more under_way log) in
     early-running c.args.self.now p _ job progress.More (Ok progress.More) refl c.self.view_is running
     (relaid (λ q. (log : Option Log) → StepsTo job log log p q progress.More) after next.layout c.slice.ensures.layout steps)
 
@@ -103,7 +92,7 @@ unreachable-requires g c =
       slices = c.in-Some.running.slices;
       pass = c.in-Some.running.pass;
     } in
-    let running : p.running ≡ Some job = sym c.take.ensures.value ∙ c.in-Some.is in
+    let running : p.running ≡ Some job = c.in-Some.is in
     let executor : ExecutorState = inside.executor in
     let next : ExecutorState = c.slice.new.self in
     let space : SpaceState = c.slice.new.space in
@@ -124,14 +113,14 @@ invariant_of-self-in-Err g c =
       slices = c.in-Some.running.slices;
       pass = c.in-Some.running.pass;
     } in
-    let running : p.running ≡ Some job = sym c.take.ensures.value ∙ c.in-Some.is in
+    let running : p.running ≡ Some job = c.in-Some.is in
     let executor : ExecutorState = inside.executor in
     let next : ExecutorState = c.slice.new.self in
     let space : SpaceState = c.slice.new.space in
     let after : PartitionState = record p {
       running = c.take.new.self;
       undo = c.roll_back.new.self;
-      finished = c.put-in-Err.new.place;
+      finished = c.put.new.place;
       space = c.roll_back.new.space;
     } in
     let writes = c.slice.ensures.writes in
@@ -146,13 +135,13 @@ invariant_of-self-in-Err g c =
     IsSound g.row.N inside.kept.room next (record after { running = place })
     × IsTied g.K.Loaded.load inside.kept inside.desk (record after { running = place })) (sym c.take.ensures.after) (
       sound-refused g.row.N _ executor p c.self.invariant.0 next c.roll_back.new.space c.roll_back.new.self
-          c.put-in-Err.new.place c.slice.ensures.layout back.log back.undo_log (back.bytes ∙ writes.undoes.undone) children,
+          c.put.new.place c.slice.ensures.layout back.log back.undo_log (back.bytes ∙ writes.undoes.undone) children,
       tied-same g.K.Loaded.load inside.kept inside.desk p c.self.invariant.1 inside.kept.room None c.roll_back.new.self
-          c.put-in-Err.new.place c.roll_back.new.space,
+          c.put.new.place c.roll_back.new.space,
     ))
 
-pub returns-in-Err : goal.returns-in-Err
-returns-in-Err g c =
+pub returns-in-Some-take : goal.returns-in-Some-take
+returns-in-Some-take g c =
     let p : PartitionState = partition_of c.self.inside in
     let inside = c.self.inside in
     let job : RunningJob = record {
@@ -160,14 +149,14 @@ returns-in-Err g c =
       slices = c.in-Some.running.slices;
       pass = c.in-Some.running.pass;
     } in
-    let running : p.running ≡ Some job = sym c.take.ensures.value ∙ c.in-Some.is in
+    let running : p.running ≡ Some job = c.in-Some.is in
     let executor : ExecutorState = inside.executor in
     let next : ExecutorState = c.slice.new.self in
     let space : SpaceState = c.slice.new.space in
     let after : PartitionState = record p {
       running = c.take.new.self;
       undo = c.roll_back.new.self;
-      finished = c.put-in-Err.new.place;
+      finished = c.put.new.place;
       space = c.roll_back.new.space;
     } in
     let writes = c.slice.ensures.writes in
@@ -180,17 +169,21 @@ returns-in-Err g c =
     λ gone. (let same : Err c.in-Err.refusal ≡ Err refusals.NoSuchItem = (rw (c.command.ensures, c.slices-done.ensures) at c.in-Err.ensures.no_item.1) gone in cc) in
     let lacks : c.in-Err.refusal ≡ refusals.NoFrame → FindsNoFrame job.command job.slices space =
     λ frame. (rw (c.command.ensures, c.slices-done.ensures) at c.in-Err.ensures.no_frame) (ap Err frame) in
+    let same : c.in-Some-take.running.pass ≡ job.pass =
+    (let is = sym c.in-Some-take.is ∙ c.take.ensures.value in cc) in
+    let answer : c.refuse.result ≡ refused_answer job.pass c.in-Err.refusal =
+    c.refuse.ensures ∙ ap (λ (pass : PassState Commit). refused_answer pass c.in-Err.refusal) same in
     let steps : (log : Option Log)
     → StepsTo job log log p (record after { running = None; finished = Some c.refuse.result }) progress.Finished =
     steps-refused g.row.N _ executor p c.self.invariant.0 job running next space c.slice.new.undo c.slice.ensures.layout
     writes c.roll_back.new.space c.roll_back.new.self c.in-Err.refusal c.refuse.result missing only lacks c.sound.ensures.counts
     c.in-Err.ensures.refused
-    back.log back.bytes back.gives_up c.refuse.ensures in
+    back.log back.bytes back.gives_up answer in
     let placed : (log : Option Log) → StepsTo job log log p after progress.Finished =
     λ log. subst (λ (place : Option RunningJob). StepsTo job log log p (record after { running = place }) progress.Finished)
     (sym c.take.ensures.after)
     (subst (λ (place : Option DoneState). StepsTo job log log p (record after { running = None; finished = place }) progress.Finished)
-    (sym c.put-in-Err.ensures) (steps log)) in
+    (sym c.put.ensures) (steps log)) in
     early-running c.args.self.now p _ job progress.Finished (Ok progress.Finished) refl c.self.view_is running
     (relaid (λ q. (log : Option Log) → StepsTo job log log p q progress.Finished) after next.layout c.slice.ensures.layout
     placed)

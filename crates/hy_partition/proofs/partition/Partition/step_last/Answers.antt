@@ -1,15 +1,13 @@
-use Rattle.std.proofs.Common.{rules, ◌≡◌, ℕ, ◌+◌, ◌<◌, ◌≤◌, ◌∷◌, [], ◌++◌, Bool, true, false, List, length, Option, Some, None, Ok, Err, ap, sym, ◌∙◌, refl, subst, arith, true≢false}
+use Rattle.std.proofs.Common.{◌≡◌, ◌+◌, ◌∷◌, [], ◌++◌, true, false, Option, Some, None, Err, ap, sym, ◌∙◌, subst, arith, true≢false}
 use Rattle.hy_rows.specs.Tables.{Tables}
 use Rattle.hy_schema.specs.declared.refusal.Refusal.TheVariants as refusals
 use Rattle.hy_passes.specs.Worlds.{KeptState}
 use Rattle.hy_commands.specs.declared.command.Commit.{Commit}
-use Rattle.hy_commands.specs.declared.reply.Reply.{Reply}
-use Rattle.hy_commands.specs.Commands.{kept_of, warehouses_of}
+use Rattle.hy_commands.specs.Commands.{kept_of}
 use Rattle.hy_commands.proofs.NamedLaws.{named-accepted}
 use Rattle.hy_space.specs.Space.{SameForChildren, SpaceState, owner_bytes}
 use Rattle.hy_store.specs.Stored.{stored}
-use Rattle.hy_slices.specs.Slices.{has_item_at, slice_count}
-use Rattle.hy_layout.specs.Layout.{LayoutState}
+use Rattle.hy_slices.specs.Slices.{has_item_at}
 use Rattle.hy_tpcc.specs.Executor.{ExecutorState, IsUnderWay, answer_of}
 use Rattle.hy_tpcc.specs.Shortages.{FindsNoFrame}
 use Rattle.hy_partition.specs.Jobs.{DoneState, Log, RunningJob, accepted_answer, entered_by, is_last}
@@ -17,10 +15,10 @@ use Rattle.hy_partition.specs.Partition.{PartitionState, projection_of, refusal_
 use Rattle.hy_partition.specs.Steps.{StepsTo}
 use Rattle.hy_partition.specs.declared.job.Progress.TheVariants as progress
 use Rattle.hy_partition.specs.inside.Soundness.{IsSound, IsTied}
-use Rattle.hy_partition.specs.inside.Views.{partition_of, with_list}
+use Rattle.hy_partition.specs.inside.Views.{partition_of}
 use Rattle.hy_partition.proofs.AccountLaws.{cents-small, home-few}
-use Rattle.hy_partition.proofs.SoundLaws.{accepted_now, relaid, sound-accepted, sound-continued, sound-refused}
-use Rattle.hy_partition.proofs.StepsToLaws.{job-known, last-ran, last-running, more-running, not_last, slices-running, steps-accepted, steps-refused}
+use Rattle.hy_partition.proofs.SoundLaws.{accepted_now, relaid, sound-accepted, sound-refused}
+use Rattle.hy_partition.proofs.StepsToLaws.{job-known, last-ran, last-running, more-running, steps-accepted, steps-refused}
 use Rattle.hy_partition.proofs.TieLaws.{tied-accepted, tied-same}
 use Rattle.hy_partition.proofs.partition.Partition.step_last.Goals as goal
 
