@@ -197,9 +197,10 @@ pub record StaysUnforked (old new : PartitionState) : Type 0 where
 abbrev pub is_from : SnapshotState → ℕ → Origin → Bool
 is_from snapshot warehouse kit = (snapshot.warehouse == warehouse) && (snapshot.name == kit.name)
 
--- a snapshot was closed, and no other; each of its frames has a user less, so that those which only it had are free
--- again
+-- a snapshot that was open was closed, and no other; each of its frames has a user less, so that those which only it
+-- had are free again
 pub record Closes (old new : PartitionState) (child : ℕ) : Type 0 where
+  pub was_open : (count : ℕ) × (commits_of old child ≡ Some count)
   pub bytes : child_bytes new.space child ≡ None
   pub commits : commits_of new child ≡ None
   pub users : DropsUsers old.space.frames new.space.frames (λ f. child_times f (child_table old.space child))

@@ -11,7 +11,7 @@ ghost use Rattle.hy_commands.specs.Commands.{warehouses_of_commit};
 ghost use Rattle.hy_commands.specs.Replay.{HasWarehouse};
 ghost use Rattle.hy_partition.specs.declared.job.Progress.{Progress};
 ghost use Rattle.hy_partition.specs.Jobs.{JobState, Log, RunningJob};
-ghost use Rattle.hy_partition.specs.Partition.{PartitionState, commits_of};
+ghost use Rattle.hy_partition.specs.Partition.{PartitionState};
 ghost use Rattle.hy_partition.specs.Schedules.{Event, IsWorldOf, KeepsAll, Leads, Runs, World, begins, closes, enters, forks, fresh_world, looks, steps, takes};
 ghost use Rattle.hy_partition.specs.Snapshots.{SnapshotState};
 ghost use Rattle.hy_partition.specs.Steps.{begin_refusal, Begins, Closes, Forks, StaysUnforked, StepsTo, with_job};
@@ -45,9 +45,8 @@ pub fn calls_are_events()
         → Leads n (forks client snapshot.child) world log q }
     ensures refused_fork { (n : ℕ) (log : Log) (p q : PartitionState) (world : World) → IsWorldOf n log p world
         → StaysUnforked p q → IsWorldOf n log q world }
-    ensures close { (n : ℕ) (log : Log) (p q : PartitionState) (world : World) (child count : ℕ)
-        → IsWorldOf n log p world → commits_of p child ≡ Some count → Closes p q child
-        → Leads n (closes child) world log q }
+    ensures close { (n : ℕ) (log : Log) (p q : PartitionState) (world : World) (child : ℕ) → IsWorldOf n log p world
+        → Closes p q child → Leads n (closes child) world log q }
     ensures look { (n : ℕ) (log : Log) (client : ℕ) (p : PartitionState) (world : World) → IsWorldOf n log p world
         → Leads n (looks client) world log p }
     ensures enter { (n : ℕ) (log : Log) (entry : Entry Commit) (p : PartitionState) (world : World)

@@ -86,8 +86,11 @@ pub returns-clause-closes : goal.returns-clause-closes
 returns-clause-closes g c =
     let p : PartitionState = partition_of c.self.inside in
     let child = c.take_back-child.result in
+    let is_open = some-open (commits_of p child) (subst (λ child. IsSome (commits_of p child)) (sym c.take_back-child.ensures.number)
+    (c.self.invariant.1.tickets c.spend.result.number c.take_back-child.ensures.was_out)) in
     let after : PartitionState = record p { space = c.close.new.self; snapshots = slice_set c.self.inside.snapshots.items child None } in
     let closes : Closes p after child = record {
+      was_open = is_open;
       bytes = ap (option_map (table_bytes c.close.new.self.frames)) c.close.ensures.closed;
       commits = emptied c.self.inside.snapshots.items child;
       users = c.close.ensures.users;
