@@ -1,10 +1,10 @@
 -- What is known of a command that isn't refused.
-use Rattle.std.proofs.Common.{◌≡◌, ℕ, ◌==◌, ◌&&◌, ◌||◌, inl, inr, Bool, true, false, cond, not, List, [], ◌∷◌, ◌++◌, length, Option, Some, None, refl, sym, ◌∙◌}
+use Rattle.std.proofs.Common.{◌≡◌, ℕ, ◌==◌, ◌&&◌, ◌||◌, inl, inr, Bool, true, false, cond, not, List, [], ◌∷◌, ◌++◌, length, Option, Some, None, refl, sym, ap, ◌∙◌}
 use Rattle.std.specs.Prelude.{All, fold}
 use Rattle.std.specs.List.{list_all, list_any}
 use Rattle.std.specs.Option.{option_or}
 use Rattle.std.proofs.lemmas.Bool.{and_parts, eqb-true, or_cases}
-use Rattle.std.proofs.lemmas.List.Elements.{All-cons, All-nil}
+use Rattle.std.proofs.lemmas.List.Elements.{All-cons, All-nil, All-weaker}
 use Rattle.std.proofs.lemmas.List.Folds.{list_all-append}
 use Rattle.hy_rows.specs.Ranges.{IsBetween, is_between}
 use Rattle.hy_rows.specs.Tables.{Tables}
@@ -17,6 +17,7 @@ use Rattle.hy_commands.specs.declared.command.Payment.{Payment}
 use Rattle.hy_commands.specs.declared.command.Purchase.{Purchase}
 use Rattle.hy_commands.specs.declared.command.PurchaseLine.{PurchaseLine}
 use Rattle.hy_commands.specs.Commands.{is_in_range, is_line_in_range, is_moment, is_who, warehouses_of, with_named}
+use Rattle.hy_commands.specs.Parts.{Database, customer_home_of, is_there, refusal_in, rows_of}
 use Rattle.hy_commands.specs.Transactions.{begin_refusal_of, has_customer, has_districts, has_items, refusal_of}
 
 -- one test of a chain
@@ -51,40 +52,37 @@ named-lines test (line ∷ lines) named all =
     (named-lines test lines (with_named named line.supply_warehouse) all)
 
 -- what holds of each name holds of the one that is put behind, and of the supplier of each line
-named-last : (number : ℕ) (named : List ℕ) (one : ℕ) → list_all (λ named. named == number) (with_named named one) ≡ true
-    → one ≡ number
-named-last number named one all =
+named-last : (test : ℕ → Bool) (named : List ℕ) (one : ℕ) → list_all test (with_named named one) ≡ true
+    → test one ≡ true
+named-last test named one all =
     elim (list_any (λ other. other == one) named) as (λ b. list_any (λ other. other == one) named ≡ b
-    → list_all (λ named. named == number) (cond b named (named ++ one ∷ [])) ≡ true → one ≡ number) [
+    → list_all test (cond b named (named ++ one ∷ [])) ≡ true → test one ≡ true) [
       | true ↦ λ there all. among named there all
       | false ↦ λ new all.
-          let last = (and_parts (list_all (λ named. named == number) named) (list_all (λ named. named == number) (one
-          ∷ []))
-          (sym (list_all-append (λ named. named == number) named (one ∷ [])) ∙ all)).1 in
-          eqb-true one number (and_parts (one == number) true last).0
+          let last = (and_parts (list_all test named) (list_all test (one ∷ []))
+          (sym (list_all-append test named (one ∷ [])) ∙ all)).1 in
+          (and_parts (test one) true last).0
     ] refl all
   where
-    among : (named : List ℕ) → list_any (λ other. other == one) named ≡ true → list_all (λ named. named == number)
-        named ≡ true
-        → one ≡ number
+    among : (named : List ℕ) → list_any (λ other. other == one) named ≡ true → list_all test named ≡ true
+        → test one ≡ true
     among [] there all = absurd (cc)
     among (other ∷ named) there all =
-        let both = and_parts (other == number) (list_all (λ named. named == number) named) all in
+        let both = and_parts (test other) (list_all test named) all in
         elim (or_cases (other == one) (list_any (λ other. other == one) named) there) [
-          | inl here ↦ sym (eqb-true other one here) ∙ eqb-true other number both.0
+          | inl here ↦ ap test (sym (eqb-true other one here)) ∙ both.0
           | inr later ↦ among named later both.1
         ]
 
-named-suppliers : (number : ℕ) (lines : List PurchaseLine) (named : List ℕ)
-    → list_all (λ named. named == number) (fold (λ named (line : PurchaseLine). with_named named
-    line.supply_warehouse) named lines) ≡ true
-    → All (λ line. line.supply_warehouse ≡ number) lines
-named-suppliers number [] named all = All-nil (λ line. line.supply_warehouse ≡ number)
-named-suppliers number (line ∷ lines) named all =
-    All-cons (λ line. line.supply_warehouse ≡ number) line lines
-    (named-last number named line.supply_warehouse
-    (named-lines (λ named. named == number) lines (with_named named line.supply_warehouse) all))
-    (named-suppliers number lines (with_named named line.supply_warehouse) all)
+pub named-suppliers : (test : ℕ → Bool) (lines : List PurchaseLine) (named : List ℕ)
+    → list_all test (fold (λ named (line : PurchaseLine). with_named named line.supply_warehouse) named lines) ≡ true
+    → All (λ line. test line.supply_warehouse ≡ true) lines
+named-suppliers test [] named all = All-nil (λ line. test line.supply_warehouse ≡ true)
+named-suppliers test (line ∷ lines) named all =
+    All-cons (λ line. test line.supply_warehouse ≡ true) line lines
+    (named-last test named line.supply_warehouse
+    (named-lines test lines (with_named named line.supply_warehouse) all))
+    (named-suppliers test lines (with_named named line.supply_warehouse) all)
 
 -- the home warehouse is the one that acts, and so is that of a payment's customer
 home-purchase : (number : ℕ) (order : Purchase)
@@ -148,62 +146,133 @@ accepted-not_refused items number command tables none =
     last true why none = refl
     last false why none = absurd (cc)
 
+-- what a purchase at a home warehouse has passed
 pub record IsAcceptedPurchase (number : ℕ) (order : Purchase) : Type 0 where
   pub home : order.warehouse ≡ number
   pub district : IsBetween 1 10 order.district
   pub count : IsBetween 5 15 (length order.lines)
   pub in_range : list_all is_line_in_range order.lines ≡ true
   pub moment : IsBetween 1 1_000_000_000_000_000 order.at
-  pub suppliers : All (λ line. line.supply_warehouse ≡ number) order.lines
+
+pub purchase-in_range : (number : ℕ) (order : Purchase) → order.warehouse ≡ number
+    → is_in_range (commands.NewOrder order) ≡ true → has_districts (commands.NewOrder order) ≡ true
+    → IsAcceptedPurchase number order
+purchase-in_range number order home in_range districts =
+    let parts = and_parts (is_between 5 15 (length order.lines) && list_all is_line_in_range order.lines) (is_moment
+    order.at) in_range in
+    let lines = and_parts (is_between 5 15 (length order.lines)) (list_all is_line_in_range order.lines) parts.0 in
+    record {
+      home = home;
+      district = districts;
+      count = lines.0;
+      in_range = lines.1;
+      moment = parts.1;
+    }
 
 pub accepted-purchase : (items : List Item) (number : ℕ) (order : Purchase) (tables : Tables)
     → IsAccepted items number (commands.NewOrder order) tables → IsAcceptedPurchase number order
 accepted-purchase items number order tables accepted =
-    let parts = and_parts (is_between 5 15 (length order.lines) && list_all is_line_in_range order.lines) (is_moment
-    order.at) accepted.in_range in
-    let lines = and_parts (is_between 5 15 (length order.lines)) (list_all is_line_in_range order.lines) parts.0 in
-    record {
-      home = home-purchase number order accepted.named;
-      district = accepted.districts;
-      count = lines.0;
-      in_range = lines.1;
-      moment = parts.1;
-      suppliers = named-suppliers number order.lines (order.warehouse ∷ []) accepted.named;
-    }
+    purchase-in_range number order (home-purchase number order accepted.named) accepted.in_range accepted.districts
 
+-- the home warehouse supplies all lines of a purchase that names no other
+pub own-suppliers : (number : ℕ) (order : Purchase)
+    → list_all (λ named. named == number) (warehouses_of (commands.NewOrder order)) ≡ true
+    → All (λ line. line.supply_warehouse ≡ number) order.lines
+own-suppliers number order named =
+    All-weaker (λ (line : PurchaseLine). (line.supply_warehouse == number) ≡ true)
+    (λ (line : PurchaseLine). line.supply_warehouse ≡ number)
+    (λ line passes. eqb-true line.supply_warehouse number passes) order.lines
+    (named-suppliers (λ named. named == number) order.lines (order.warehouse ∷ []) named)
+
+-- what a payment at a home warehouse has passed
 pub record IsAcceptedPayment (number : ℕ) (payment : Payment) : Type 0 where
   pub amount : IsBetween 100 500_000 payment.amount
   pub moment : IsBetween 1 1_000_000_000_000_000 payment.at
   pub home : payment.warehouse ≡ number
-  pub customer_home : payment.customer_warehouse ≡ number
   pub district : IsBetween 1 10 payment.district
 
-pub accepted-payment : (items : List Item) (number : ℕ) (payment : Payment) (tables : Tables)
-    → IsAccepted items number (commands.Payment payment) tables → IsAcceptedPayment number payment
-accepted-payment items number payment tables accepted =
-    let homes = home-payment number payment accepted.named in
+pub payment-in_range : (number : ℕ) (payment : Payment) → payment.warehouse ≡ number
+    → is_in_range (commands.Payment payment) ≡ true → has_districts (commands.Payment payment) ≡ true
+    → IsAcceptedPayment number payment
+payment-in_range number payment home in_range districts =
     let parts = and_parts (is_between 100 500_000 payment.amount && is_moment payment.at) (is_who payment.who)
-    accepted.in_range in
+    in_range in
     let numbers = and_parts (is_between 100 500_000 payment.amount) (is_moment payment.at) parts.0 in
     record {
       amount = numbers.0;
       moment = numbers.1;
-      home = homes.0;
-      customer_home = homes.1;
-      district = (and_parts _ _ accepted.districts).0;
+      home = home;
+      district = (and_parts _ _ districts).0;
     }
+
+pub accepted-payment : (items : List Item) (number : ℕ) (payment : Payment) (tables : Tables)
+    → IsAccepted items number (commands.Payment payment) tables → IsAcceptedPayment number payment
+accepted-payment items number payment tables accepted =
+    payment-in_range number payment (home-payment number payment accepted.named).0 accepted.in_range accepted.districts
+
+-- the customer of a payment that names no other warehouse is one of it
+pub own-payer : (number : ℕ) (payment : Payment)
+    → list_all (λ named. named == number) (warehouses_of (commands.Payment payment)) ≡ true
+    → payment.customer_warehouse ≡ number
+own-payer number payment named = (home-payment number payment named).1
+
+-- the warehouses that a payment names pass what each named one passes
+pub named-payment : (test : ℕ → Bool) (payment : Payment)
+    → list_all test (warehouses_of (commands.Payment payment)) ≡ true
+    → (test payment.warehouse ≡ true) × (test payment.customer_warehouse ≡ true)
+named-payment test payment all = (
+  (and_parts _ _ (named-before test (payment.warehouse ∷ []) payment.customer_warehouse all)).0,
+  named-last test (payment.warehouse ∷ []) payment.customer_warehouse all,
+)
+
+-- and so does the home of a purchase, and the supplier of each line
+pub named-purchase : (test : ℕ → Bool) (order : Purchase)
+    → list_all test (warehouses_of (commands.NewOrder order)) ≡ true
+    → (test order.warehouse ≡ true) × All (λ line. test line.supply_warehouse ≡ true) order.lines
+named-purchase test order all = (
+  (and_parts _ _ (named-lines test order.lines (order.warehouse ∷ []) all)).0,
+  named-suppliers test order.lines (order.warehouse ∷ []) all,
+)
 
 pub record IsAcceptedDelivery (number : ℕ) (delivery : Delivery) : Type 0 where
   pub home : delivery.warehouse ≡ number
   pub carrier : IsBetween 1 10 delivery.carrier
   pub moment : IsBetween 1 1_000_000_000_000_000 delivery.at
 
+pub delivery-in_range : (number : ℕ) (delivery : Delivery) → delivery.warehouse ≡ number
+    → is_in_range (commands.Delivery delivery) ≡ true → IsAcceptedDelivery number delivery
+delivery-in_range number delivery home in_range =
+    let range = and_parts _ _ in_range in
+    record { home = home; carrier = range.0; moment = range.1 }
+
 pub accepted-delivery : (items : List Item) (number : ℕ) (delivery : Delivery) (tables : Tables)
     → IsAccepted items number (commands.Delivery delivery) tables → IsAcceptedDelivery number delivery
 accepted-delivery items number delivery tables accepted =
-    let range = and_parts _ _ accepted.in_range in
+    delivery-in_range number delivery (eqb-true delivery.warehouse number (and_parts _ _ accepted.named).0)
+    accepted.in_range
+
+-- ---- databases
+
+-- what a command that a database doesn't refuse has passed
+pub record IsAcceptedIn (database : Database) (command : Command) : Type 0 where
+  pub in_range : is_in_range command ≡ true
+  pub named : list_all (is_there database) (warehouses_of command) ≡ true
+  pub districts : has_districts command ≡ true
+  pub customer : has_customer command (rows_of (customer_home_of command) database) ≡ true
+  pub known : has_items database.items command ≡ true
+
+pub accepted-in : (database : Database) (command : Command) → refusal_in database command ≡ None
+    → IsAcceptedIn database command
+accepted-in database command none =
+    let first = go_on (is_in_range command) _ _ none in
+    let second = go_on (list_all (is_there database) (warehouses_of command)) _ _ first.1 in
+    let third = go_on (has_districts command) _ _ second.1 in
+    let fourth = go_on (has_customer command (rows_of (customer_home_of command) database)) _ _ third.1 in
+    let fifth = go_on (has_items database.items command) _ _ fourth.1 in
     record {
-      home = eqb-true delivery.warehouse number (and_parts _ _ accepted.named).0;
-      carrier = range.0;
-      moment = range.1;
+      in_range = first.0;
+      named = second.0;
+      districts = third.0;
+      customer = fourth.0;
+      known = fifth.0;
     }

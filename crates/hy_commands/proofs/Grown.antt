@@ -1,11 +1,13 @@
 -- The numbers of each warehouse of a load stay small, whatever is committed.
-use Rattle.std.proofs.Common.{◌≡◌, ℕ, suc, ◌+◌, ◌*◌, ◌≤◌, ◌==◌, List, [], ◌∷◌, map, length, slice_get, Option, Some, None, refl, sym, subst, ◌∙◌, arith}
-use Rattle.std.specs.Prelude.{All}
+use Rattle.std.proofs.Common.{◌≡◌, ℕ, suc, ◌+◌, ◌*◌, ◌≤◌, ◌==◌, true, false, cond, List, [], ◌∷◌, filter, map, length, slice_get, Option, Some, None, refl, sym, ap, subst, ◌∙◌, arith}
+use Rattle.std.specs.Prelude.{All, is_some}
+use Rattle.std.proofs.lemmas.Bool.{eqb-true}
 use Rattle.std.proofs.lemmas.List.Elements.{All-filter, All-head, All-map, All-weaker}
 use Rattle.std.proofs.lemmas.Option.{IfSome_then}
 use Rattle.hy_rows.specs.Finding.{is_customer}
 use Rattle.hy_rows.specs.Ranges.{IsBetween}
 use Rattle.hy_rows.specs.Tables.{Lists, Tables, of_warehouse}
+use Rattle.hy_rows.specs.declared.customer.Customer.{Customer}
 use Rattle.hy_rows.specs.declared.item.Item.{Item}
 use Rattle.hy_rows.specs.declared.warehouse.Warehouse.{Warehouse}
 use Rattle.hy_rows.proofs.BetweenLaws.{bounds}
@@ -15,15 +17,25 @@ use Rattle.hy_commands.specs.declared.command.Command.{Command}
 use Rattle.hy_commands.specs.declared.command.Command.TheVariants as commands
 use Rattle.hy_commands.specs.declared.command.Commit.{Commit}
 use Rattle.hy_commands.specs.declared.command.Commit.TheVariants as commits
+use Rattle.hy_commands.specs.declared.command.Payment.{Payment}
 use Rattle.hy_commands.specs.declared.command.PurchaseLine.{PurchaseLine}
+use Rattle.hy_commands.specs.declared.command.Who.{Who}
+use Rattle.hy_commands.specs.declared.command.Who.TheVariants as who
+use Rattle.hy_commands.specs.Customers.{customer_meant, identity_of}
+use Rattle.hy_commands.specs.Deliveries.{delivered}
 use Rattle.hy_commands.specs.Growth.{HasGrownBy, IsCustomerUpTo, IsDistrictUpTo, IsLineUpTo, IsNewOrderUpTo, IsOrderUpTo, IsPaymentUpTo, IsStockUpTo, IsWarehouseUpTo}
 use Rattle.hy_commands.specs.Invariant.{IsSoundWarehouse}
-use Rattle.hy_commands.specs.Replay.{committed, replay}
-use Rattle.hy_commands.specs.Transactions.{accepted, act, outcome_of, payer, refusal_of}
-use Rattle.hy_commands.proofs.AcceptedLaws.{IsAccepted, accepted-delivery, accepted-not_refused, accepted-payment, accepted-purchase}
-use Rattle.hy_commands.proofs.GrowthLaws.{ItemsFit, grown-delivered, grown-later, grown-ordered, grown-paid, payer-small}
-use Rattle.hy_commands.proofs.Kept.{not_0, sound-committed}
-use Rattle.hy_commands.proofs.ListLaws.{found-any}
+use Rattle.hy_commands.specs.NewOrders.{ordered, supplied}
+use Rattle.hy_commands.specs.Parts.{database_of, is_there, number_in, part, part_unless, refusal_in}
+use Rattle.hy_commands.specs.Replay.{HasWarehouse, committed, replay, rows_after}
+use Rattle.hy_commands.specs.Transactions.{accepted, act, has_customer, outcome_of, payer, refusal_of}
+use Rattle.hy_commands.proofs.AcceptedLaws.{IsAccepted, IsAcceptedIn, accepted-delivery, accepted-in, accepted-not_refused, accepted-payment, accepted-purchase, delivery-in_range, named-payment, named-purchase, own-suppliers, payment-in_range, purchase-in_range}
+use Rattle.hy_commands.proofs.DatabaseLaws.{rows-load, there-load}
+use Rattle.hy_commands.proofs.GrowthLaws.{ItemsFit, grown-delivered, grown-later, grown-ordered, grown-paid, grown-paid_where, grown-supplied, payer-small}
+use Rattle.hy_commands.proofs.Kept.{customer-now, not_0, sound-committed}
+use Rattle.hy_commands.proofs.ListLaws.{All-find, find-any, find-passes, found-any}
+use Rattle.hy_commands.proofs.OnceLaws.{tells-three}
+use Rattle.hy_commands.proofs.SameCustomers.{same-committed}
 use Rattle.hy_commands.proofs.SoundLoad.{all-by_place, sound-load}
 
 -- ---- commands
@@ -36,7 +48,7 @@ module _ (items : List Item) (fits : ItemsFit items) (number : ℕ) (small : num
       let purchase = accepted-purchase items number order tables passed in
       grown-ordered items fits number order tables n purchase.count purchase.in_range purchase.moment passed.known
       (All-weaker (λ (line : PurchaseLine). line.supply_warehouse ≡ number) (λ line. line.supply_warehouse ≤ 16)
-      (λ line own. omega (arith, own, small)) order.lines purchase.suppliers)
+      (λ line own. omega (arith, own, small)) order.lines (own-suppliers number order passed.named))
       (sym (found-any (is_customer order.warehouse order.district order.customer) tables.customers) ∙ passed.customer)
       grown
   grown-accepted (commands.Payment payment) tables n passed sound grown =
@@ -61,21 +73,6 @@ module _ (items : List Item) (fits : ItemsFit items) (number : ℕ) (small : num
       → HasGrownBy n tables → HasGrownBy (n + 1) (act items number command tables).tables
   grown-act command tables n sound grown =
       grown-outcome command tables n (refusal_of items number command tables) refl sound grown
-
-  pub grown-committed : (tables : Tables) (commit : Commit) (n : ℕ) → IsSoundWarehouse items number tables
-      → HasGrownBy n tables → HasGrownBy (n + 1) (committed items number tables commit)
-  grown-committed tables (commits.Local command) n sound grown = grown-act command tables n sound grown
-  grown-committed tables (commits.Cross crossing command) n sound grown = grown-later n tables grown
-
-  pub grown-replay : (loaded : Tables) (commits : List Commit) (n : ℕ) → IsSoundWarehouse items number loaded
-      → HasGrownBy n loaded → HasGrownBy (n + length commits) (replay items number loaded commits)
-  grown-replay loaded [] n sound grown = subst (λ n. HasGrownBy n loaded) (omega arith) grown
-  grown-replay loaded (commit ∷ commits) n sound grown =
-      let after : Tables = committed items number loaded commit in
-      let same : n + 1 + length commits ≡ n + suc (length commits) = omega arith in
-      subst (λ n. HasGrownBy n (replay items number after commits)) same
-      (grown-replay after commits (n + 1) (sound-committed items number loaded commit sound)
-      (grown-committed loaded commit n sound grown))
 
 -- ---- loads
 
@@ -220,10 +217,111 @@ module _ (load : Lists) (is_load : IsLoad load) where
       all_rows.warehouses warehouses-fit)) in
       All-head (λ id. id ≤ 16) number [] (subst (All (λ id. id ≤ 16)) sound.rows.warehouse ids)
 
-  pub grown-commits : (number : ℕ) (commits : List Commit) → IsBetween 1 (length all_rows.warehouses) number
-      → HasGrownBy (length commits) (replay load.items number (of_warehouse number all_rows) commits)
-  grown-commits number commits between =
-      let same : 0 + length commits ≡ length commits = omega arith in
-      subst (λ n. HasGrownBy n (replay load.items number (of_warehouse number all_rows) commits)) same
-      (grown-replay load.items items-fit number (number-small number between) (of_warehouse number all_rows) commits 0
-      (sound-load number load is_load between) (grown-load number))
+  -- ---- parts of commands
+
+  -- the number that a payment names its customer by
+  named-small : (payment : Payment) → IsAcceptedIn (database_of load) (commands.Payment payment)
+      → number_in payment.who ≤ 3_000
+  named-small payment passed =
+      let own = there-load load payment.customer_warehouse
+      (named-payment (is_there (database_of load)) payment passed.named).1 in
+      known payment.who (ap (has_customer (commands.Payment payment)) (sym (rows-load load payment.customer_warehouse
+      own)) ∙ passed.customer)
+    where
+      known : (whom : Who)
+          → is_some (customer_meant payment.customer_warehouse payment.customer_district whom
+          (filter (λ row. row.warehouse == payment.customer_warehouse) all_rows.customers)) ≡ true
+          → number_in whom ≤ 3_000
+      known (who.Number number) there =
+          let own : List Customer = filter (λ row. row.warehouse == payment.customer_warehouse) all_rows.customers in
+          let found = find-any (is_customer payment.customer_warehouse payment.customer_district number) own
+          (sym (found-any (is_customer payment.customer_warehouse payment.customer_district number) own) ∙ there) in
+          let same = (tells-three (found.0).warehouse (found.0).district (found.0).id payment.customer_warehouse
+          payment.customer_district number
+          (find-passes (is_customer payment.customer_warehouse payment.customer_district number) own found.0 found.1)).2
+          in
+          let small = (All-find (IsCustomerUpTo 0 0) (is_customer payment.customer_warehouse payment.customer_district
+          number) own found.0
+          (All-filter (λ row. row.warehouse == payment.customer_warehouse) (IsCustomerUpTo 0 0) all_rows.customers
+          customers-fit) found.1).id in
+          omega (arith, same, small)
+      known (who.Last name) there = omega arith
+
+  module _ (number : ℕ) (has : HasWarehouse load number) where
+    grown-part : (command : Command) (tables : Tables) (n : ℕ)
+        → map identity_of tables.customers ≡ map identity_of (of_warehouse number all_rows).customers
+        → IsAcceptedIn (database_of load) command → IsSoundWarehouse load.items number tables → HasGrownBy n tables
+        → HasGrownBy (n + 1) (part load.items number command tables)
+    grown-part (commands.NewOrder order) tables n same passed sound grown =
+        let range = purchase-in_range order.warehouse order refl passed.in_range passed.districts in
+        let suppliers = (named-purchase (is_there (database_of load)) order passed.named).1 in
+        elim (order.warehouse == number) as (λ b. (order.warehouse == number) ≡ b
+        → HasGrownBy (n + 1) (supplied number order (cond b (ordered load.items order tables) tables))) [
+          | true ↦ λ own.
+              let home : order.warehouse ≡ number = eqb-true order.warehouse number own in
+              let there = customer-now load number (commands.NewOrder order) tables has home same passed in
+              grown-ordered load.items items-fit number order tables n range.count range.in_range range.moment
+              passed.known
+              (All-weaker (λ (line : PurchaseLine). is_there (database_of load) line.supply_warehouse ≡ true)
+              (λ line. line.supply_warehouse ≤ 16)
+              (λ line named. number-small line.supply_warehouse (there-load load line.supply_warehouse named))
+              order.lines suppliers)
+              (sym (found-any (is_customer order.warehouse order.district order.customer) tables.customers) ∙ there)
+              grown
+          | false ↦ λ other. grown-supplied number order tables n range.count range.in_range grown
+        ] refl
+    grown-part (commands.Payment payment) tables n same passed sound grown =
+        let range = payment-in_range payment.warehouse payment refl passed.in_range passed.districts in
+        grown-paid_where payment (number_in payment.who) tables n range.amount range.moment (named-small payment passed)
+        grown (payment.warehouse == number) (payment.customer_warehouse == number)
+    grown-part (commands.OrderStatus status) tables n same passed sound grown = grown-later n tables grown
+    grown-part (commands.Delivery delivery) tables n same passed sound grown =
+        let range = delivery-in_range delivery.warehouse delivery refl passed.in_range in
+        elim (delivery.warehouse == number) as (λ b. HasGrownBy (n + 1) (cond b (delivered delivery tables) tables)) [
+          | true ↦ grown-delivered load.items number delivery range.carrier range.moment
+              (not_0 10 delivery.carrier range.carrier) (not_0 1_000_000_000_000_000 delivery.at range.moment) n tables
+              sound grown
+          | false ↦ grown-later n tables grown
+        ]
+    grown-part (commands.StockLevel level) tables n same passed sound grown = grown-later n tables grown
+
+    grown-part_unless : (command : Command) (tables : Tables) (n : ℕ) (refusal : Option Refusal)
+        → refusal_in (database_of load) command ≡ refusal
+        → map identity_of tables.customers ≡ map identity_of (of_warehouse number all_rows).customers
+        → IsSoundWarehouse load.items number tables → HasGrownBy n tables
+        → HasGrownBy (n + 1) (part_unless refusal load.items number command tables)
+    grown-part_unless command tables n (Some refusal) is same sound grown = grown-later n tables grown
+    grown-part_unless command tables n None is same sound grown =
+        grown-part command tables n same (accepted-in (database_of load) command is) sound grown
+
+    -- ---- commits
+
+    pub grown-committed : (tables : Tables) (commit : Commit) (n : ℕ)
+        → map identity_of tables.customers ≡ map identity_of (of_warehouse number all_rows).customers
+        → IsSoundWarehouse load.items number tables → HasGrownBy n tables
+        → HasGrownBy (n + 1) (committed load number tables commit)
+    grown-committed tables (commits.Local command) n same sound grown =
+        grown-act load.items items-fit number (number-small number has) command tables n sound grown
+    grown-committed tables (commits.Cross crossing command) n same sound grown =
+        grown-part_unless command tables n (refusal_in (database_of load) command) refl same sound grown
+
+    pub grown-replay : (loaded : Tables) (commits : List Commit) (n : ℕ)
+        → map identity_of loaded.customers ≡ map identity_of (of_warehouse number all_rows).customers
+        → IsSoundWarehouse load.items number loaded → HasGrownBy n loaded
+        → HasGrownBy (n + length commits) (replay load number loaded commits)
+    grown-replay loaded [] n same sound grown = subst (λ n. HasGrownBy n loaded) (omega arith) grown
+    grown-replay loaded (commit ∷ commits) n same sound grown =
+        let after : Tables = committed load number loaded commit in
+        let one_more : n + 1 + length commits ≡ n + suc (length commits) = omega arith in
+        subst (λ n. HasGrownBy n (replay load number after commits)) one_more
+        (grown-replay after commits (n + 1) (same-committed load number loaded commit ∙ same)
+        (sound-committed load number has loaded commit same sound) (grown-committed loaded commit n same sound grown))
+
+-- the numbers of each warehouse of a load, after each list of commits
+pub grown-rows : (lists : Lists) (number : ℕ) (commits : List Commit) → IsLoad lists → HasWarehouse lists number
+    → HasGrownBy (length commits) (rows_after lists number commits)
+grown-rows lists number commits is_load has =
+    let same : 0 + length commits ≡ length commits = omega arith in
+    subst (λ n. HasGrownBy n (rows_after lists number commits)) same
+    (grown-replay lists is_load number has (of_warehouse number lists.tables) commits 0 refl
+    (sound-load number lists is_load has) (grown-load lists is_load number))

@@ -227,17 +227,22 @@ payer-small payment tables n k all = meant payment.who
         (All-filter (is_named payment.customer_warehouse payment.customer_district name) (λ row. row.id ≤ 3_000)
         tables.customers small))
 
-pub grown-paid : (payment : Payment) (customer : ℕ) (tables : Tables) (n : ℕ) → IsBetween 100 500_000 payment.amount
+-- what a payment adds to some money
+paid-up : (n cents : ℕ) (money : ℤ) → IsBetween 100 500_000 cents → IsMoneyUpTo (500_000 * n) money
+    → IsMoneyUpTo (500_000 * (n + 1)) (money +ℤ pos cents)
+paid-up n cents money amount up =
+    let high = (bounds 100 500_000 cents amount).1 in
+    money-more (500_000 * n) 500_000 (500_000 * (n + 1)) money (pos cents) (omega arith) (omega (arith, ints))
+    (omega (arith, ints, high)) up
+
+-- at the home warehouse
+pub grown-paid_in : (payment : Payment) (customer : ℕ) (tables : Tables) (n : ℕ) → IsBetween 100 500_000 payment.amount
     → IsBetween 1 1_000_000_000_000_000 payment.at → customer ≤ 3_000 → HasGrownBy n tables
-    → HasGrownBy (n + 1) (paid_by payment customer (paid_in payment customer tables))
-grown-paid payment customer tables n amount moment small grown =
+    → HasGrownBy (n + 1) (paid_in payment customer tables)
+grown-paid_in payment customer tables n amount moment small grown =
     let high = (bounds 100 500_000 payment.amount amount).1 in
     let late = (bounds 1 1_000_000_000_000_000 payment.at moment).1 in
     let later = grown-later n tables grown in
-    let more : (cents : ℤ) → IsMoneyUpTo (500_000 * n) cents → IsMoneyUpTo (500_000 * (n + 1)) (cents +ℤ pos
-    payment.amount) =
-    λ cents up. money-more (500_000 * n) 500_000 (500_000 * (n + 1)) cents (pos payment.amount) (omega arith)
-    (omega (arith, ints)) (omega (arith, ints, high)) up in
     let warehouse_name : length (first_or (warehouse_of []) (is_warehouse payment.warehouse) tables.warehouses).name ≤
     10 =
     first_or-all (λ (row : Warehouse). length row.name ≤ 10) (warehouse_of []) (is_warehouse payment.warehouse) (omega
@@ -253,29 +258,20 @@ grown-paid payment customer tables n amount moment small grown =
     record {
       warehouses =
           All-with_changed_to (IsWarehouseUpTo n) (IsWarehouseUpTo (n + 1)) (is_warehouse payment.warehouse)
-          (warehouse_paid payment.amount) (λ row up. record { name = up.name; ytd = more row.ytd up.ytd })
-          (warehouse-later n)
-          tables.warehouses grown.warehouses;
+          (warehouse_paid payment.amount)
+          (λ row up. record { name = up.name; ytd = paid-up n payment.amount row.ytd amount up.ytd })
+          (warehouse-later n) tables.warehouses grown.warehouses;
       districts =
           All-with_changed_to (IsDistrictUpTo n) (IsDistrictUpTo (n + 1)) (is_district payment.warehouse
           payment.district)
           (district_paid payment.amount)
-          (λ row up. record { name = up.name; ytd = more row.ytd up.ytd; next_order = omega (arith, up.next_order) })
-          (district-later n) tables.districts grown.districts;
-      customers =
-          All-with_changed_to (IsCustomerUpTo n (10 * n)) (IsCustomerUpTo (n + 1) (10 * (n + 1)))
-          (is_customer payment.customer_warehouse payment.customer_district customer) (customer_paid payment.amount)
           (λ row up. record {
-            id = up.id;
-            balance =
-                money-less (500_000 * n + 150_000_000 * (10 * n)) 500_000 (500_000 * (n + 1) + 150_000_000 * (10 * (n
-                + 1)))
-                row.balance (pos payment.amount) (omega arith) (omega (arith, ints)) (omega (arith, ints, high))
-                up.balance;
-            ytd_payment = more row.ytd_payment up.ytd_payment;
-            payment_count = omega (arith, up.payment_count);
-            delivery_count = omega (arith, up.delivery_count);
-          }) (customer-later n (10 * n) (10 * (n + 1)) (omega arith)) tables.customers grown.customers;
+            name = up.name;
+            ytd = paid-up n payment.amount row.ytd amount up.ytd;
+            next_order = omega (arith, up.next_order);
+          })
+          (district-later n) tables.districts grown.districts;
+      customers = later.customers;
       history =
           All-push IsPaymentUpTo tables.history (history_row payment customer tables) grown.history record {
             customer = small;
@@ -293,6 +289,67 @@ grown-paid payment customer tables n amount moment small grown =
         24
     name_length one other short also =
         omega (arith, short, also, length-append (one ++ codes "    ") other, length-append one (codes "    "))
+
+-- at the customer's warehouse
+pub grown-paid_by : (payment : Payment) (customer : ℕ) (tables : Tables) (n : ℕ) → IsBetween 100 500_000 payment.amount
+    → HasGrownBy n tables → HasGrownBy (n + 1) (paid_by payment customer tables)
+grown-paid_by payment customer tables n amount grown =
+    let high = (bounds 100 500_000 payment.amount amount).1 in
+    let later = grown-later n tables grown in
+    record {
+      warehouses = later.warehouses;
+      districts = later.districts;
+      customers =
+          All-with_changed_to (IsCustomerUpTo n (10 * n)) (IsCustomerUpTo (n + 1) (10 * (n + 1)))
+          (is_customer payment.customer_warehouse payment.customer_district customer) (customer_paid payment.amount)
+          (λ row up. record {
+            id = up.id;
+            balance =
+                money-less (500_000 * n + 150_000_000 * (10 * n)) 500_000 (500_000 * (n + 1) + 150_000_000 * (10 * (n
+                + 1)))
+                row.balance (pos payment.amount) (omega arith) (omega (arith, ints)) (omega (arith, ints, high))
+                up.balance;
+            ytd_payment = paid-up n payment.amount row.ytd_payment amount up.ytd_payment;
+            payment_count = omega (arith, up.payment_count);
+            delivery_count = omega (arith, up.delivery_count);
+          }) (customer-later n (10 * n) (10 * (n + 1)) (omega arith)) tables.customers grown.customers;
+      history = later.history;
+      orders = later.orders;
+      new_orders = later.new_orders;
+      order_lines = later.order_lines;
+      stock = later.stock;
+    }
+
+-- both at one warehouse
+pub grown-paid : (payment : Payment) (customer : ℕ) (tables : Tables) (n : ℕ) → IsBetween 100 500_000 payment.amount
+    → IsBetween 1 1_000_000_000_000_000 payment.at → customer ≤ 3_000 → HasGrownBy n tables
+    → HasGrownBy (n + 1) (paid_by payment customer (paid_in payment customer tables))
+grown-paid payment customer tables n amount moment small grown =
+    let home = grown-paid_in payment customer tables n amount moment small grown in
+    record {
+      warehouses = home.warehouses;
+      districts = home.districts;
+      customers = (grown-paid_by payment customer tables n amount grown).customers;
+      history = home.history;
+      orders = home.orders;
+      new_orders = home.new_orders;
+      order_lines = home.order_lines;
+      stock = home.stock;
+    }
+
+-- at a warehouse that is the home, the customer's, both or neither
+pub grown-paid_where : (payment : Payment) (customer : ℕ) (tables : Tables) (n : ℕ)
+    → IsBetween 100 500_000 payment.amount → IsBetween 1 1_000_000_000_000_000 payment.at → customer ≤ 3_000
+    → HasGrownBy n tables → (home own : Bool)
+    → HasGrownBy (n + 1) (cond own (paid_by payment customer (cond home (paid_in payment customer tables) tables))
+    (cond home (paid_in payment customer tables) tables))
+grown-paid_where payment customer tables n amount moment small grown true true =
+    grown-paid payment customer tables n amount moment small grown
+grown-paid_where payment customer tables n amount moment small grown true false =
+    grown-paid_in payment customer tables n amount moment small grown
+grown-paid_where payment customer tables n amount moment small grown false true =
+    grown-paid_by payment customer tables n amount grown
+grown-paid_where payment customer tables n amount moment small grown false false = grown-later n tables grown
 
 -- ---- New-Order
 
@@ -382,6 +439,41 @@ stock-sold supplier order (line ∷ lines) k rows few all =
     (stock-sold supplier order lines (k + 1) after (All-tail (λ line. line.quantity ≤ 10) line lines few)
     (line-sold supplier order line k rows quantity all))
 
+-- what a warehouse supplies, whoever orders it
+pub grown-supplied : (number : ℕ) (order : Purchase) (tables : Tables) (n : ℕ) → IsBetween 5 15 (length order.lines)
+    → list_all is_line_in_range order.lines ≡ true → HasGrownBy n tables
+    → HasGrownBy (n + 1) (supplied number order tables)
+grown-supplied number order tables n count in_range grown =
+    let later = grown-later n tables grown in
+    let few = (bounds 5 15 (length order.lines) count).1 in
+    let supplied_lines : List PurchaseLine = filter (λ line. line.supply_warehouse == number) order.lines in
+    let quantities : All (λ line. line.quantity ≤ 10) order.lines =
+    All-weaker (λ line. is_line_in_range line ≡ true) (λ line. line.quantity ≤ 10)
+    (λ line in_range. (bounds 1 10 line.quantity in_range).1) order.lines
+    (AllPass-from_list_all is_line_in_range order.lines in_range) in
+    let fewer : length supplied_lines ≤ length order.lines =
+    omega (
+      arith,
+      length-filter (λ line. line.supply_warehouse == number) order.lines,
+      count_by-le-length (λ (line : PurchaseLine). line.supply_warehouse == number) order.lines,
+    ) in
+    record {
+      warehouses = later.warehouses;
+      districts = later.districts;
+      customers = later.customers;
+      history = later.history;
+      orders = later.orders;
+      new_orders = later.new_orders;
+      order_lines = later.order_lines;
+      stock =
+          All-weaker (IsStockUpTo (15 * n + length supplied_lines)) (IsStockUpTo (15 * (n + 1)))
+          (stock-later (15 * n + length supplied_lines) (15 * (n + 1)) (omega (arith, fewer, few)))
+          (fold (sold_line number order) tables.stock supplied_lines)
+          (stock-sold number order supplied_lines (15 * n) tables.stock
+          (All-filter (λ line. line.supply_warehouse == number) (λ line. line.quantity ≤ 10) order.lines quantities)
+          grown.stock);
+    }
+
 module _ (items : List Item) (fits : ItemsFit items) (number : ℕ) (order : Purchase) (tables : Tables) (n : ℕ) (count : IsBetween 5 15 (length order.lines)) (in_range : list_all is_line_in_range order.lines ≡ true) (moment : IsBetween 1 1_000_000_000_000_000 order.at) (known : list_all (has_item items) order.lines ≡ true) (near : All (λ line. line.supply_warehouse ≤ 16) order.lines) (buyer : list_any (is_customer order.warehouse order.district order.customer) tables.customers ≡ true) (grown : HasGrownBy n tables) where
   number-small : order_number order tables ≤ 1_000_000_000 + n
   number-small =
@@ -409,17 +501,6 @@ module _ (items : List Item) (fits : ItemsFit items) (number : ℕ) (order : Pur
       let later = grown-later n tables grown in
       let few = (bounds 5 15 (length order.lines) count).1 in
       let late = (bounds 1 1_000_000_000_000_000 order.at moment).1 in
-      let supplied_lines : List PurchaseLine = filter (λ line. line.supply_warehouse == number) order.lines in
-      let quantities : All (λ line. line.quantity ≤ 10) order.lines =
-      All-weaker (λ line. is_line_in_range line ≡ true) (λ line. line.quantity ≤ 10)
-      (λ line in_range. (bounds 1 10 line.quantity in_range).1) order.lines
-      (AllPass-from_list_all is_line_in_range order.lines in_range) in
-      let fewer : length supplied_lines ≤ length order.lines =
-      omega (
-        arith,
-        length-filter (λ line. line.supply_warehouse == number) order.lines,
-        count_by-le-length (λ (line : PurchaseLine). line.supply_warehouse == number) order.lines,
-      ) in
       record {
         warehouses = later.warehouses;
         districts =
@@ -455,13 +536,7 @@ module _ (items : List Item) (fits : ItemsFit items) (number : ℕ) (order : Pur
               arith,
               few,
             )) in_range known near);
-        stock =
-            All-weaker (IsStockUpTo (15 * n + length supplied_lines)) (IsStockUpTo (15 * (n + 1)))
-            (stock-later (15 * n + length supplied_lines) (15 * (n + 1)) (omega (arith, fewer, few)))
-            (fold (sold_line number order) tables.stock supplied_lines)
-            (stock-sold number order supplied_lines (15 * n) tables.stock
-            (All-filter (λ line. line.supply_warehouse == number) (λ line. line.quantity ≤ 10) order.lines quantities)
-            grown.stock);
+        stock = (grown-supplied number order tables n count in_range grown).stock;
       }
     where
       all_local_small : (b : Bool) → cond b 1 0 ≤ 1

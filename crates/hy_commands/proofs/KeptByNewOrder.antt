@@ -107,6 +107,51 @@ sold-any supplier order warehouse item (line ∷ lines) rows =
     ∙ list_any-with_changed (is_stock warehouse item) (is_stock supplier line.item)
     (sold (not (order.warehouse == supplier)) line.quantity) (λ row. refl) rows
 
+-- what a warehouse supplies keeps it sound, whoever orders it
+pub sound-supplied : (items : List Item) (number : ℕ) (order : Purchase) (tables : Tables)
+    → IsSoundWarehouse items number tables → IsSoundWarehouse items number (supplied number order tables)
+sound-supplied items number order tables sound =
+    let supplied_lines : List PurchaseLine = filter (λ line. line.supply_warehouse == number) order.lines in
+    let after : Tables = supplied number order tables in
+    record {
+      rows = record {
+        warehouse = sound.rows.warehouse;
+        districts = sound.rows.districts;
+        customers = sound.rows.customers;
+        unique = sound.rows.unique;
+      };
+      orders = record {
+        unique_orders = sound.orders.unique_orders;
+        unique_new_orders = sound.orders.unique_new_orders;
+        unique_lines = sound.orders.unique_lines;
+        next_orders = sound.orders.next_orders;
+        orders = sound.orders.orders;
+        new_orders = sound.orders.new_orders;
+        order_lines = sound.orders.order_lines;
+      };
+      numbers = sound.numbers;
+      stock = record {
+        unique = subst AreUnique (sym (sold-keys number order supplied_lines tables.stock)) sound.stock.unique;
+        each =
+            All-weaker (λ item. list_any (is_stock number item.id) tables.stock ≡ true)
+            (λ item. list_any (is_stock number item.id) after.stock ≡ true)
+            (λ item there. sold-any number order number item.id supplied_lines tables.stock ∙ there) items
+            sound.stock.each;
+      };
+      conditions = record {
+        condition_1 = sound.conditions.condition_1;
+        condition_2 = sound.conditions.condition_2;
+        condition_3 = sound.conditions.condition_3;
+        condition_4 = sound.conditions.condition_4;
+        condition_5 = sound.conditions.condition_5;
+        condition_6 = sound.conditions.condition_6;
+        condition_7 = sound.conditions.condition_7;
+        condition_8 = sound.conditions.condition_8;
+        condition_9 = sound.conditions.condition_9;
+        condition_12 = sound.conditions.condition_12;
+      };
+    }
+
 -- the district of an order that a warehouse has, and its number
 abbrev In : ℕ → ℕ → Order → Bool
 In warehouse district row = (row.warehouse == warehouse) && (row.district == district)
@@ -138,10 +183,7 @@ orders-below items number warehouse district tables row sound found =
 
 module _ (items : List Item) (number : ℕ) (order : Purchase) (tables : Tables) (accepted : IsAcceptedPurchase number order) (buyer : list_any (is_customer order.warehouse order.district order.customer) tables.customers ≡ true) (known : list_all (has_item items) order.lines ≡ true) (sound : IsSoundWarehouse items number tables) where
   abbrev after : Tables
-  after = supplied number order (ordered items order tables)
-
-  abbrev supplied_lines : List PurchaseLine
-  supplied_lines = filter (λ line. line.supply_warehouse == number) order.lines
+  after = ordered items order tables
 
   abbrev w : ℕ
   w = order.warehouse
@@ -508,13 +550,16 @@ module _ (items : List Item) (number : ℕ) (order : Purchase) (tables : Tables)
     rows = ordered-rows;
     orders = ordered-orders;
     numbers = behind-orders after ordered-orders.next_orders (ordered-meets (meets-facts tables sound.conditions));
-    stock = record {
-      unique = subst AreUnique (sym (sold-keys number order supplied_lines tables.stock)) sound.stock.unique;
-      each =
-          All-weaker (λ item. list_any (is_stock number item.id) tables.stock ≡ true)
-          (λ item. list_any (is_stock number item.id) after.stock ≡ true)
-          (λ item there. sold-any number order number item.id supplied_lines tables.stock ∙ there) items
-          sound.stock.each;
-    };
+    stock = record { unique = sound.stock.unique; each = sound.stock.each };
     conditions = meets-tests after (ordered-meets (meets-facts tables sound.conditions));
   }
+
+-- both at one warehouse
+pub sound-purchase : (items : List Item) (number : ℕ) (order : Purchase) (tables : Tables)
+    → IsAcceptedPurchase number order
+    → list_any (is_customer order.warehouse order.district order.customer) tables.customers ≡ true
+    → list_all (has_item items) order.lines ≡ true → IsSoundWarehouse items number tables
+    → IsSoundWarehouse items number (supplied number order (ordered items order tables))
+sound-purchase items number order tables accepted buyer known sound =
+    sound-supplied items number order (ordered items order tables)
+    (sound-ordered items number order tables accepted buyer known sound)

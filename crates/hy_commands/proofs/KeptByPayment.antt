@@ -60,50 +60,34 @@ module _ (row : History) (cents : ℤ) (is : row.amount ≡ cents) (history : Li
       ∙ column_sum-append (λ (r : History). r.amount) (filter keep history) []
       ∙ omega (arith, ints)
 
-module _ (items : List Item) (number : ℕ) (payment : Payment) (customer : ℕ) (tables : Tables) (accepted : IsAcceptedPayment number payment) (sound : IsSoundWarehouse items number tables) where
-  abbrev after : Tables
-  after = paid_by payment customer (paid_in payment customer tables)
+-- ---- at the home warehouse
 
-  abbrev is_payer : Customer → Bool
-  is_payer = is_customer payment.customer_warehouse payment.customer_district customer
+module _ (items : List Item) (number : ℕ) (payment : Payment) (customer : ℕ) (tables : Tables)
+    (accepted : IsAcceptedPayment number payment) (sound : IsSoundWarehouse items number tables) where
+  abbrev with_paid_in : Tables
+  with_paid_in = paid_in payment customer tables
 
-  paid-rows : IsOneWarehouse number after
-  paid-rows =
-      let same_keys = map-with_changed customer_key is_payer (customer_paid payment.amount) (λ row. refl)
-      tables.customers in
-      record {
-        warehouse =
-            map-with_changed (λ (row : Warehouse). row.id) (is_warehouse payment.warehouse) (warehouse_paid
-            payment.amount)
-            (λ row. refl) tables.warehouses ∙ sound.rows.warehouse;
-        districts =
-            map-with_changed district_key (is_district payment.warehouse payment.district) (district_paid
-            payment.amount)
-            (λ row. refl) tables.districts ∙ sound.rows.districts;
-        customers =
-            All-with_changed (λ (row : Customer). row.warehouse ≡ number) is_payer (customer_paid payment.amount)
-            (λ row own. own) tables.customers sound.rows.customers;
-        unique = subst AreUnique (sym same_keys) sound.rows.unique;
-      }
+  paid_in-rows : IsOneWarehouse number with_paid_in
+  paid_in-rows = record {
+    warehouse =
+        map-with_changed (λ (row : Warehouse). row.id) (is_warehouse payment.warehouse) (warehouse_paid payment.amount)
+        (λ row. refl) tables.warehouses ∙ sound.rows.warehouse;
+    districts =
+        map-with_changed district_key (is_district payment.warehouse payment.district) (district_paid payment.amount)
+        (λ row. refl) tables.districts ∙ sound.rows.districts;
+    customers = sound.rows.customers;
+    unique = sound.rows.unique;
+  }
 
-  paid-orders : HasOwnOrders items number after
-  paid-orders = record {
+  paid_in-orders : HasOwnOrders items number with_paid_in
+  paid_in-orders = record {
     unique_orders = sound.orders.unique_orders;
     unique_new_orders = sound.orders.unique_new_orders;
     unique_lines = sound.orders.unique_lines;
     next_orders =
         All-with_changed (λ (row : District). 0 < row.next_order) (is_district payment.warehouse payment.district)
         (district_paid payment.amount) (λ row some. some) tables.districts sound.orders.next_orders;
-    orders =
-        All-weaker (IsOwnOrder number tables.customers) (IsOwnOrder number after.customers)
-        (λ row own. record {
-          warehouse = own.warehouse;
-          district = own.district;
-          positive = own.positive;
-          customer =
-              list_any-with_changed (is_customer row.warehouse row.district row.customer) is_payer
-              (customer_paid payment.amount) (λ row. refl) tables.customers ∙ own.customer;
-        }) tables.orders sound.orders.orders;
+    orders = sound.orders.orders;
     new_orders = sound.orders.new_orders;
     order_lines = sound.orders.order_lines;
   }
@@ -112,7 +96,8 @@ module _ (items : List Item) (number : ℕ) (payment : Payment) (customer : ℕ)
   cents = pos payment.amount
 
   -- the districts together grow by the amount
-  districts-more : (id : ℕ) → id ≡ number → ytd_of_districts id after.districts ≡ ytd_of_districts id tables.districts
+  districts-more : (id : ℕ) → id ≡ number → ytd_of_districts id with_paid_in.districts ≡ ytd_of_districts id
+      tables.districts
       +ℤ cents
   districts-more id is =
       let found = own-district number payment.district tables sound.rows accepted.district in
@@ -132,7 +117,7 @@ module _ (items : List Item) (number : ℕ) (payment : Payment) (customer : ℕ)
   -- what holds of the one warehouse, once its row has grown
   warehouse-paid : (P Q : Warehouse → Type 0)
       → ((row : Warehouse) → row.id ≡ number → P row → Q (warehouse_paid payment.amount row))
-      → All P tables.warehouses → All Q after.warehouses
+      → All P tables.warehouses → All Q with_paid_in.warehouses
   warehouse-paid P Q grows all =
       All-changed_once (λ row. P row × (row.id ≡ number)) Q (is_warehouse payment.warehouse) (warehouse_paid
       payment.amount)
@@ -142,10 +127,10 @@ module _ (items : List Item) (number : ℕ) (payment : Payment) (customer : ℕ)
       (All-of_both P (λ row. row.id ≡ number) (λ row. P row × (row.id ≡ number)) tables.warehouses
       (λ row p own. (p, own)) all (own-warehouse number tables sound.rows))
 
-  paid-meets : Meets tables → Meets after
-  paid-meets meets = record {
+  paid_in-meets : Meets tables → Meets with_paid_in
+  paid_in-meets meets = record {
     districts =
-        warehouse-paid (SumsDistricts tables.districts) (SumsDistricts after.districts)
+        warehouse-paid (SumsDistricts tables.districts) (SumsDistricts with_paid_in.districts)
         (λ row own sums. omega (arith, ints, sums, districts-more row.id own)) meets.districts;
     numbers =
         All-with_changed (NumbersInRow tables.orders tables.new_orders) (is_district payment.warehouse payment.district)
@@ -158,13 +143,13 @@ module _ (items : List Item) (number : ℕ) (payment : Payment) (customer : ℕ)
     lines = meets.lines;
     delivered = meets.delivered;
     paid =
-        warehouse-paid (PaidIn tables.history) (PaidIn after.history)
+        warehouse-paid (PaidIn tables.history) (PaidIn with_paid_in.history)
         (λ row own sums.
         let more = paid-more paid cents refl tables.history (λ payment. payment.warehouse == row.id)
         (eq-eqb payment.warehouse row.id (accepted.home ∙ sym own)) in
         omega (arith, ints, sums, more)) meets.paid;
     district_paid =
-        All-changed_once (PaidInDistrict tables.history) (PaidInDistrict after.history)
+        All-changed_once (PaidInDistrict tables.history) (PaidInDistrict with_paid_in.history)
         (is_district payment.warehouse payment.district) (district_paid payment.amount) tables.districts
         (once-district payment.warehouse payment.district tables.districts unique.districts)
         (λ row passes found sums.
@@ -177,16 +162,91 @@ module _ (items : List Item) (number : ℕ) (payment : Payment) (customer : ℕ)
         (λ payment. (payment.warehouse == row.warehouse) && (payment.district == row.id))
         (grind (arith, nat_tests, fails)) in
         omega (arith, ints, sums, same)) meets.district_paid;
-    balances =
-        All-with_changed (IsBalanced tables.orders tables.order_lines) is_payer (customer_paid payment.amount)
-        (λ row settled. omega (arith, ints, settled)) tables.customers meets.balances;
+    balances = meets.balances;
   }
 
-  pub sound-paid : IsSoundWarehouse items number after
-  sound-paid = record {
-    rows = paid-rows;
-    orders = paid-orders;
-    numbers = behind-orders after paid-orders.next_orders (paid-meets (meets-facts tables sound.conditions));
+  pub sound-paid_in : IsSoundWarehouse items number with_paid_in
+  sound-paid_in = record {
+    rows = paid_in-rows;
+    orders = paid_in-orders;
+    numbers =
+        behind-orders with_paid_in paid_in-orders.next_orders (paid_in-meets (meets-facts tables sound.conditions));
     stock = record { unique = sound.stock.unique; each = sound.stock.each };
-    conditions = meets-tests after (paid-meets (meets-facts tables sound.conditions));
+    conditions = meets-tests with_paid_in (paid_in-meets (meets-facts tables sound.conditions));
   }
+
+-- ---- at the customer's warehouse
+
+module _ (items : List Item) (number : ℕ) (payment : Payment) (customer : ℕ) (tables : Tables)
+    (sound : IsSoundWarehouse items number tables) where
+  abbrev with_paid_by : Tables
+  with_paid_by = paid_by payment customer tables
+
+  abbrev is_payer : Customer → Bool
+  is_payer = is_customer payment.customer_warehouse payment.customer_district customer
+
+  paid_by-rows : IsOneWarehouse number with_paid_by
+  paid_by-rows =
+      let same_keys = map-with_changed customer_key is_payer (customer_paid payment.amount) (λ row. refl)
+      tables.customers in
+      record {
+        warehouse = sound.rows.warehouse;
+        districts = sound.rows.districts;
+        customers =
+            All-with_changed (λ (row : Customer). row.warehouse ≡ number) is_payer (customer_paid payment.amount)
+            (λ row own. own) tables.customers sound.rows.customers;
+        unique = subst AreUnique (sym same_keys) sound.rows.unique;
+      }
+
+  paid_by-orders : HasOwnOrders items number with_paid_by
+  paid_by-orders = record {
+    unique_orders = sound.orders.unique_orders;
+    unique_new_orders = sound.orders.unique_new_orders;
+    unique_lines = sound.orders.unique_lines;
+    next_orders = sound.orders.next_orders;
+    orders =
+        All-weaker (IsOwnOrder number tables.customers) (IsOwnOrder number with_paid_by.customers)
+        (λ row own. record {
+          warehouse = own.warehouse;
+          district = own.district;
+          positive = own.positive;
+          customer =
+              list_any-with_changed (is_customer row.warehouse row.district row.customer) is_payer
+              (customer_paid payment.amount) (λ row. refl) tables.customers ∙ own.customer;
+        }) tables.orders sound.orders.orders;
+    new_orders = sound.orders.new_orders;
+    order_lines = sound.orders.order_lines;
+  }
+
+  pub sound-paid_by : IsSoundWarehouse items number with_paid_by
+  sound-paid_by = record {
+    rows = paid_by-rows;
+    orders = paid_by-orders;
+    numbers = sound.numbers;
+    stock = record { unique = sound.stock.unique; each = sound.stock.each };
+    conditions = meets-tests with_paid_by (paid_by-meets (meets-facts tables sound.conditions));
+  }
+    where
+      paid_by-meets : Meets tables → Meets with_paid_by
+      paid_by-meets meets = record {
+        districts = meets.districts;
+        numbers = meets.numbers;
+        district_lines = meets.district_lines;
+        carried = meets.carried;
+        lines = meets.lines;
+        delivered = meets.delivered;
+        paid = meets.paid;
+        district_paid = meets.district_paid;
+        balances =
+            All-with_changed (IsBalanced tables.orders tables.order_lines) is_payer (customer_paid payment.amount)
+            (λ row settled. omega (arith, ints, settled)) tables.customers meets.balances;
+      }
+
+-- ---- both at one warehouse
+
+pub sound-paid : (items : List Item) (number : ℕ) (payment : Payment) (customer : ℕ) (tables : Tables)
+    → IsAcceptedPayment number payment → IsSoundWarehouse items number tables
+    → IsSoundWarehouse items number (paid_by payment customer (paid_in payment customer tables))
+sound-paid items number payment customer tables accepted sound =
+    sound-paid_by items number payment customer (paid_in payment customer tables)
+    (sound-paid_in items number payment customer tables accepted sound)

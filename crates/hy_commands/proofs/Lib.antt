@@ -5,10 +5,12 @@ pub mod MeetsLaws
 pub mod AcceptedLaws
 pub mod NamedLaws
 pub mod OnceLaws
+pub mod SameCustomers
+pub mod DatabaseLaws
 pub mod KeptByPayment
 pub mod KeptByNewOrder
 pub mod KeptByDelivery
-pub mod Kept
 pub mod SoundLoad
+pub mod Kept
 pub mod GrowthLaws
 pub mod Grown

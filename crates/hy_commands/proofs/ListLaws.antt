@@ -3,6 +3,7 @@ use Rattle.std.proofs.Common.{◌≡◌, ◌≢◌, ℕ, suc, ℤ, pos, ◌+ℤ�
 use Rattle.std.specs.Prelude.{All, fold, is_some}
 use Rattle.std.proofs.lemmas.Bool.{both_ways}
 use Rattle.std.specs.List.{find, list_any, flat_map}
+use Rattle.std.specs.Option.{option_map}
 use Rattle.std.proofs.lemmas.Int.{ints}
 use Rattle.std.proofs.lemmas.List.Elements.{All-append, All-nil, All-cons, All-head, All-tail, filter-append}
 use Rattle.std.proofs.lemmas.List.Kept.{AllPairs-cons}
@@ -10,6 +11,7 @@ use Rattle.std.proofs.lemmas.List.Quantifiers.{all_pairs_push}
 use Rattle.hy_rows.specs.Finding.{with_changed}
 use Rattle.hy_schema.specs.Conditions.{column_sum}
 use Rattle.hy_schema.specs.Keys.{AreUnique}
+use Rattle.hy_commands.specs.Sorting.{inserted, sorted}
 
 -- of two rows at different places at most one passes the test
 abbrev pub Once : {Row : Type 0} → (Row → Bool) → List Row → Type 0
@@ -234,6 +236,34 @@ filter-map keep change same (row ∷ rows) =
       | true ↦ λ passes. rw (same row, passes) (ap (λ rows. change row ∷ rows) (filter-map keep change same rows))
       | false ↦ λ fails. rw (same row, fails) (filter-map keep change same rows)
     ] refl
+
+-- what is found by such a test, and the order of rows where the change of each isn't seen by it
+pub find-map : {Row : Type 0} (test : Row → Bool) (change : Row → Row) → ((row : Row) → test (change row) ≡ test row)
+    → (rows : List Row) → find test (map change rows) ≡ option_map change (find test rows)
+find-map test change same [] = refl
+find-map test change same (row ∷ rows) =
+    rw (same row) (elim (test row) as (λ b. cond b (Some (change row)) (find test (map change rows))
+    ≡ option_map change (cond b (Some row) (find test rows))) [
+      | true ↦ refl
+      | false ↦ find-map test change same rows
+    ])
+
+pub sorted-map : {Row : Type 0} (less : Row → Row → Bool) (change : Row → Row)
+    → ((one other : Row) → less (change one) (change other) ≡ less one other) → (rows : List Row)
+    → sorted less (map change rows) ≡ map change (sorted less rows)
+sorted-map less change same [] = refl
+sorted-map {Row = Row} less change same (row ∷ rows) =
+    ap (inserted less (change row)) (sorted-map less change same rows) ∙ put (sorted less rows)
+  where
+    put : (rows : List Row) → inserted less (change row) (map change rows) ≡ map change (inserted less row rows)
+    put [] = refl
+    put (next ∷ rows) =
+        rw (same row next) (elim (less row next) as (λ b. cond b (change row ∷ change next ∷ map change rows)
+        (change next ∷ inserted less (change row) (map change rows))
+        ≡ map change (cond b (row ∷ next ∷ rows) (next ∷ inserted less row rows))) [
+          | true ↦ refl
+          | false ↦ ap (λ rows. change next ∷ rows) (put rows)
+        ])
 
 pub length-map : {Row Other : Type 0} (change : Row → Other) (rows : List Row) → length (map change rows) ≡ length rows
 length-map change [] = refl

@@ -1,5 +1,5 @@
 -- Which customer is meant.
-use Rattle.std.specs.Prelude.{ℕ, ◌+◌, ◌-◌, ◌/◌, ◌==◌, ◌&&◌, Bool, Option, List, find, filter, length, slice_get}
+use Rattle.std.specs.Prelude.{ℕ, pos, ◌+◌, ◌-◌, ◌/◌, ◌==◌, ◌&&◌, Bool, Option, List, find, filter, length, slice_get}
 use Rattle.std.specs.Ordering.{is_lt, nat_cmp, ordering_then}
 use Rattle.std.specs.Cmp.Lexicographic.{slice_cmp}
 use Rattle.std.specs.Str.{bytes_eq}
@@ -21,6 +21,10 @@ is_earlier one other = is_lt (ordering_then (slice_cmp nat_cmp one.first other.f
 -- the one in the middle: of n rows that at place (n + 1) / 2, counted from 1 (clause 2.5.2.2)
 abbrev pub middle_of : List Customer → Option Customer
 middle_of rows = slice_get rows ((length rows + 1) / 2 - 1)
+
+-- the columns of a customer that no transaction changes
+abbrev pub identity_of : Customer → Customer
+identity_of row = record row { balance = pos 0; ytd_payment = pos 0; payment_count = 0; delivery_count = 0 }
 
 -- the customer of a district that is meant, where there is one
 abbrev pub customer_meant : ℕ → ℕ → Who → List Customer → Option Customer

@@ -7,6 +7,7 @@ pub mod OrderStatus
 pub mod Deliveries
 pub mod StockLevels
 pub mod Transactions
+pub mod Parts
 pub mod Replay
 pub mod Invariant
 pub mod Growth
@@ -14,4 +15,5 @@ pub mod WorkedSample
 pub mod WorkedRanges
 pub mod WorkedTransactions
 pub mod WorkedDeliveries
+pub mod WorkedParts
 pub mod inside

@@ -140,7 +140,7 @@ level = commands.StockLevel record { warehouse = 1; district = 1; threshold = 11
 
 -- the rows and the reply after one command behind some others
 abbrev pub after : List Command → Tables
-after done = replay items 1 sample (map commits.Local done)
+after done = replay (record { items = items; tables = sample }) 1 sample (map commits.Local done)
 
 abbrev pub reply_after : List Command → Command → Reply
 reply_after done command = (act items 1 command (after done)).reply
@@ -148,11 +148,12 @@ reply_after done command = (act items 1 command (after done)).reply
 abbrev pub stock_of_item : ℕ → Tables → Stock
 stock_of_item number tables = first_or (stock_of []) (is_stock 1 number) tables.stock
 
--- S_QUANTITY, S_YTD, S_ORDER_CNT, S_REMOTE_CNT of an item
+-- S_QUANTITY, S_YTD, S_ORDER_CNT, S_REMOTE_CNT of a row of STOCK, and of an item
+abbrev pub columns_of_stock : Stock → List ℕ
+columns_of_stock row = row.quantity ∷ row.ytd ∷ row.order_count ∷ row.remote_count ∷ []
+
 abbrev pub stock_columns : ℕ → Tables → List ℕ
-stock_columns number tables =
-    let row : Stock = stock_of_item number tables in
-    row.quantity ∷ row.ytd ∷ row.order_count ∷ row.remote_count ∷ []
+stock_columns number tables = columns_of_stock (stock_of_item number tables)
 
 abbrev pub customer_after : List Command → Customer
 customer_after done = first_or (customer_of []) (is_customer 1 1 1) (after done).customers

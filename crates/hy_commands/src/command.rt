@@ -5,6 +5,7 @@ ghost use Rattle.std.specs.List.{list_all, list_any};
 ghost use Rattle.hy_rows.specs.Ranges.{is_between};
 ghost use Rattle.hy_commands.specs.declared.command.Command.TheVariants as commands;
 ghost use Rattle.hy_commands.specs.Commands.{command_of, home_of, is_in_range, is_line_in_range, is_moment, is_name, is_reader, is_who, number_of, warehouses_of, warehouses_of_commit, with_named};
+ghost use Rattle.hy_commands.specs.Parts.{customer_home_of, with_number};
 
 use crate::PurchaseLines;
 use arrayvec::ArrayVec;
@@ -317,6 +318,30 @@ impl Payment {
         self.warehouse != self.customer_warehouse
     }
 
+    /// The same payment with its customer named by number.
+    fn with_number(self, number: u64) -> Payment
+        ensures { commands.Payment result ≡ with_number number (commands.Payment self) }
+    {
+        let Payment {
+            warehouse,
+            district,
+            customer_warehouse,
+            customer_district,
+            who: _,
+            amount,
+            at,
+        } = self;
+        Payment {
+            warehouse,
+            district,
+            customer_warehouse,
+            customer_district,
+            who: Who::Number(number),
+            amount,
+            at,
+        }
+    }
+
     /// The same payment once more.
     fn copy(&self) -> Result<Payment, AllocError>
         ensures { IfOk result (λ copy. copy ≡ self.now) }
@@ -389,6 +414,26 @@ impl Command {
             Command::OrderStatus(status) => status.warehouse,
             Command::Delivery(delivery) => delivery.warehouse,
             Command::StockLevel(level) => level.warehouse,
+        }
+    }
+
+    /// The warehouse of the customer whom the command names; its home, where it names none.
+    pub fn customer_home(&self) -> u64
+        ensures { result ≡ customer_home_of self.now }
+    {
+        match self {
+            Command::Payment(payment) => payment.customer_warehouse,
+            _ => self.home(),
+        }
+    }
+
+    /// The same command, with the customer who pays named by number, if one pays.
+    pub fn with_number(self, number: u64) -> Command
+        ensures { result ≡ with_number number self }
+    {
+        match self {
+            Command::Payment(payment) => Command::Payment(payment.with_number(number)),
+            other => other,
         }
     }
 

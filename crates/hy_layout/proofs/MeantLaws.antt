@@ -15,13 +15,13 @@ use Rattle.hy_rows.specs.Finding.{is_customer}
 use Rattle.hy_rows.specs.Tables.{Lists, Tables}
 use Rattle.hy_rows.specs.declared.customer.Customer.{Customer}
 use Rattle.hy_schema.specs.Keys.{customer_key}
-use Rattle.hy_commands.specs.Customers.{customer_meant, is_earlier, is_named, middle_of}
+use Rattle.hy_commands.specs.Customers.{customer_meant, identity_of, is_earlier, is_named, middle_of}
 use Rattle.hy_commands.specs.Sorting.{sorted}
 use Rattle.hy_commands.specs.declared.command.Who.TheVariants as who
 use Rattle.hy_commands.proofs.ListLaws.{length-map, map-map}
 use Rattle.hy_commands.proofs.OnceLaws.{passes-three}
 use Rattle.hy_layout.specs.Finds.{IsIn}
-use Rattle.hy_layout.specs.Layout.{IsMeantAt, KeepsPlaces, identity_of, own_rows}
+use Rattle.hy_layout.specs.Layout.{IsMeantAt, KeepsPlaces, own_rows}
 use Rattle.hy_layout.specs.declared.names.NamedCustomer.{NamedCustomer}
 use Rattle.hy_layout.specs.inside.Places.{AreNames, AreStarts, IsLaidOut, IsNoPlace, IsPlaceOf, is_called, is_lesser, named}
 use Rattle.hy_layout.proofs.LoadLaws.{not-passed}

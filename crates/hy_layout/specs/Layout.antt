@@ -1,12 +1,12 @@
 -- What never changes of a warehouse: the load that it began from, and the places of the rows of CUSTOMER and STOCK, which
 -- no transaction adds, takes away or moves.
-use Rattle.std.specs.Prelude.{◌≡◌, ℕ, List, MatchOption, None, Option, pos, map, Some, slice_get}
+use Rattle.std.specs.Prelude.{◌≡◌, ℕ, List, MatchOption, None, Option, map, Some, slice_get}
 use Rattle.hy_rows.specs.declared.customer.Customer.{Customer}
 use Rattle.hy_rows.specs.declared.stock.Stock.{Stock}
 use Rattle.hy_rows.specs.Tables.{Lists, Tables, of_warehouse}
 use Rattle.hy_schema.specs.Keys.{customer_key}
 use Rattle.hy_commands.specs.declared.command.Who.{Who}
-use Rattle.hy_commands.specs.Customers.{customer_meant}
+use Rattle.hy_commands.specs.Customers.{customer_meant, identity_of}
 use Rattle.hy_commands.specs.Invariant.{stock_key}
 
 -- a warehouse of a load
@@ -17,10 +17,6 @@ pub record LayoutState : Type 0 where
 -- the rows that it began from
 abbrev pub own_rows : LayoutState → Tables
 own_rows layout = of_warehouse layout.warehouse layout.load.tables
-
--- the columns of a customer that no transaction changes
-abbrev pub identity_of : Customer → Customer
-identity_of row = record row { balance = pos 0; ytd_payment = pos 0; payment_count = 0; delivery_count = 0 }
 
 -- each customer and each row of STOCK stands where it stood
 pub record KeepsPlaces (loaded tables : Tables) : Type 0 where

@@ -1,6 +1,7 @@
 -- What an accepted command does to the accounts.
 use Rattle.std.proofs.Common.{◌≡◌, ℕ, suc, ◌+◌, ◌≤◌, pos, ◌+ℤ◌, ◌==◌, Bool, true, false, cond, List, [], ◌∷◌, ◌++◌, map, length, None, refl, sym, ap, ◌∙◌, subst, arith, eq-eqb, length-append, lit≤}
-use Rattle.std.specs.Prelude.{fold}
+use Rattle.std.specs.Prelude.{fold, nat_lt}
+use Rattle.std.proofs.lemmas.Bool.{eqb-true}
 use Rattle.std.proofs.lemmas.Int.{ints}
 use Rattle.std.proofs.lemmas.Bool.Decides.{nat_tests}
 use Rattle.std.proofs.lemmas.List.{append-nil}
@@ -19,17 +20,20 @@ use Rattle.hy_commands.specs.declared.command.Command.TheVariants as commands
 use Rattle.hy_commands.specs.declared.command.Commit.{Commit}
 use Rattle.hy_commands.specs.declared.command.Commit.TheVariants as commits
 use Rattle.hy_commands.specs.declared.command.Delivery.{Delivery}
-use Rattle.hy_commands.specs.Commands.{command_of, home_of, is_reader, kept_of}
-use Rattle.hy_commands.specs.Deliveries.{delivered_in, oldest, with_delivered}
+use Rattle.hy_commands.specs.Commands.{command_of, home_of, is_reader, kept_of, warehouses_of}
+use Rattle.hy_commands.specs.Deliveries.{delivered, delivered_in, oldest, with_delivered}
 use Rattle.hy_commands.specs.Invariant.{IsSoundWarehouse}
-use Rattle.hy_commands.specs.Payments.{warehouse_paid}
+use Rattle.hy_commands.specs.NewOrders.{ordered, supplied}
+use Rattle.hy_commands.specs.Parts.{Database, database_of, number_in, part, refusal_in}
+use Rattle.hy_commands.specs.Payments.{paid_by, paid_in, warehouse_paid}
 use Rattle.hy_commands.specs.Replay.{rows_after}
 use Rattle.hy_commands.specs.Transactions.{accepted, refusal_of}
-use Rattle.hy_commands.proofs.AcceptedLaws.{accepted-not_refused, accepted-payment}
+use Rattle.hy_commands.proofs.AcceptedLaws.{accepted-in, accepted-not_refused, accepted-payment, payment-in_range}
 use Rattle.hy_commands.proofs.NamedLaws.{first-named, named-accepted}
 use Rattle.hy_partition.specs.Accounts.{IsBookOf, home_commits, taken_in, with_command}
 use Rattle.hy_partition.specs.Jobs.{cents_of}
-use Rattle.hy_partition.proofs.ReplayLaws.{act-accepted, replay-append}
+use Rattle.hy_partition.specs.Parts.{with_part_entered}
+use Rattle.hy_partition.proofs.ReplayLaws.{act-accepted, replay-append, replay-crossed}
 
 -- the home of an accepted command is the warehouse
 first-same : {one other : ℕ} {ones others : List ℕ} → one ∷ ones ≡ other ∷ others → one ≡ other
@@ -100,13 +104,124 @@ booked lists number kept book command sound accepted is =
             warehouse_is = is.warehouse_is;
             commits_are = ap (λ n. n + 1) is.commits_are ∙ sym (home-more number kept command home);
             cents_are =
-                ap taken_in (replay-append lists.items number (of_warehouse number lists.tables) kept command
+                ap taken_in (replay-append lists number (of_warehouse number lists.tables) kept command
                 ∙ ap (λ o. o.tables) (act-accepted lists.items number command (rows_after lists number kept) accepted))
                 ∙ taken-accepted lists.items number command (rows_after lists number kept) sound.rows.warehouse home
                 ∙ ap (λ z. z +ℤ pos (cents_of command)) is.cents_are
                 ∙ omega (arith, ints);
           }
     ] refl
+
+-- what the part of a command over several warehouses takes in: at its home its cents, and nothing elsewhere
+taken-part : (items : List Item) (number : ℕ) (command : Command) (tables : Tables)
+    → map (λ (row : Warehouse). row.id) tables.warehouses ≡ number ∷ []
+    → taken_in (part items number command tables)
+    ≡ taken_in tables +ℤ pos (cond (home_of command == number) (cents_of command) 0)
+taken-part items number (commands.NewOrder order) tables one =
+    elim (order.warehouse == number) as (λ b.
+    taken_in (supplied number order (cond b (ordered items order tables) tables)) ≡ taken_in tables +ℤ pos (cond b 0 0)) [
+      | true ↦ omega (arith, ints)
+      | false ↦ omega (arith, ints)
+    ]
+taken-part items number (commands.Payment payment) tables one =
+    elim (payment.warehouse == number) as (λ b. (payment.warehouse == number) ≡ b
+    → taken_in (cond (payment.customer_warehouse == number)
+    (paid_by payment (number_in payment.who) (cond b (paid_in payment (number_in payment.who) tables) tables))
+    (cond b (paid_in payment (number_in payment.who) tables) tables))
+    ≡ taken_in tables +ℤ pos (cond b payment.amount 0)) [
+      | true ↦ λ home.
+          either (payment.customer_warehouse == number) (paid_in payment (number_in payment.who) tables)
+          ∙ taken-paid payment.warehouse payment.amount tables.warehouses
+          (one ∙ ap (λ n. n ∷ []) (sym (eqb-true payment.warehouse number home)))
+      | false ↦ λ away. either (payment.customer_warehouse == number) tables ∙ omega (arith, ints)
+    ] refl
+  where
+    either : (here : Bool) (rows : Tables)
+        → taken_in (cond here (paid_by payment (number_in payment.who) rows) rows) ≡ taken_in rows
+    either true rows = refl
+    either false rows = refl
+taken-part items number (commands.OrderStatus status) tables one =
+    elim (status.warehouse == number) as (λ b. taken_in tables ≡ taken_in tables +ℤ pos (cond b 0 0)) [
+      | true ↦ omega (arith, ints)
+      | false ↦ omega (arith, ints)
+    ]
+taken-part items number (commands.Delivery delivery) tables one =
+    elim (delivery.warehouse == number) as (λ b.
+    taken_in (cond b (delivered delivery tables) tables) ≡ taken_in tables +ℤ pos (cond b 0 0)) [
+      | true ↦ ap (column_sum (λ (row : Warehouse). row.ytd)) (taken-delivered delivery district_numbers tables)
+          ∙ omega (arith, ints)
+      | false ↦ omega (arith, ints)
+    ]
+taken-part items number (commands.StockLevel level) tables one =
+    elim (level.warehouse == number) as (λ b. taken_in tables ≡ taken_in tables +ℤ pos (cond b 0 0)) [
+      | true ↦ omega (arith, ints)
+      | false ↦ omega (arith, ints)
+    ]
+
+-- the book after a command over several warehouses
+pub booked-part : (lists : Lists) (number : ℕ) (kept : List Commit) (book : BookState) (command : Command) (crossing : ℕ)
+    → IsSoundWarehouse lists.items number (rows_after lists number kept)
+    → refusal_in (database_of lists) command ≡ None → is_reader command ≡ false → IsBookOf lists number kept book
+    → IsBookOf lists number (kept ++ commits.Cross crossing command ∷ []) (with_part_entered number book command)
+booked-part lists number kept book command crossing sound accepted writes is =
+    elim (home_of command == number) as (λ b. (home_of command == number) ≡ b
+    → IsBookOf lists number more (cond b (with_command book command) book)) [
+      | true ↦ λ home. subst (λ (b : BookState). IsBookOf lists number more b) (sym entered) (record {
+        warehouse_is = is.warehouse_is;
+        commits_are = ap (λ n. n + 1) is.commits_are ∙ sym (count ∙ ap (λ b. length (home_commits number kept
+            ++ cond b (commits.Cross crossing command ∷ []) [])) home
+            ∙ length-append (home_commits number kept) (commits.Cross crossing command ∷ []));
+        cents_are = taken ∙ ap (λ b. taken_in rows +ℤ pos (cond b (cents_of command) 0)) home
+            ∙ ap (λ z. z +ℤ pos (cents_of command)) is.cents_are ∙ omega (arith, ints);
+      })
+      | false ↦ λ away. record {
+        warehouse_is = is.warehouse_is;
+        commits_are = is.commits_are ∙ sym (count ∙ ap (λ b. length (home_commits number kept
+            ++ cond b (commits.Cross crossing command ∷ []) [])) away ∙ ap length (append-nil (home_commits number kept)));
+        cents_are = taken ∙ ap (λ b. taken_in rows +ℤ pos (cond b (cents_of command) 0)) away
+            ∙ ap (λ z. z +ℤ pos 0) is.cents_are ∙ omega (arith, ints);
+      }
+    ] refl
+  where
+    more : List Commit
+    more = kept ++ commits.Cross crossing command ∷ []
+
+    rows : Tables
+    rows = rows_after lists number kept
+
+    entered : with_command book command ≡ record book { commits = book.commits + 1; cents = book.cents + cents_of command }
+    entered = ap (λ b. cond b book (record book { commits = book.commits + 1; cents = book.cents + cents_of command })) writes
+
+    count : length (home_commits number more)
+        ≡ length (home_commits number kept ++ cond (home_of command == number) (commits.Cross crossing command ∷ []) [])
+    count =
+        ap length (filter-append (λ commit. home_of (command_of commit) == number) kept (commits.Cross crossing command ∷ []))
+
+    taken : taken_in (rows_after lists number more)
+        ≡ taken_in rows +ℤ pos (cond (home_of command == number) (cents_of command) 0)
+    taken =
+        ap taken_in (replay-crossed lists number (of_warehouse number lists.tables) kept crossing command accepted)
+        ∙ taken-part lists.items number command rows sound.rows.warehouse
+
+-- a command over several warehouses doesn't only read
+pub crossing-writes : (command : Command) → nat_lt 1 (length (warehouses_of command)) ≡ true → is_reader command ≡ false
+crossing-writes (commands.NewOrder order) crossing = refl
+crossing-writes (commands.Payment payment) crossing = refl
+crossing-writes (commands.OrderStatus status) crossing = absurd (cc)
+crossing-writes (commands.Delivery delivery) crossing = refl
+crossing-writes (commands.StockLevel level) crossing = absurd (cc)
+
+-- no command over several warehouses pays more than a share holds
+pub cents-small_part : (database : Database) (command : Command) → refusal_in database command ≡ None
+    → cents_of command ≤ max_cents
+cents-small_part database (commands.Payment payment) accepted =
+    let passed = accepted-in database (commands.Payment payment) accepted in
+    let amount = (payment-in_range payment.warehouse payment refl passed.in_range passed.districts).amount in
+    grind (arith, nat_tests, amount)
+cents-small_part database (commands.NewOrder order) accepted = lit≤ tt
+cents-small_part database (commands.OrderStatus status) accepted = lit≤ tt
+cents-small_part database (commands.Delivery delivery) accepted = lit≤ tt
+cents-small_part database (commands.StockLevel level) accepted = lit≤ tt
 
 -- no command pays more than a share holds
 pub cents-small : (items : List Item) (number : ℕ) (command : Command) (tables : Tables)

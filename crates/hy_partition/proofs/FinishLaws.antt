@@ -47,6 +47,7 @@ keeps_rest-then : (old now new : PartitionState) → KeepsRest old now → Keeps
 keeps_rest-then old now new first second = record {
   terms = second.terms ∙ first.terms;
   drained = second.drained ∙ first.drained;
+  part = second.part ∙ first.part;
   snapshots = second.snapshots ∙ first.snapshots;
   max_frames = second.max_frames ∙ first.max_frames;
   children = record {
@@ -90,6 +91,7 @@ reached-start log p = at p.running refl
             rest = record {
               terms = refl;
               drained = refl;
+              part = refl;
               snapshots = refl;
               max_frames = refl;
               children = record { tables = refl; bytes = λ child. refl };
@@ -147,6 +149,7 @@ module _ (old now new : PartitionState) (first job : RunningJob) (way : IsOnItsW
           terms = ends.rest.terms ∙ ap (λ most. record { load = now.load; warehouse = now.warehouse; max_kept = most })
               (ap (λ t. t.max_kept) way.rest.terms);
           drained = ends.rest.drained ∙ way.rest.drained;
+          part = ends.rest.part ∙ way.rest.part;
           snapshots = ends.rest.snapshots ∙ way.rest.snapshots;
           max_frames = ends.rest.max_frames ∙ way.rest.max_frames;
           children = record {

@@ -79,6 +79,7 @@ module _ (n room : ℕ) (executor : ExecutorState) (p : PartitionState) (sound :
       drained = refl;
       book = refl;
       running = refl;
+      part = refl;
       undo = refl;
       finished = refl;
       owner = before.owner;
@@ -183,6 +184,7 @@ module _ (n room : ℕ) (executor : ExecutorState) (p : PartitionState) (sound :
           drained = refl;
           book = refl;
           running = refl;
+          part = refl;
           undo = refl;
           finished = refl;
           owner = held_owner;
@@ -229,6 +231,7 @@ module _ (n room : ℕ) (executor : ExecutorState) (p : PartitionState) (sound :
         drained = refl;
         book = refl;
         running = refl;
+        part = refl;
         undo = refl;
         finished = refl;
         owner = closed_owner;

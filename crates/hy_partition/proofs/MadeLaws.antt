@@ -48,6 +48,7 @@ module _ (n : ℕ) (lists : Lists) (number frames most : ℕ) (executor : Execut
     drained = 0;
     book = book;
     running = None;
+    part = None;
     undo = undo;
     finished = None;
     space = space;
@@ -66,7 +67,7 @@ module _ (n : ℕ) (lists : Lists) (number frames most : ℕ) (executor : Execut
   pub sound-made : (room : ℕ) → most ≤ most_kept → IsBetween 1 (length lists.tables.warehouses) number
       → IsSound n room executor made
   sound-made room limit between =
-      sound-new n room executor made none_kept refl laid.nothing laid.undo_log refl laid.children limit
+      sound-new n room executor made none_kept refl refl laid.nothing laid.undo_log refl laid.children limit
       (rw load_is laid.load) (rw (load_is, number_is) between) refl
       (rw (load_is, number_is) laid.store)
 
@@ -94,6 +95,7 @@ module _ (n : ℕ) (lists : Lists) (number frames most : ℕ) (executor : Execut
     drained = refl;
     book = book_is;
     running = refl;
+    part = refl;
     undo = laid.nothing;
     finished = refl;
     max_frames = laid.max_frames;

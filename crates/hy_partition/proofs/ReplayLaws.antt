@@ -1,5 +1,5 @@
 -- What holds of the rows after a list of commits.
-use Rattle.std.proofs.Common.{◌≡◌, ℕ, zero, suc, ◌+◌, ◌-◌, ◌<◌, ◌≤◌, Bool, true, false, cond, List, [], ◌∷◌, ◌++◌, length, Option, Some, None, refl, sym, ap, ◌∙◌, subst, arith}
+use Rattle.std.proofs.Common.{◌≡◌, ℕ, zero, suc, ◌+◌, ◌-◌, ◌<◌, ◌≤◌, inl, Bool, true, false, cond, List, [], ◌∷◌, ◌++◌, length, Option, Some, None, refl, sym, ap, ◌∙◌, subst, arith}
 use Rattle.std.specs.Prelude.{◌&&◌}
 use Rattle.std.specs.Option.{option_or}
 use Rattle.std.proofs.lemmas.List.{append-nil}
@@ -16,19 +16,19 @@ use Rattle.hy_commands.specs.declared.command.Commit.TheVariants as commits
 use Rattle.hy_commands.specs.Commands.{is_reader, kept_of}
 use Rattle.hy_commands.specs.Growth.{HasGrownBy}
 use Rattle.hy_commands.specs.Invariant.{IsSoundWarehouse}
+use Rattle.hy_commands.specs.Parts.{database_of, part, part_unless, refusal_in}
 use Rattle.hy_commands.specs.Replay.{committed, replay}
 use Rattle.hy_commands.specs.Transactions.{Outcome, accepted, act, begin_refusal_of, outcome_of, refusal_of}
-use Rattle.hy_commands.proofs.Grown.{grown-commits}
+use Rattle.hy_commands.proofs.Grown.{grown-rows}
 use Rattle.hy_commands.proofs.GrowthLaws.{grown-later}
-use Rattle.hy_commands.proofs.Kept.{sound-replay}
-use Rattle.hy_commands.proofs.SoundLoad.{sound-load}
+use Rattle.hy_commands.proofs.Kept.{sound-rows as sound-committed_rows}
 use Rattle.hy_slices.specs.Slices.{after_slices, has_item_at, has_items_before, slice_count}
 use Rattle.hy_slices.proofs.GrowingSlices.{grown-between}
 use Rattle.hy_slices.proofs.SliceLaws.{slices-act, slices-refused}
 use Rattle.hy_layout.specs.Layout.{KeepsPlaces}
 use Rattle.hy_writers.specs.Limits.{AreInBounds, most_applied}
 use Rattle.hy_tpcc.specs.Executor.{StaysInBounds}
-use Rattle.hy_tpcc.proofs.KeepsLaws.{keeps-slices}
+use Rattle.hy_tpcc.proofs.KeepsLaws.{keeps-part, keeps-slices}
 
 -- a command that isn't refused is begun
 pub begun-accepted : (items : List Item) (number : ℕ) (command : Command) (tables : Tables)
@@ -98,21 +98,38 @@ keeps-act loaded items number command tables keeps =
           (keeps-slices loaded items number command (slice_count command) tables keeps)
     ] refl
 
-pub keeps-replay : (loaded : Tables) (items : List Item) (number : ℕ) (tables : Tables) (kept : List Commit)
-    → KeepsPlaces loaded tables → KeepsPlaces loaded (replay items number tables kept)
-keeps-replay loaded items number tables [] keeps = keeps
-keeps-replay loaded items number tables (commits.Local command ∷ kept) keeps =
-    keeps-replay loaded items number (act items number command tables).tables kept
-    (keeps-act loaded items number command tables keeps)
-keeps-replay loaded items number tables (commits.Cross crossing command ∷ kept) keeps =
-    keeps-replay loaded items number tables kept keeps
+-- and so does the part of one over several warehouses
+keeps-crossed : (loaded : Tables) (lists : Lists) (number : ℕ) (command : Command) (tables : Tables)
+    (refusal : Option Refusal) → KeepsPlaces loaded tables
+    → KeepsPlaces loaded (part_unless refusal lists.items number command tables)
+keeps-crossed loaded lists number command tables (Some refusal) keeps = keeps
+keeps-crossed loaded lists number command tables None keeps = keeps-part loaded lists.items number command tables keeps
+
+pub keeps-replay : (loaded : Tables) (lists : Lists) (number : ℕ) (tables : Tables) (kept : List Commit)
+    → KeepsPlaces loaded tables → KeepsPlaces loaded (replay lists number tables kept)
+keeps-replay loaded lists number tables [] keeps = keeps
+keeps-replay loaded lists number tables (commits.Local command ∷ kept) keeps =
+    keeps-replay loaded lists number (act lists.items number command tables).tables kept
+    (keeps-act loaded lists.items number command tables keeps)
+keeps-replay loaded lists number tables (commits.Cross crossing command ∷ kept) keeps =
+    keeps-replay loaded lists number (committed lists number tables (commits.Cross crossing command)) kept
+    (keeps-crossed loaded lists number command tables (refusal_in (database_of lists) command) keeps)
 
 -- the replay of what a command adds to the kept list
-pub replay-append : (items : List Item) (number : ℕ) (loaded : Tables) (kept : List Commit) (command : Command)
-    → replay items number loaded (kept ++ commits.Local command ∷ [])
-    ≡ (act items number command (replay items number loaded kept)).tables
-replay-append items number loaded kept command =
-    fold-append (committed items number) loaded kept (commits.Local command ∷ [])
+pub replay-append : (lists : Lists) (number : ℕ) (loaded : Tables) (kept : List Commit) (command : Command)
+    → replay lists number loaded (kept ++ commits.Local command ∷ [])
+    ≡ (act lists.items number command (replay lists number loaded kept)).tables
+replay-append lists number loaded kept command =
+    fold-append (committed lists number) loaded kept (commits.Local command ∷ [])
+
+-- the same of one over several warehouses, which the database doesn't refuse
+pub replay-crossed : (lists : Lists) (number : ℕ) (loaded : Tables) (kept : List Commit) (crossing : ℕ)
+    (command : Command) → refusal_in (database_of lists) command ≡ None
+    → replay lists number loaded (kept ++ commits.Cross crossing command ∷ [])
+    ≡ part lists.items number command (replay lists number loaded kept)
+replay-crossed lists number loaded kept crossing command accepted =
+    fold-append (committed lists number) loaded kept (commits.Cross crossing command ∷ [])
+    ∙ ap (λ refusal. part_unless refusal lists.items number command (replay lists number loaded kept)) accepted
 
 -- a command that only reads leaves the rows
 pub act-reader : (items : List Item) (number : ℕ) (command : Command) (tables : Tables) → is_reader command ≡ true
@@ -131,17 +148,17 @@ act-reader items number command tables reads =
     reader (commands.Payment payment) reads = absurd (cc)
     reader (commands.Delivery delivery) reads = absurd (cc)
 
-pub replay-kept_of : (items : List Item) (number : ℕ) (loaded : Tables) (kept : List Commit) (command : Command)
-    → replay items number loaded (kept ++ kept_of command)
-    ≡ (act items number command (replay items number loaded kept)).tables
-replay-kept_of items number loaded kept command =
+pub replay-kept_of : (lists : Lists) (number : ℕ) (loaded : Tables) (kept : List Commit) (command : Command)
+    → replay lists number loaded (kept ++ kept_of command)
+    ≡ (act lists.items number command (replay lists number loaded kept)).tables
+replay-kept_of lists number loaded kept command =
     elim (is_reader command) as (λ b. is_reader command ≡ b
-    → replay items number loaded (kept ++ cond b [] (commits.Local command ∷ []))
-    ≡ (act items number command (replay items number loaded kept)).tables) [
+    → replay lists number loaded (kept ++ cond b [] (commits.Local command ∷ []))
+    ≡ (act lists.items number command (replay lists number loaded kept)).tables) [
       | true ↦ λ reads.
-          ap (replay items number loaded) (append-nil kept)
-          ∙ sym (act-reader items number command (replay items number loaded kept) reads)
-      | false ↦ λ writes. replay-append items number loaded kept command
+          ap (replay lists number loaded) (append-nil kept)
+          ∙ sym (act-reader lists.items number command (replay lists number loaded kept) reads)
+      | false ↦ λ writes. replay-append lists number loaded kept command
     ] refl
 
 -- with more commits rows may have grown further
@@ -160,23 +177,26 @@ grown-within n most tables within grown =
 module _ (lists : Lists) (number : ℕ) (kept : List Commit) (is_load : IsLoad lists)
     (between : IsBetween 1 (length lists.tables.warehouses) number) where
   abbrev pub rows : Tables
-  rows = replay lists.items number (of_warehouse number lists.tables) kept
+  rows = replay lists number (of_warehouse number lists.tables) kept
 
   pub sound-rows : IsSoundWarehouse lists.items number rows
-  sound-rows =
-      sound-replay lists.items number (of_warehouse number lists.tables) kept (sound-load number lists is_load between)
+  sound-rows = sound-committed_rows lists number kept is_load between
 
   pub places-rows : KeepsPlaces (of_warehouse number lists.tables) rows
   places-rows =
-      keeps-replay (of_warehouse number lists.tables) lists.items number (of_warehouse number lists.tables) kept
+      keeps-replay (of_warehouse number lists.tables) lists number (of_warehouse number lists.tables) kept
       (record { customers = refl; stock = refl })
 
   pub bounds-rows : length kept < most_applied → AreInBounds rows
   bounds-rows few =
-      grown-within (length kept) most_applied rows (omega (arith, few)) (grown-commits lists is_load number kept between)
+      grown-within (length kept) most_applied rows (omega (arith, few)) (grown-rows lists number kept is_load between)
+
+  -- one commit more may be kept
+  pub grown-now : length kept < most_applied → HasGrownBy 100_000_000 rows
+  grown-now few = grown-within (length kept) 100_000_000 rows (omega (arith, few)) (grown-rows lists number kept is_load between)
 
   pub stays_in_bounds : (command : Command) → length kept < most_applied → begin_refusal_of number command rows ≡ None
       → StaysInBounds (record { load = lists; warehouse = number }) command rows
   stays_in_bounds command few begins = λ done within known.
       grown-within (length kept + 1) most_applied (after_slices lists.items number command done rows)
-      (omega (arith, few)) (grown-between lists is_load number kept command done between begins within known)
+      (omega (arith, few)) (grown-between lists is_load number kept command done between (inl begins) within known)

@@ -14,6 +14,7 @@ use Rattle.hy_commands.specs.declared.command.Command.TheVariants as commands
 use Rattle.hy_commands.specs.declared.command.Commit.{Commit}
 use Rattle.hy_commands.specs.declared.command.Commit.TheVariants as commits
 use Rattle.hy_commands.specs.Commands.{is_reader, kept_of}
+use Rattle.hy_commands.specs.Growth.{HasGrownBy}
 use Rattle.hy_commands.specs.Invariant.{IsSoundWarehouse}
 use Rattle.hy_commands.specs.Transactions.{begin_refusal_of}
 use Rattle.hy_slices.specs.Slices.{has_items_before, slice_count}
@@ -27,13 +28,15 @@ use Rattle.hy_store.specs.Stored.{HasStore, stored}
 use Rattle.hy_writers.specs.Limits.{most_applied}
 use Rattle.hy_writers.specs.Waiting.{IsSoundStore}
 use Rattle.hy_tpcc.specs.Executor.{ExecutorState, IsUnderWay, StaysInBounds}
+use Rattle.hy_tpcc.specs.Parts.{DoesPart, HasPart}
 use Rattle.hy_partition.specs.Headline.{SpellsBeginning}
 use Rattle.hy_ledger.specs.Books.{BookState}
 use Rattle.hy_partition.specs.Jobs.{DoneState, Log, RunningJob, with_slice_done}
 use Rattle.hy_partition.specs.Limits.{most_kept}
 use Rattle.hy_partition.specs.Partition.{PartitionState, commits_of, layout_of, outcome_now, refusal_now, rows_after, rows_now}
-use Rattle.hy_partition.specs.inside.Soundness.{IsSound, IsStoreOf, Rests, Runs}
-use Rattle.hy_partition.proofs.ReplayLaws.{bounds-rows, places-rows, replay-kept_of, sound-rows, stays_in_bounds}
+use Rattle.hy_partition.specs.Parts.{rows_with_part}
+use Rattle.hy_partition.specs.inside.Soundness.{HoldsPart, IsIdle, IsSound, IsStoreOf, Rests, Runs}
+use Rattle.hy_partition.proofs.ReplayLaws.{bounds-rows, grown-now, places-rows, replay-crossed, replay-kept_of, sound-rows, stays_in_bounds}
 use Rattle.hy_partition.proofs.SpellLaws.{spells-kept_more}
 
 -- where the log is empty, undoing changes nothing
@@ -77,13 +80,33 @@ first_slice (commands.Delivery delivery) = lit< tt
 first_slice (commands.StockLevel level) = lit< tt
 
 module _ (n room : ℕ) (executor : ExecutorState) (p : PartitionState) (sound : IsSound n room executor p) where
-  pub rests : p.running ≡ None → Rests n p
-  rests idle =
-      subst (λ (running : Option RunningJob). MatchOption running (Rests n p) (Runs n room executor p)) idle sound.job
+  idles : p.running ≡ None → IsIdle n room p
+  idles idle =
+      subst (λ (running : Option RunningJob). MatchOption running (IsIdle n room p) (Runs n room executor p)) idle sound.job
+
+  pub rests : p.running ≡ None → p.part ≡ None → Rests n p
+  rests idle no_part =
+      subst (λ (part : Option Command). MatchOption part (Rests n p) (HoldsPart n room p)) no_part (idles idle)
+
+  pub holds : (command : Command) → p.running ≡ None → p.part ≡ Some command → HoldsPart n room p command
+  holds command idle part =
+      subst (λ (part : Option Command). MatchOption part (Rests n p) (HoldsPart n room p)) part (idles idle)
 
   pub runs : (job : RunningJob) → p.running ≡ Some job → Runs n room executor p job
   runs job running =
-      subst (λ (running : Option RunningJob). MatchOption running (Rests n p) (Runs n room executor p)) running sound.job
+      subst (λ (running : Option RunningJob). MatchOption running (IsIdle n room p) (Runs n room executor p)) running sound.job
+
+  -- a part is done only where nothing runs
+  pub part_idle : (command : Command) → p.part ≡ Some command → p.running ≡ None
+  part_idle command part = at p.running sound.job
+    where
+      none-some : p.part ≡ None → ⊥
+      none-some none = let both : None ≡ Some command = sym none ∙ part in absurd (cc)
+
+      at : (running : Option RunningJob) → MatchOption running (IsIdle n room p) (Runs n room executor p)
+          → running ≡ None
+      at None was = refl
+      at (Some job) was = absurd (none-some was.no_part)
 
   pub few_slices : ForSome p.running (λ job. job.slices < slice_count job.command)
   few_slices job running = (runs job running).slices
@@ -96,9 +119,9 @@ module _ (n room : ℕ) (executor : ExecutorState) (p : PartitionState) (sound :
   sound_now = sound-rows p.load p.warehouse p.kept sound.load sound.warehouse
 
   -- where nothing runs, the store is sound
-  pub store_now : p.running ≡ None → IsSoundStore executor.layout (stored n (owner_bytes p.space))
-  store_now idle =
-      let pages = (rests idle).pages in
+  pub store_now : p.running ≡ None → p.part ≡ None → IsSoundStore executor.layout (stored n (owner_bytes p.space))
+  store_now idle no_part =
+      let pages = (rests idle no_part).pages in
       subst (λ (layout : LayoutState). IsSoundStore layout (stored n (owner_bytes p.space))) (sym sound.layout) (record {
         sound = subst (λ (tables : Tables). IsSoundWarehouse p.load.items p.warehouse tables) (sym pages.rows) sound_now;
         places = rw pages.rows (places-rows p.load p.warehouse p.kept sound.load sound.warehouse);
@@ -106,10 +129,16 @@ module _ (n room : ℕ) (executor : ExecutorState) (p : PartitionState) (sound :
         indexes = pages.indexes;
       })
 
+  -- and its rows have room for one commit more
+  pub grown_for_part : p.running ≡ None → p.part ≡ None
+      → HasGrownBy 100_000_000 (stored n (owner_bytes p.space)).tables
+  grown_for_part idle no_part =
+      rw (rests idle no_part).pages.rows (grown-now p.load p.warehouse p.kept sound.load sound.warehouse few)
+
   -- nothing runs, and nothing begins
-  pub sound-idle : (room' : ℕ) (executor' : ExecutorState) → p.running ≡ None → executor'.layout ≡ executor.layout
-      → IsSound n room' executor' p
-  sound-idle room' executor' idle layout = record {
+  pub sound-idle : (room' : ℕ) (executor' : ExecutorState) → p.running ≡ None → p.part ≡ None
+      → executor'.layout ≡ executor.layout → IsSound n room' executor' p
+  sound-idle room' executor' idle no_part layout = record {
     snapshots = sound.snapshots;
     live = sound.live;
     undo_log = sound.undo_log;
@@ -118,25 +147,29 @@ module _ (n room : ℕ) (executor : ExecutorState) (p : PartitionState) (sound :
     layout = layout ∙ sound.layout;
     within = sound.within;
     limit = sound.limit;
-    job = subst (λ (job : Option RunningJob). MatchOption job (Rests n p) (Runs n room' executor' p)) (sym idle) (rests idle);
+    job = subst (λ (job : Option RunningJob). MatchOption job (IsIdle n room' p) (Runs n room' executor' p)) (sym idle)
+        (subst (λ (part : Option Command). MatchOption part (Rests n p) (HoldsPart n room' p)) (sym no_part)
+        (rests idle no_part));
   }
 
   -- a job begins
   pub sound-begun : (room' : ℕ) (executor' : ExecutorState) (job : RunningJob)
-      → p.running ≡ None → p.finished ≡ None → job.slices ≡ 0 → executor'.layout ≡ executor.layout
+      → p.running ≡ None → p.part ≡ None → p.finished ≡ None → job.slices ≡ 0 → executor'.layout ≡ executor.layout
       → begin_refusal_of executor.layout.warehouse job.command (stored n (owner_bytes p.space)).tables ≡ None
       → (StaysInBounds executor.layout job.command (stored n (owner_bytes p.space)).tables
       → IsUnderWay executor' job.command 0 (stored n (owner_bytes p.space)).tables (stored n (owner_bytes p.space)))
       → (is_reader job.command ≡ false → (length p.kept ≢ p.max_kept) × (1 ≤ room'))
       → IsSound n room' executor' (record p { running = Some job })
-  sound-begun room' executor' job idle no_reply fresh layout begins under_way room_for =
-      let pages = (rests idle).pages in
+  sound-begun room' executor' job idle no_part no_reply fresh layout begins under_way room_for =
+      let pages = (rests idle no_part).pages in
       let begins_now : begin_refusal_of p.warehouse job.command (rows_now p) ≡ None =
       rw (sound.layout, pages.rows) at begins in
       let bounds : StaysInBounds executor.layout job.command (stored n (owner_bytes p.space)).tables =
       rw (sound.layout, pages.rows)
       (stays_in_bounds p.load p.warehouse p.kept sound.load sound.warehouse job.command few begins_now) in
       let begun : Runs n room' executor' (record p { running = Some job }) job = record {
+        no_part = no_part;
+        begins = begins_now;
         no_reply = no_reply;
         slices = omega (arith, fresh, first_slice job.command);
         store = pages.store;
@@ -179,13 +212,26 @@ module _ (n room : ℕ) (executor : ExecutorState) (p : PartitionState) (sound :
       after : PartitionState
       after = record p { space = space; snapshots = snapshots }
 
-      moved : (running : Option RunningJob) → MatchOption running (Rests n p) (Runs n room executor p)
-          → MatchOption running (Rests n after) (Runs n room executor after)
-      moved None was = record {
+      idle : (part : Option Command) → MatchOption part (Rests n p) (HoldsPart n room p)
+          → MatchOption part (Rests n after) (HoldsPart n room after)
+      idle None was = record {
         undo = empty_log-still p.space space p.undo owner.table was.undo;
         pages = subst (λ (pages : List (List (List ℕ))). IsStoreOf n (rows_now p) pages) (sym owner.bytes) was.pages;
       }
+      idle (Some command) was = record {
+        has_part = was.has_part;
+        pages = subst (λ (pages : List (List (List ℕ))). IsStoreOf n (rows_with_part p command) pages) (sym owner.bytes)
+            was.pages;
+        has_room = was.has_room;
+        below_max = was.below_max;
+      }
+
+      moved : (running : Option RunningJob) → MatchOption running (IsIdle n room p) (Runs n room executor p)
+          → MatchOption running (IsIdle n room after) (Runs n room executor after)
+      moved None was = idle p.part was
       moved (Some job) was = record {
+        no_part = was.no_part;
+        begins = was.begins;
         no_reply = was.no_reply;
         slices = was.slices;
         store = subst (λ (pages : List (List (List ℕ))). HasStore n pages) (sym owner.bytes) was.store;
@@ -215,10 +261,22 @@ module _ (n room : ℕ) (executor : ExecutorState) (p : PartitionState) (sound :
       after : PartitionState
       after = record p { seen = seen }
 
-      still : (running : Option RunningJob) → MatchOption running (Rests n p) (Runs n room executor p)
-          → MatchOption running (Rests n after) (Runs n room executor after)
-      still None was = record { undo = was.undo; pages = was.pages }
+      idle : (part : Option Command) → MatchOption part (Rests n p) (HoldsPart n room p)
+          → MatchOption part (Rests n after) (HoldsPart n room after)
+      idle None was = record { undo = was.undo; pages = was.pages }
+      idle (Some command) was = record {
+        has_part = was.has_part;
+        pages = was.pages;
+        has_room = was.has_room;
+        below_max = was.below_max;
+      }
+
+      still : (running : Option RunningJob) → MatchOption running (IsIdle n room p) (Runs n room executor p)
+          → MatchOption running (IsIdle n room after) (Runs n room executor after)
+      still None was = idle p.part was
       still (Some job) was = record {
+        no_part = was.no_part;
+        begins = was.begins;
         no_reply = was.no_reply;
         slices = was.slices;
         store = was.store;
@@ -289,13 +347,15 @@ module _ (n room : ℕ) (executor : ExecutorState) (p : PartitionState) (sound :
             (others.bytes other apart) (sound.snapshots other)
       ]
 
-  -- a slice was refused, and the job undone
-  pub sound-refused : (executor' : ExecutorState) (space : SpaceState) (undo : UndoLog) (finished : Option DoneState)
-      → executor'.layout ≡ executor.layout → undo ≡ empty_log space → IsUndoLog n space undo
+  -- what was done was undone: nothing runs, and no part is done
+  pub sound-undone : (room' : ℕ) (executor' : ExecutorState) (space : SpaceState) (undo : UndoLog)
+      (finished : Option DoneState) → executor'.layout ≡ executor.layout → undo ≡ empty_log space → IsUndoLog n space undo
       → owner_bytes space ≡ undone (owner_bytes p.space) p.undo → SameForChildren p.space space
-      → IsSound n room executor' (record p { running = None; undo = undo; finished = finished; space = space })
-  sound-refused executor' space undo finished layout none log bytes children =
-      let after : PartitionState = record p { running = None; undo = undo; finished = finished; space = space } in
+      → IsSound n room' executor'
+      (record p { running = None; part = None; undo = undo; finished = finished; space = space })
+  sound-undone room' executor' space undo finished layout none log bytes children =
+      let after : PartitionState =
+      record p { running = None; part = None; undo = undo; finished = finished; space = space } in
       let pages : IsStoreOf n (rows_now p) (owner_bytes space) =
       subst (λ (bytes : List (List (List ℕ))). IsStoreOf n (rows_now p) bytes) (sym bytes) sound.live in
       record {
@@ -310,6 +370,17 @@ module _ (n room : ℕ) (executor : ExecutorState) (p : PartitionState) (sound :
         limit = sound.limit;
         job = record { undo = none; pages = pages };
       }
+
+  -- a slice was refused, and the job undone
+  pub sound-refused : (executor' : ExecutorState) (space : SpaceState) (undo : UndoLog) (finished : Option DoneState)
+      (job : RunningJob) → p.running ≡ Some job → executor'.layout ≡ executor.layout → undo ≡ empty_log space
+      → IsUndoLog n space undo → owner_bytes space ≡ undone (owner_bytes p.space) p.undo → SameForChildren p.space space
+      → IsSound n room executor' (record p { running = None; undo = undo; finished = finished; space = space })
+  sound-refused executor' space undo finished job running layout none log bytes children =
+      subst (λ (part : Option Command). IsSound n room executor'
+      (record p { running = None; part = part; undo = undo; finished = finished; space = space }))
+      (sym (runs job running).no_part)
+      (sound-undone room executor' space undo finished layout none log bytes children)
 
   -- the next slice of the job that runs was done
   module _ (executor' : ExecutorState) (space : SpaceState) (job : RunningJob) (running : p.running ≡ Some job)
@@ -331,6 +402,8 @@ module _ (n room : ℕ) (executor : ExecutorState) (p : PartitionState) (sound :
         let after : PartitionState =
         record p { running = Some (with_slice_done job); undo = undo; space = space } in
         let begun : Runs n room executor' after (with_slice_done job) = record {
+          no_part = was.no_part;
+          begins = was.begins;
           no_reply = was.no_reply;
           slices = more;
           store = store;
@@ -355,7 +428,7 @@ module _ (n room : ℕ) (executor : ExecutorState) (p : PartitionState) (sound :
     -- it was the last one
     module _ (last : job.slices + 1 ≡ slice_count job.command) where
       begins : begin_refusal_of p.warehouse job.command (rows_now p) ≡ None
-      begins = rw sound.layout at (runs job running).under_way.slices.begun.begun
+      begins = (runs job running).begins
 
       known : has_items_before p.load.items job.command (slice_count job.command) ≡ true
       known = rw (last, layout, sound.layout) at now_way.slices.known
@@ -395,7 +468,7 @@ module _ (n room : ℕ) (executor : ExecutorState) (p : PartitionState) (sound :
           let pages : IsStoreOf n (rows_now after) (owner_bytes space) = record {
             store = store;
             rows = rows_done
-                ∙ sym (replay-kept_of p.load.items p.warehouse (own_rows (layout_of p)) p.kept job.command);
+                ∙ sym (replay-kept_of p.load p.warehouse (own_rows (layout_of p)) p.kept job.command);
             indexes = now_way.slices.indexes;
           } in
           let sound_after : IsSound n room' executor' after = record {
@@ -409,7 +482,8 @@ module _ (n room : ℕ) (executor : ExecutorState) (p : PartitionState) (sound :
             layout = layout ∙ sound.layout;
             within = kept-within job.command p.kept p.max_kept sound.within was.below_max;
             limit = sound.limit;
-            job = record { undo = none; pages = pages };
+            job = subst (λ (part : Option Command). MatchOption part (Rests n after) (HoldsPart n room' after))
+                (sym was.no_part) (record { undo = none; pages = pages });
           } in
           subst (λ (kept : List Commit). IsSound n room' executor' (record p {
             seen = seen;
@@ -420,6 +494,74 @@ module _ (n room : ℕ) (executor : ExecutorState) (p : PartitionState) (sound :
             finished = finished;
             space = space;
           })) (sym longer) sound_after
+
+  -- the part of a command over several warehouses was done, where nothing ran
+  pub sound-parted : (room' : ℕ) (executor' : ExecutorState) (space : SpaceState) (undo : UndoLog) (command : Command)
+      → p.running ≡ None → p.part ≡ None → HasPart (layout_of p) command → executor'.layout ≡ executor.layout
+      → HasStore n (owner_bytes space) → DoesPart executor.layout command (stored n (owner_bytes p.space))
+      (stored n (owner_bytes space)) → IsUndoLog n space undo
+      → undone (owner_bytes space) undo ≡ undone (owner_bytes p.space) p.undo → SameForChildren p.space space
+      → 1 ≤ room' → length p.kept < p.max_kept
+      → IsSound n room' executor' (record p { part = Some command; undo = undo; space = space })
+  sound-parted room' executor' space undo command idle no_part has_part layout store does log bytes children some_room few =
+      let after : PartitionState = record p { part = Some command; undo = undo; space = space } in
+      let rows : (stored n (owner_bytes space)).tables ≡ rows_with_part p command =
+      rw (sound.layout, (rests idle no_part).pages.rows) at does.rows in
+      let holding : HoldsPart n room' after command = record {
+        has_part = has_part;
+        pages = record { store = store; rows = rows; indexes = does.indexes };
+        has_room = some_room;
+        below_max = few;
+      } in
+      record {
+        snapshots = λ child. spells-kept_more n p after refl [] (sym (append-nil p.kept)) child refl
+            (children.bytes child) (sound.snapshots child);
+        live = subst (λ (pages : List (List (List ℕ))). IsStoreOf n (rows_now p) pages) (sym bytes) sound.live;
+        undo_log = log;
+        load = sound.load;
+        warehouse = sound.warehouse;
+        layout = layout ∙ sound.layout;
+        within = sound.within;
+        limit = sound.limit;
+        job = subst (λ (job : Option RunningJob). MatchOption job (IsIdle n room' after) (Runs n room' executor' after))
+            (sym idle) holding;
+      }
+
+  -- and is kept
+  pub sound-part_kept : (room' : ℕ) (undo : UndoLog) (seen : Log) (kept : List Commit) (book : BookState)
+      (command : Command) (crossing : ℕ) → p.part ≡ Some command → undo ≡ empty_log p.space → IsUndoLog n p.space undo
+      → kept ≡ p.kept ++ commits.Cross crossing command ∷ []
+      → IsSound n room' executor (record p { seen = seen; kept = kept; book = book; part = None; undo = undo })
+  sound-part_kept room' undo seen kept book command crossing part none log longer =
+      let idle : p.running ≡ None = part_idle command part in
+      let was = holds command idle part in
+      let after : PartitionState = record p {
+        seen = seen;
+        kept = p.kept ++ commits.Cross crossing command ∷ [];
+        book = book;
+        part = None;
+        undo = undo;
+      } in
+      let rows : rows_with_part p command ≡ rows_now after =
+      sym (replay-crossed p.load p.warehouse (own_rows (layout_of p)) p.kept crossing command was.has_part.accepted) in
+      let pages : IsStoreOf n (rows_now after) (owner_bytes p.space) =
+      subst (λ (tables : Tables). IsStoreOf n tables (owner_bytes p.space)) rows was.pages in
+      let sound_after : IsSound n room' executor after = record {
+        snapshots = λ child. spells-kept_more n p after refl (commits.Cross crossing command ∷ []) refl child refl refl
+            (sound.snapshots child);
+        live = subst (λ (bytes : List (List (List ℕ))). IsStoreOf n (rows_now after) bytes)
+            (sym (undone-none p.space undo none)) pages;
+        undo_log = log;
+        load = sound.load;
+        warehouse = sound.warehouse;
+        layout = sound.layout;
+        within = omega (arith, was.below_max, length-append p.kept (commits.Cross crossing command ∷ []));
+        limit = sound.limit;
+        job = subst (λ (job : Option RunningJob). MatchOption job (IsIdle n room' after) (Runs n room' executor after))
+            (sym idle) (record { undo = none; pages = pages });
+      } in
+      subst (λ (kept : List Commit). IsSound n room' executor
+      (record p { seen = seen; kept = kept; book = book; part = None; undo = undo })) (sym longer) sound_after
 
   -- no snapshot has a child that isn't open
   pub snapshot_fresh : (child : ℕ) → child_table p.space child ≡ None → commits_of p child ≡ None
@@ -474,11 +616,12 @@ emptied (item ∷ items) (suc place) = emptied items place
 
 -- a partition begins sound
 pub sound-new : (n room : ℕ) (executor : ExecutorState) (p : PartitionState) → p.kept ≡ [] → p.running ≡ None
+    → p.part ≡ None
     → p.undo ≡ empty_log p.space → IsUndoLog n p.space p.undo → p.snapshots ≡ [] → p.space.children ≡ []
     → p.max_kept ≤ most_kept → IsLoad p.load → IsBetween 1 (length p.load.tables.warehouses) p.warehouse
     → executor.layout ≡ layout_of p → IsStoreOf n (own_rows (layout_of p)) (owner_bytes p.space)
     → IsSound n room executor p
-sound-new n room executor p kept running none log snapshots children limit load between layout store =
+sound-new n room executor p kept running no_part none log snapshots children limit load between layout store =
     let pages : IsStoreOf n (rows_now p) (owner_bytes p.space) =
     subst (λ (commits : List Commit). IsStoreOf n (rows_after p commits) (owner_bytes p.space)) (sym kept) store in
     record {
@@ -497,6 +640,7 @@ sound-new n room executor p kept running none log snapshots children limit load 
       layout = layout;
       within = omega (arith, ap length kept);
       limit = limit;
-      job = subst (λ (job : Option RunningJob). MatchOption job (Rests n p) (Runs n room executor p)) (sym running)
-          (record { undo = none; pages = pages });
+      job = subst (λ (job : Option RunningJob). MatchOption job (IsIdle n room p) (Runs n room executor p)) (sym running)
+          (subst (λ (part : Option Command). MatchOption part (Rests n p) (HoldsPart n room p)) (sym no_part)
+          (record { undo = none; pages = pages }));
     }

@@ -28,7 +28,7 @@ spells_more n (Some count) (Some spelled) all more rows others longer same spell
 
 -- the rows of a warehouse of a load after some commits
 abbrev laid_rows : LayoutState → List Commit → Tables
-laid_rows layout commits = replay layout.load.items layout.warehouse (own_rows layout) commits
+laid_rows layout commits = replay layout.load layout.warehouse (own_rows layout) commits
 
 -- a snapshot spells its beginning after more commits, if its bytes and its number of commits stay
 module _ (n : ℕ) (old new : PartitionState) (layout : layout_of new ≡ layout_of old) (more : List Commit)

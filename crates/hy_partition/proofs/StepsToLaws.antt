@@ -10,7 +10,7 @@ use Rattle.hy_schema.specs.declared.refusal.Refusal.TheVariants as refusals
 use Rattle.hy_commands.specs.declared.command.Commit.{Commit}
 use Rattle.hy_commands.specs.declared.reply.Reply.{Reply}
 use Rattle.hy_commands.specs.Commands.{kept_of}
-use Rattle.hy_commands.specs.Transactions.{Outcome, begin_refusal_of}
+use Rattle.hy_commands.specs.Transactions.{Outcome}
 use Rattle.hy_slices.specs.Slices.{has_item_at, has_items_before, slice_count}
 use Rattle.hy_slices.proofs.SliceLaws.{slices-refused}
 use Rattle.hy_space.specs.Space.{CountsAreExact, SpaceState, owner_bytes}
@@ -141,6 +141,7 @@ module _ (n room : ℕ) (executor : ExecutorState) (p : PartitionState) (sound :
         rest = record {
           terms = refl;
           drained = refl;
+          part = refl;
           snapshots = refl;
           children = writes.children;
           max_frames = writes.limit;
@@ -200,6 +201,7 @@ module _ (n room : ℕ) (executor : ExecutorState) (p : PartitionState) (sound :
                 rest = record {
                   terms = refl;
                   drained = refl;
+                  part = refl;
                   snapshots = refl;
                   children = writes.children;
                   max_frames = writes.limit;
@@ -236,6 +238,7 @@ module _ (n room : ℕ) (executor : ExecutorState) (p : PartitionState) (sound :
           rest = record {
             terms = refl;
             drained = refl;
+            part = refl;
             snapshots = refl;
             max_frames = gives_up.limit ∙ writes.limit;
             children = record {
@@ -260,8 +263,7 @@ module _ (n room : ℕ) (executor : ExecutorState) (p : PartitionState) (sound :
               | inl item ↦
                   let gone = subst (λ (layout : LayoutState). has_item_at layout.load.items job.command job.slices ≡ false) sound.layout
                   (missing item) in
-                  let begins = subst (λ (layout : LayoutState). begin_refusal_of layout.warehouse job.command (rows_now p) ≡ None)
-                  sound.layout way.slices.begun.begun in
+                  let begins = (runs n room executor p sound job running).begins in
                   let refused = slices-refused p.load.items p.warehouse job.command (rows_now p) job.slices begins
                   (λ there. differ there gone) in
                   inl (gone, refused, ends-refused p after job.pass refusal _ item ends)

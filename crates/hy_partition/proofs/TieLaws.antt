@@ -6,7 +6,9 @@ use Rattle.hy_rows.specs.Tables.{Lists}
 use Rattle.hy_passes.specs.Worlds.{KeptState}
 use Rattle.hy_ledger.specs.Books.{BookState}
 use Rattle.hy_tickets.specs.Desks.{DeskState, is_out, without}
+use Rattle.hy_commands.specs.declared.command.Command.{Command}
 use Rattle.hy_commands.specs.declared.command.Commit.{Commit}
+use Rattle.hy_commands.specs.declared.command.Commit.TheVariants as commits
 use Rattle.hy_commands.specs.Commands.{kept_of}
 use Rattle.hy_space.specs.Space.{SpaceState}
 use Rattle.hy_undo.specs.UndoLog.{UndoLog}
@@ -15,8 +17,9 @@ use Rattle.hy_partition.specs.Accounts.{IsBookOf, with_command}
 use Rattle.hy_partition.specs.Jobs.{DoneState, RunningJob}
 use Rattle.hy_partition.specs.Partition.{PartitionState, commits_of, refusal_now}
 use Rattle.hy_partition.specs.inside.Soundness.{IsSound, IsTied}
-use Rattle.hy_partition.proofs.AccountLaws.{booked}
-use Rattle.hy_partition.proofs.SoundLaws.{sound_now}
+use Rattle.hy_partition.specs.Parts.{with_part_entered}
+use Rattle.hy_partition.proofs.AccountLaws.{booked, booked-part, crossing-writes}
+use Rattle.hy_partition.proofs.SoundLaws.{holds, part_idle, sound_now}
 
 -- a number that isn't out where no snapshot has it
 none-some : {o : Option ℕ} → o ≡ None → IsSome o → ⊥
@@ -67,6 +70,39 @@ module _ (world : Lists) (list : KeptState Commit) (desk : DeskState) (p : Parti
     within = tied.within;
     book = tied.book;
   }
+
+  -- the part of a command over several warehouses was done or undone
+  pub tied-parted : (room : ℕ) (running : Option RunningJob) (part : Option Command) (undo : UndoLog) (space : SpaceState)
+      → IsTied world (record list { room = room }) desk
+      (record p { running = running; part = part; undo = undo; space = space })
+  tied-parted room running part undo space = record {
+    load_is = tied.load_is;
+    list_of = tied.list_of;
+    desk_of = tied.desk_of;
+    tickets = tied.tickets;
+    within = tied.within;
+    book = tied.book;
+  }
+
+  -- and was kept
+  pub tied-part_kept : (n room : ℕ) (executor : ExecutorState) (list' : KeptState Commit) (command : Command)
+      (crossing : ℕ) (kept : List Commit) (book : BookState) (undo : UndoLog) → IsSound n room executor p
+      → p.part ≡ Some command → list'.warehouse ≡ list.warehouse
+      → kept ≡ p.kept ++ commits.Cross crossing command ∷ [] → book ≡ with_part_entered p.warehouse p.book command
+      → IsTied world list' desk (record p { seen = list'.seen; kept = kept; book = book; part = None; undo = undo })
+  tied-part_kept n room executor list' command crossing kept book undo sound part same longer more =
+      let held = holds n room executor p sound command (part_idle n room executor p sound command part) part in
+      record {
+        load_is = tied.load_is;
+        list_of = same ∙ tied.list_of;
+        desk_of = tied.desk_of;
+        tickets = tied.tickets;
+        within = omega (arith, tied.within, ap length longer, length-append p.kept (commits.Cross crossing command ∷ []));
+        book = subst (λ commits. IsBookOf p.load p.warehouse commits book) (sym longer)
+            (subst (λ b. IsBookOf p.load p.warehouse (p.kept ++ commits.Cross crossing command ∷ []) b) (sym more)
+            (booked-part p.load p.warehouse p.kept p.book command crossing (sound_now n room executor p sound)
+            held.has_part.accepted (crossing-writes command held.has_part.crossing) tied.book));
+      }
 
   -- a command was accepted
   pub tied-accepted : (n room : ℕ) (executor : ExecutorState) (list' : KeptState Commit) (job : RunningJob) (kept : List Commit)

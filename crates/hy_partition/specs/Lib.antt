@@ -6,8 +6,10 @@ pub mod Partition
 pub mod Accounts
 pub mod Headline
 pub mod Steps
+pub mod Parts
 pub mod Schedules
 pub mod WorkedRows
 pub mod WorkedRefusals
+pub mod WorkedParts
 pub mod WorkedSchedules
 pub mod inside

@@ -25,8 +25,10 @@ pub record PartitionState : Type 0 where
   pub kept : List Commit
   pub drained : ℕ
   pub book : BookState
-  -- the job that runs, what it overwrote, and the answer that wasn't taken
+  -- the job that runs, or the command over several warehouses whose part is done here and isn't kept yet; what either
+  -- overwrote; and the answer that wasn't taken
   pub running : Option RunningJob
+  pub part : Option Command
   pub undo : UndoLog
   pub finished : Option DoneState
   -- the live pages with those of the open snapshots, and for each open snapshot its number of commits
@@ -48,7 +50,7 @@ layout_of p = record { load = p.load; warehouse = p.warehouse }
 
 -- the rows of the warehouse after some commits, and after all that are kept
 abbrev pub rows_after : PartitionState → List Commit → Tables
-rows_after p commits = replay p.load.items p.warehouse (of_warehouse p.warehouse p.load.tables) commits
+rows_after p commits = replay p.load p.warehouse (of_warehouse p.warehouse p.load.tables) commits
 
 abbrev pub rows_now : PartitionState → Tables
 rows_now p = rows_after p p.kept

@@ -48,7 +48,7 @@ pub record World : Type 0 where
 -- the rows after some commits, and after all that are kept
 abbrev pub world_rows : World → List Commit → Tables
 world_rows world commits =
-    replay world.load.items world.warehouse (of_warehouse world.warehouse world.load.tables) commits
+    replay world.load world.warehouse (of_warehouse world.warehouse world.load.tables) commits
 
 abbrev pub rows_of : World → Tables
 rows_of world = world_rows world world.kept

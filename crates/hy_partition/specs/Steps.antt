@@ -25,9 +25,9 @@ use Rattle.hy_partition.specs.Jobs.{DoneState, JobState, Log, RunningJob, accept
 use Rattle.hy_partition.specs.Accounts.{with_command}
 use Rattle.hy_partition.specs.Snapshots.{SnapshotState}
 
--- a job runs, or its reply wasn't taken
+-- a job runs or the part of a command over several warehouses is done, or a reply wasn't taken
 abbrev pub is_busy : PartitionState → Bool
-is_busy p = is_some p.running || is_some p.finished
+is_busy p = is_some p.running || is_some p.part || is_some p.finished
 
 -- no commit more may be kept
 abbrev pub is_full : PartitionState → Bool
@@ -50,10 +50,12 @@ IsUnbegun p command why = (begin_refusal p command ≡ Some why)
 abbrev pub with_job : PartitionState → JobState → PartitionState
 with_job p job = record p { running = Some (begun job) }
 
--- what no job changes: the load, the warehouse, the limits, what was drained, and every snapshot with its bytes
+-- what no job changes: the load, the warehouse, the limits, what was drained, the part of another command, and every
+-- snapshot with its bytes
 pub record KeepsRest (old new : PartitionState) : Type 0 where
   pub terms : terms_of new ≡ terms_of old
   pub drained : new.drained ≡ old.drained
+  pub part : new.part ≡ old.part
   pub snapshots : new.snapshots ≡ old.snapshots
   pub children : SameForChildren old.space new.space
   pub max_frames : new.space.frames.max ≡ old.space.frames.max
@@ -148,6 +150,7 @@ pub record KeepsJob (old new : PartitionState) : Type 0 where
   pub drained : new.drained ≡ old.drained
   pub book : new.book ≡ old.book
   pub running : new.running ≡ old.running
+  pub part : new.part ≡ old.part
   pub undo : new.undo ≡ old.undo
   pub finished : new.finished ≡ old.finished
   pub owner : SameForOwner old.space new.space
@@ -157,9 +160,9 @@ pub record KeepsOthers (old new : PartitionState) (child : ℕ) : Type 0 where
   pub bytes : SameForOthers old.space new.space child
   pub commits : (other : ℕ) → other ≢ child → commits_of new other ≡ commits_of old other
 
--- a snapshot of all that is kept was taken, under the least free number, with the running job undone in it: it took a
--- frame for each page that the job has touched. The partition and the client were told the whole serial list, which
--- began with what each had seen: what is kept is all that this list has of the warehouse
+-- a snapshot of all that is kept was taken, under the least free number, with the job that runs, or the part that is
+-- done, undone in it: it took a frame for each page that was touched. The partition and the client were told the whole
+-- serial list, which began with what each had seen: what is kept is all that this list has of the warehouse
 pub record Forks (n : ℕ) (kit : Origin) (log known : Log) (old new : PartitionState) (snapshot : SnapshotState) : Type 0 where
   pub load : snapshot.load ≡ old.load
   pub warehouse : snapshot.warehouse ≡ old.warehouse
@@ -217,6 +220,7 @@ pub record Begins (lists : Lists) (number frames commits : ℕ) (p : PartitionSt
   pub drained : p.drained ≡ 0
   pub book : p.book ≡ new_book number
   pub running : p.running ≡ None
+  pub part : p.part ≡ None
   pub undo : p.undo ≡ empty_log p.space
   pub finished : p.finished ≡ None
   pub max_frames : p.space.frames.max ≡ frames

@@ -53,6 +53,7 @@ with_kept kept max_kept = record {
   drained = 0;
   book = new_book 1;
   running = None;
+  part = None;
   undo = record { counts = []; images = [] };
   finished = None;
   space = record { owner = []; children = []; frames = record { max = 1; frames = [] } };
@@ -78,13 +79,16 @@ payment_on_a_full_list = refl
 payment_with_room : begin_refusal (with_kept (commits.Local pay ∷ []) 2) pay ≡ None
 payment_with_room = refl
 
--- what the warehouse refuses comes before that, and a job or an answer that is there comes first
+-- what the warehouse refuses comes before that, and a job, a part or an answer that is there comes first
 other_customer_on_a_full_list : begin_refusal full (payment (who.Number 9) 2_500) ≡ Some refusals.NoSuchCustomer
 other_customer_on_a_full_list = refl
 
 busy_with_a_job : begin_refusal (record full { running = Some (job (status 1) 0) }) (status 1)
     ≡ Some refusals.Busy
 busy_with_a_job = refl
+
+busy_with_a_part : begin_refusal (record full { part = Some pay }) (status 1) ≡ Some refusals.Busy
+busy_with_a_part = refl
 
 busy_with_an_answer : begin_refusal
     (record full { finished = Some (refused_answer (new_client 0) refusals.NoMemory) }) (status 1)
@@ -200,6 +204,7 @@ small = record {
   drained = 0;
   book = new_book 1;
   running = Some (job half_paid 1);
+  part = None;
   undo = record {
     counts = 2 ∷ replicate 7 1;
     images =

@@ -9,10 +9,11 @@ ghost use Rattle.hy_commands.specs.Commands.{is_reader, kept_of, warehouses_of};
 ghost use Rattle.hy_partition.specs.Accounts.{with_command};
 ghost use Rattle.hy_partition.specs.Jobs.{accepted_answer, cents_of, entered_by};
 ghost use Rattle.hy_partition.specs.Partition.{projection_of};
+ghost use Rattle.hy_partition.specs.Parts.{share_of_part, with_part_entered};
 
 use crate::job::{Done, Running};
 use hy_commands::{Command, Commit, Reply};
-use hy_ledger::Book;
+use hy_ledger::{Book, Share};
 use hy_passes::{Entry, Journal, KeptList, Pass};
 use hy_worlds::World;
 
@@ -110,4 +111,24 @@ fn keep<K: World>(
     let commit = Commit::Local(command);
     kept.commit(journal, &mut pass, Entry { commit, stamp });
     Done::new(reply, pass, Some(share))
+}
+
+/// Enters a command over several warehouses into the book of its home, which gives the share; that of another warehouse
+/// stays.
+pub fn enter_part<K: World>(
+    book: &mut Book<K>,
+    warehouse: u8,
+    command: &Command,
+) -> Option<Share<K>>
+    requires here { book.old.warehouse ≡ warehouse }
+    requires writes { is_reader command.now ≡ false }
+    requires few_entered { book.old.commits < most_entered }
+    requires small { cents_of command.now ≤ max_cents }
+    ensures book { book.new ≡ with_part_entered warehouse book.old command.now }
+    ensures share { result ≡ share_of_part warehouse command.now }
+{
+    if command.home() != u64::from(warehouse) {
+        return None;
+    }
+    Some(book.enter(cents_of(command)))
 }

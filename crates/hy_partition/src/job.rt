@@ -44,6 +44,14 @@ impl<K: World> Job<K> {
         &self.command
     }
 
+    /// The command and the pass.
+    pub fn open(self) -> (Command, Pass<Commit, K>)
+        ensures { (result.0 ≡ self.command) × (result.1 ≡ self.pass) }
+    {
+        let Job { command, pass } = self;
+        (command, pass)
+    }
+
     /// The answer to a job that nobody begins: the pass comes back as it was.
     pub fn refuse(self, refusal: Refusal) -> Done<K>
         ensures { result ≡ refused_answer self.pass refusal }
@@ -89,7 +97,7 @@ impl<K: World> Model for Done<K> {
 
 impl<K: World> Done<K> {
     /// The answer to a job that ended.
-    pub(crate) fn new(reply: Reply, pass: Pass<Commit, K>, share: Option<Share<K>>) -> Done<K>
+    pub fn new(reply: Reply, pass: Pass<Commit, K>, share: Option<Share<K>>) -> Done<K>
         ensures { result ≡ record { reply = reply; pass = pass; share = share } }
     {
         Done { reply, pass, share }

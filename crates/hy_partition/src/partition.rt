@@ -1,33 +1,44 @@
 //! The partition of one warehouse.
 
-ghost use Rattle.std.specs.Prelude.{◌≡◌, ◌≢◌, ℕ, ◌+◌, ◌++◌, ◌<◌, ◌≤◌, true, false, vec_capacity, slice_index_or, ◌↔◌, ◌⊎◌, IsTrue, IsSome, IsSomeAnd, List, [], length, take, Option, Some, None, Ok, Err, IfOk, IfErr, IsOk, IsOkAnd, OnOk, OnErr, MatchOption, MatchResult};
+ghost use Rattle.std.specs.Prelude.{◌≡◌, ◌≢◌, ℕ, ◌+◌, ◌++◌, ◌∷◌, ◌<◌, ◌≤◌, ◌==◌, not, filter, true, false, vec_capacity, slice_index_or, ◌↔◌, ◌⊎◌, IsTrue, IsSome, IsSomeAnd, IfSome, List, [], length, take, Option, Some, None, Ok, Err, IfOk, IfErr, IsOk, IsOkAnd, OnOk, OnErr, MatchOption, MatchResult};
+ghost use mathlib.Core.List.{IsPrefix};
 ghost use Rattle.hy_worlds.specs.Origins.{desk_of};
+ghost use Rattle.hy_rows.specs.Spelling.{Spells};
 ghost use Rattle.hy_ledger.specs.Books.{with_book};
 ghost use Rattle.hy_frames.specs.FrameTable.{free_of, shared_of, IsLimitFor, IsPageSize, max_frames as most_frames};
 ghost use Rattle.hy_schema.specs.declared.refusal.Refusal.{Refusal};
+ghost use Rattle.hy_commands.specs.declared.command.Commit.TheVariants as commits;
 ghost use Rattle.hy_commands.specs.Commands.{is_reader};
-ghost use Rattle.hy_space.specs.Space.{SameForChildren};
+ghost use Rattle.hy_commands.specs.Parts.{customer_home_of};
+ghost use Rattle.hy_commands.specs.Transactions.{has_items};
+ghost use Rattle.hy_tpcc.specs.Parts.{DoesPart as DoesStoredPart, FindsPayer, HasPart, reply_of_part};
+ghost use Rattle.hy_commands.specs.Growth.{HasGrownBy};
+ghost use Rattle.hy_store.specs.Writes.{IsWritableStore, LeavesStore, WritesStore, stored_in};
+ghost use Rattle.hy_undo.specs.UndoLog.{empty_log};
+ghost use Rattle.hy_writers.specs.Waiting.{IsSoundStore};
+ghost use Rattle.hy_space.specs.Space.{SameForChildren, owner_bytes};
 ghost use Rattle.hy_partition.specs.Accounts.{IsBookOf};
 ghost use Rattle.hy_partition.specs.Headline.{Headline};
-ghost use Rattle.hy_partition.specs.Partition.{PartitionState, projection_of, undrained};
+ghost use Rattle.hy_partition.specs.Partition.{PartitionState, layout_of, projection_of, rows_now, undrained};
 ghost use Rattle.hy_partition.specs.Limits.{IsWhyUnmade, most_kept};
 ghost use Rattle.hy_partition.specs.inside.Soundness.{IsLaid};
-ghost use Rattle.hy_partition.specs.inside.Room.{LacksRoom, room_refusal};
+ghost use Rattle.hy_partition.specs.inside.Room.{IsUndone, LacksRoom, room_refusal};
 ghost use Rattle.hy_partition.specs.Jobs.{Log, is_last, told};
 ghost use Rattle.hy_undo.specs.Touched.{touched};
-ghost use Rattle.hy_undo.specs.PrivatePages.{IsUndoLog};
-ghost use Rattle.hy_partition.specs.Steps.{begin_refusal, is_from, with_job, Accepts, Begins, Closes, Forks, IsUnbegun, KeepsJob, Refuses, StaysUnforked, StepsTo};
+ghost use Rattle.hy_undo.specs.PrivatePages.{GivesUpPages, IsUndoLog};
+ghost use Rattle.hy_partition.specs.Parts.{DoesPart, HasNoPart, IsWhyUndone, KeepsPart, rows_with_part};
+ghost use Rattle.hy_partition.specs.Steps.{begin_refusal, is_from, is_full, with_job, Accepts, Begins, Closes, Forks, IsUnbegun, KeepsJob, Refuses, StaysUnforked, StepsTo};
 
-use crate::answer::accept;
+use crate::answer::{accept, enter_part};
 use crate::job::{Done, Job, Progress, Running};
 use crate::snapshot::Snapshot;
 use crate::world::Loaded;
-use hy_commands::{Command, Commit};
+use hy_commands::{Command, Commit, Reply};
 use hy_fill::filled_store;
 use hy_layout::Layout;
-use hy_ledger::{Balance, Book};
+use hy_ledger::{Balance, Book, Share};
 use hy_loads::Load;
-use hy_passes::{Journal, KeptList, PartitionSeat, Pass};
+use hy_passes::{Journal, KeptList, PartitionSeat, Pass, SerialList};
 use hy_schema::Refusal;
 use hy_space::Space;
 use hy_tickets::Desk;
@@ -46,6 +57,7 @@ pub struct Partition<const N: usize, K: Loaded> {
     max_kept: u64,
     drained: usize,
     running: Option<Running<K>>,
+    part: Option<Command>,
     undo: Undo<N>,
     finished: Option<Done<K>>,
     space: Space<N>,
@@ -102,6 +114,7 @@ impl<const N: usize, K: Loaded> Partition<N, K> {
                     max_kept,
                     drained: 0,
                     running: None,
+                    part: None,
                     undo,
                     finished: None,
                     space,
@@ -130,8 +143,9 @@ impl<const N: usize, K: Loaded> Partition<N, K> {
     }
 
     /// Begins a job, and makes room for its commit, if it will have one. A refusal gives the job back and changes
-    /// nothing. It is the first of these that holds: E9 where a job runs or its answer wasn't taken; E8, E4, E5, E6 of the
-    /// command; E3 where the command doesn't only read and as many commits are kept as may be; E1.
+    /// nothing. It is the first of these that holds: E9 where a job runs, the part of a command over several warehouses
+    /// is done, or an answer wasn't taken; E8, E4, E5, E6 of the command; E3 where the command doesn't only read and as
+    /// many commits are kept as may be; E1.
     pub fn begin(&mut self, job: Job<K>) -> Result<(), (Job<K>, Refusal)>
         ensures begun { OnOk result (self.new ≡ with_job self.old job) }
         ensures accepted { OnOk result (begin_refusal self.old job.command ≡ None) }
@@ -139,7 +153,7 @@ impl<const N: usize, K: Loaded> Partition<N, K> {
         ensures back { IfErr result (λ refused. refused.0 ≡ job) }
         ensures err { OnErr result (self.new ≡ self.old) }
     {
-        if self.running.is_some() || self.finished.is_some() {
+        if self.running.is_some() || self.part.is_some() || self.finished.is_some() {
             return Err((job, Refusal::Busy));
         }
         if let Err(refusal) = self.executor.begin(&self.space, job.command()) {
@@ -249,8 +263,8 @@ impl<const N: usize, K: Loaded> Partition<N, K> {
     }
 
     /// A snapshot of the rows after all kept commits, which are all that the serial list has of the warehouse; list and
-    /// client are told all of it. Where a job runs, the snapshot has it undone, and takes a frame for each page that the
-    /// job has touched. E2 exactly where fewer frames are free than that; else E1.
+    /// client are told all of it. Where a job runs or a part is done, the snapshot has it undone, and takes a frame for
+    /// each page that it has touched. E2 exactly where fewer frames are free than that; else E1.
     pub fn fork(
         &mut self,
         journal: &mut Journal<Commit, K>,
@@ -312,6 +326,100 @@ impl<const N: usize, K: Loaded> Partition<N, K> {
         Ok(())
     }
 
+    /// Whether as many commits are kept as may be.
+    pub fn is_full(&self) -> bool
+        ensures { result ≡ is_full self.now }
+    {
+        self.kept().len() as u64 == self.max_kept
+    }
+
+    /// Whether the items that a command names are there. Takes no memory.
+    pub fn has_items(&self, command: &Command) -> bool
+        ensures { result ≡ has_items self.now.load.items command.now }
+    {
+        self.executor.has_items(command)
+    }
+
+    /// The number of the customer whom a command names, who is one of this warehouse; none where there is no such
+    /// customer. Takes no memory.
+    pub fn find_customer(&self, command: &Command) -> Option<u64>
+        requires idle { (self.now.running ≡ None) × (self.now.part ≡ None) }
+        requires here { customer_home_of command.now ≡ self.now.warehouse }
+        ensures { FindsPayer command.now (rows_now self.now) result }
+    {
+        self.executor.find_customer(&self.space, command)
+    }
+
+    /// Tells the partition of the whole serial list, of which it has kept all that names it. Takes no memory.
+    pub fn tell(&mut self, journal: &mut Journal<Commit, K>)
+        ensures told { self.new ≡ record self.old { seen = journal.old.list.log } }
+        ensures begins { IsPrefix self.old.seen journal.old.list.log }
+        ensures all { self.old.kept ≡ projection_of self.old.warehouse journal.old.list.log }
+        ensures log { journal.new.list.log ≡ journal.old.list.log }
+    {
+        self.kept.tell(journal);
+    }
+
+    /// Does the part of a command over several warehouses, which the database doesn't refuse, and makes room for its
+    /// commit. The warehouse whose customer the command names answers the reply. A refusal undoes what was done: E2
+    /// where no frame is free, or E1.
+    pub fn do_part(&mut self, command: Command) -> Result<Option<Reply>, Refusal>
+        requires idle { (self.old.running ≡ None) × (self.old.part ≡ None) }
+        requires has_part { HasPart (layout_of self.old) command }
+        requires few { length self.old.kept < self.old.max_kept }
+        ensures done { IfOk result (DoesPart command self.old self.new) }
+        ensures pages { OnOk result (Spells N (owner_bytes self.new.space) (rows_with_part self.old command)) }
+        ensures undone { OnErr result (HasNoPart self.old self.new) }
+        ensures refused { IfErr result (IsWhyUndone self.old.space self.new.space) }
+    {
+        put(&mut self.part, command);
+        let Some(command) = &self.part else {
+            unreachable!();
+        };
+        match run_part(
+            &mut self.kept,
+            &self.executor,
+            &mut self.space,
+            &mut self.undo,
+            command,
+        ) {
+            Ok(reply) => Ok(reply),
+            Err(refusal) => {
+                clear(&mut self.part);
+                Err(refusal)
+            }
+        }
+    }
+
+    /// Undoes the part that is done, if one is. Takes no memory and no frame.
+    pub fn undo_part(&mut self)
+        requires idle { self.old.running ≡ None }
+        ensures undone { HasNoPart self.old self.new }
+        ensures gives_up { GivesUpPages self.old.space self.new.space }
+    {
+        clear(&mut self.part);
+        self.undo.roll_back(&mut self.space);
+    }
+
+    /// Keeps the part that is done, whose command has just entered the serial list under its number among those of
+    /// several warehouses. Its home gives the share. Takes no memory.
+    pub fn keep_part(&mut self, list: &mut SerialList<Commit, K>, number: u64) -> Option<Share<K>>
+        requires part { IsSomeAnd self.old.part (λ command. projection_of self.old.warehouse list.old.log
+            ≡ self.old.kept ++ commits.Cross number command ∷ []) }
+        ensures kept { IfSome self.old.part
+            (λ command. KeepsPart command number list.old.log self.old self.new result) }
+        ensures log { list.new.log ≡ list.old.log }
+        ensures behind { list.new.behind ≡ filter (λ w. not (w == self.old.warehouse)) list.old.behind }
+    {
+        let Some(command) = self.part.take() else {
+            unreachable!();
+        };
+        let share = enter_part(&mut self.book, self.executor.layout().warehouse(), &command);
+        self.kept.enter(list, Commit::Cross(number, command));
+        self.undo.commit(&self.space);
+        share
+    }
+
     /// Whether the next slice is the job's last. False where nothing runs.
     pub fn at_last(&self) -> bool
         ensures { IsTrue result ↔ IsSomeAnd self.now.running (λ job. IsTrue (is_last job)) }
@@ -370,7 +478,8 @@ impl<const N: usize, K: Loaded> Partition<N, K> {
         balance.audit(&mut self.book);
     }
 
-    /// How many pages that were there at its begin the job that runs has written. No snapshot shares one of them.
+    /// How many pages that were there at its begin the job that runs has written, or the part that is done. No snapshot
+    /// shares one of them.
     pub fn touched(&self) -> u64
         ensures touched { result ≡ touched self.now.undo }
         ensures undo_log { IsUndoLog N self.now.space self.now.undo }
@@ -461,11 +570,52 @@ fn make_room<K: Loaded>(
     Ok(())
 }
 
+/// Makes room for the commit of a command over several warehouses, and does its part. Where that is refused, what was
+/// done is undone.
+fn run_part<const N: usize, K: Loaded>(
+    kept: &mut KeptList<Commit, K>,
+    executor: &Executor,
+    space: &mut Space<N>,
+    undo: &mut Undo<N>,
+    command: &Command,
+) -> Result<Option<Reply>, Refusal>
+    requires writable { IsWritableStore N space.old undo.old }
+    requires none { undo.old ≡ empty_log space.old }
+    requires sound { IsSoundStore executor.now.layout (stored_in N space.old) }
+    requires part { HasPart executor.now.layout command.now }
+    requires small { HasGrownBy 100_000_000 (stored_in N space.old).tables }
+    ensures kept { kept.new ≡ record kept.old { room = kept.new.room } }
+    ensures room { OnOk result (1 ≤ kept.new.room) }
+    ensures done { OnOk result (LeavesStore N space.old space.new (DoesStoredPart executor.now.layout command.now)) }
+    ensures reply { IfOk result (λ reply. reply
+        ≡ reply_of_part executor.now.layout command.now (stored_in N space.old).tables) }
+    ensures writes { OnOk result (WritesStore N space.old space.new undo.old undo.new) }
+    ensures undone { OnErr result (IsUndone N space.old space.new undo.new) }
+    ensures refused { IfErr result (IsWhyUndone space.old space.new) }
+{
+    kept.reserve()?;
+    match executor.run_part(space, undo, command) {
+        Ok(reply) => Ok(reply),
+        Err(refusal) => {
+            space.sound();
+            undo.roll_back(space);
+            Err(refusal)
+        }
+    }
+}
+
 /// Puts a value at a place.
 fn put<T: Drop>(place: &mut Option<T>, value: T)
     ensures { place.new ≡ Some value }
 {
     *place = Some(value);
+}
+
+/// Takes away what stands at a place.
+fn clear<T: Drop>(place: &mut Option<T>)
+    ensures { place.new ≡ None }
+{
+    *place = None;
 }
 
 /// Notes a snapshot's number of commits.

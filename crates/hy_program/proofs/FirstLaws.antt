@@ -36,8 +36,8 @@ HasBegun p = Begins (generated_lists 1 3 1) 1 100_000 1_000_000 p
 -- the rows that the partition has begun with
 rows-begun : (p : PartitionState) → HasBegun p → rows_now p ≡ of_warehouse 1 (generated 3)
 rows-begun p b =
-    ap (λ (t : Terms). replay t.load.items t.warehouse (of_warehouse t.warehouse t.load.tables) p.kept) b.terms
-    ∙ ap (replay (generated_items 3) 1 (of_warehouse 1 (generated 3))) b.kept
+    ap (λ (t : Terms). replay t.load t.warehouse (of_warehouse t.warehouse t.load.tables) p.kept) b.terms
+    ∙ ap (replay (generated_lists 1 3 1) 1 (of_warehouse 1 (generated 3))) b.kept
 
 -- what the warehouse refuses
 refusal-begun : (p : PartitionState) (command : Command) → HasBegun p
@@ -50,8 +50,9 @@ refusal-begun p command b =
 begin-begun : (p : PartitionState) (command : Command) (refusal : Refusal) → HasBegun p
     → begin_refusal p command ≡ Some refusal → refusal_of (generated_items 3) 1 command (generated 3) ≡ Some refusal
 begin-begun p command refusal b is =
-    let running = ap (λ (r : Option RunningJob). is_some r || is_some p.finished) b.running in
-    let busy : is_busy p ≡ false = running ∙ ap is_some b.finished in
+    let busy : is_busy p ≡ false =
+    ap (λ (r : Option RunningJob). is_some r || is_some p.part || is_some p.finished) b.running
+    ∙ ap (λ (part : Option Command). is_some part || is_some p.finished) b.part ∙ ap is_some b.finished in
     let full : is_full p ≡ false =
     ap (λ (kept : List Commit). length kept == p.max_kept) b.kept ∙ ap (λ (t : Terms). 0 == t.max_kept) b.terms in
     let why = ap (λ (b : Bool). cond b (Some refusals.Busy) (option_or (begin_refusal_of p.warehouse command (rows_now p))
@@ -70,8 +71,8 @@ ytd_after amount p new ytd b paid is =
     let command : Command = first_command amount in
     let kept = paid.kept ∙ ap (λ (kept : List Commit). kept ++ commits.Local command ∷ []) b.kept in
     let rows : rows_now new ≡ (act (generated_items 3) 1 command (of_warehouse 1 (generated 3))).tables =
-    ap (λ (t : Terms). replay t.load.items t.warehouse (of_warehouse t.warehouse t.load.tables) new.kept) (paid.terms ∙ b.terms)
-    ∙ ap (replay (generated_items 3) 1 (of_warehouse 1 (generated 3))) kept in
+    ap (λ (t : Terms). replay t.load t.warehouse (of_warehouse t.warehouse t.load.tables) new.kept) (paid.terms ∙ b.terms)
+    ∙ ap (replay (generated_lists 1 3 1) 1 (of_warehouse 1 (generated 3))) kept in
     (sym (refusal-begun p command b) ∙ paid.accepted, sym (ap ytds_of rows) ∙ is)
 
 pub first_refusal : (amount : ℕ) (p : PartitionState) (refusal : Refusal) → HasBegun p → IsPayRefusal p (first_payment amount) refusal → IsFirstRefusal amount refusal

@@ -19,6 +19,7 @@ KeepsJob-refl p = record {
   drained = refl;
   book = refl;
   running = refl;
+  part = refl;
   undo = refl;
   finished = refl;
   owner = record { table = refl; bytes = refl };
@@ -31,6 +32,7 @@ KeepsJob-then old middle new first next = record {
   drained = next.drained ∙ first.drained;
   book = next.book ∙ first.book;
   running = next.running ∙ first.running;
+  part = next.part ∙ first.part;
   undo = next.undo ∙ first.undo;
   finished = next.finished ∙ first.finished;
   owner = record { table = next.owner.table ∙ first.owner.table; bytes = next.owner.bytes ∙ first.owner.bytes };

@@ -1,8 +1,10 @@
 -- What is known of a command that a warehouse begins, where items of its lines may be missing.
-use Rattle.std.proofs.Common.{◌≡◌, ℕ, ◌&&◌, Bool, true, cond, List, [], ◌∷◌, map, Option, Some, None, refl, sym, ap₂, ◌∙◌}
+use Rattle.std.proofs.Common.{◌≡◌, ℕ, ◌≤◌, ◌&&◌, inl, inr, Bool, true, cond, List, [], ◌∷◌, map, Option, Some, None, refl, sym, ap₂, ◌∙◌, arith}
+use Rattle.std.specs.Prelude.{All}
 use Rattle.std.specs.List.{list_all, list_any}
 use Rattle.std.specs.Option.{option_or}
 use Rattle.std.proofs.lemmas.Bool.{and_parts, eq-eqb, or_left, or_right}
+use Rattle.std.proofs.lemmas.List.Elements.{All-weaker}
 use Rattle.hy_rows.specs.Finding.{is_customer}
 use Rattle.hy_rows.specs.Tables.{Tables}
 use Rattle.hy_rows.specs.declared.item.Item.{Item}
@@ -12,13 +14,16 @@ use Rattle.hy_schema.specs.Related.{is_item}
 use Rattle.hy_commands.specs.declared.command.Command.{Command}
 use Rattle.hy_commands.specs.declared.command.Command.TheVariants as commands
 use Rattle.hy_commands.specs.declared.command.Delivery.{Delivery}
+use Rattle.hy_commands.specs.declared.command.OrderStatus.{OrderStatus}
 use Rattle.hy_commands.specs.declared.command.Payment.{Payment}
 use Rattle.hy_commands.specs.declared.command.Purchase.{Purchase}
 use Rattle.hy_commands.specs.declared.command.PurchaseLine.{PurchaseLine}
+use Rattle.hy_commands.specs.declared.command.StockLevel.{StockLevel}
 use Rattle.hy_commands.specs.NewOrders.{has_item}
 use Rattle.hy_commands.specs.Transactions.{begin_refusal_of, has_items, refusal_of}
-use Rattle.hy_commands.proofs.AcceptedLaws.{IsAccepted, IsAcceptedDelivery, IsAcceptedPayment, IsAcceptedPurchase, accepted-delivery, accepted-not_refused, accepted-payment, accepted-purchase}
+use Rattle.hy_commands.proofs.AcceptedLaws.{IsAccepted, IsAcceptedDelivery, IsAcceptedPayment, IsAcceptedPurchase, accepted-delivery, accepted-not_refused, accepted-payment, accepted-purchase, begun as names-one, own-suppliers, purchase-in_range}
 use Rattle.hy_commands.proofs.ListLaws.{found-any}
+use Rattle.hy_slices.specs.Begun.{Begins, BeginsAlone}
 
 -- a command that a warehouse begins is refused exactly where an item isn't there
 pub refusal-begun : (items : List Item) (number : ℕ) (command : Command) (tables : Tables) (known : Bool)
@@ -55,15 +60,28 @@ known-own (line ∷ lines) =
 abbrev own_items : Purchase → List Item
 own_items order = map item_for order.lines
 
-pub begun-purchase : (number : ℕ) (order : Purchase) (tables : Tables)
-    → begin_refusal_of number (commands.NewOrder order) tables ≡ None
+-- what a purchase has passed at the home warehouse that begins it, by itself or as its part of it
+pub begun-purchase : (number : ℕ) (order : Purchase) (tables : Tables) → Begins number (commands.NewOrder order) tables
     → IsAcceptedPurchase number order
     × (list_any (is_customer order.warehouse order.district order.customer) tables.customers ≡ true)
-begun-purchase number order tables begins =
+begun-purchase number order tables (inl begins) =
     let passed = begun (own_items order) number (commands.NewOrder order) tables begins (known-own order.lines) in (
       accepted-purchase (own_items order) number order tables passed,
       sym (found-any (is_customer order.warehouse order.district order.customer) tables.customers) ∙ passed.customer,
     )
+begun-purchase number order tables (inr home) = (
+  purchase-in_range number order home.home home.in_range home.districts,
+  sym (found-any (is_customer order.warehouse order.district order.customer) tables.customers) ∙ home.customer,
+)
+
+-- and which numbers the warehouses have that supply its lines
+pub begun-suppliers : (number : ℕ) (order : Purchase) (tables : Tables) → number ≤ 16
+    → Begins number (commands.NewOrder order) tables → All (λ line. line.supply_warehouse ≤ 16) order.lines
+begun-suppliers number order tables near (inl begins) =
+    All-weaker (λ (line : PurchaseLine). line.supply_warehouse ≡ number) (λ line. line.supply_warehouse ≤ 16)
+    (λ line own. omega (arith, own, near)) order.lines
+    (own-suppliers number order (names-one number (commands.NewOrder order) tables begins))
+begun-suppliers number order tables near (inr home) = home.suppliers
 
 pub begun-payment : (number : ℕ) (payment : Payment) (tables : Tables)
     → begin_refusal_of number (commands.Payment payment) tables ≡ None → IsAcceptedPayment number payment
@@ -74,3 +92,24 @@ pub begun-delivery : (number : ℕ) (delivery : Delivery) (tables : Tables)
     → begin_refusal_of number (commands.Delivery delivery) tables ≡ None → IsAcceptedDelivery number delivery
 begun-delivery number delivery tables begins =
     accepted-delivery [] number delivery tables (begun [] number (commands.Delivery delivery) tables begins refl)
+
+-- no other command than a purchase is begun as a part of it
+pub alone-payment : (number : ℕ) (payment : Payment) (tables : Tables)
+    → Begins number (commands.Payment payment) tables → BeginsAlone number (commands.Payment payment) tables
+alone-payment number payment tables (inl begins) = begins
+alone-payment number payment tables (inr never) = absurd never
+
+pub alone-delivery : (number : ℕ) (delivery : Delivery) (tables : Tables)
+    → Begins number (commands.Delivery delivery) tables → BeginsAlone number (commands.Delivery delivery) tables
+alone-delivery number delivery tables (inl begins) = begins
+alone-delivery number delivery tables (inr never) = absurd never
+
+pub alone-status : (number : ℕ) (status : OrderStatus) (tables : Tables)
+    → Begins number (commands.OrderStatus status) tables → BeginsAlone number (commands.OrderStatus status) tables
+alone-status number status tables (inl begins) = begins
+alone-status number status tables (inr never) = absurd never
+
+pub alone-level : (number : ℕ) (level : StockLevel) (tables : Tables)
+    → Begins number (commands.StockLevel level) tables → BeginsAlone number (commands.StockLevel level) tables
+alone-level number level tables (inl begins) = begins
+alone-level number level tables (inr never) = absurd never

@@ -14,19 +14,19 @@ use Rattle.hy_commands.specs.declared.command.StockLevel.{StockLevel}
 use Rattle.hy_commands.specs.Deliveries.{oldest}
 use Rattle.hy_commands.specs.Invariant.{IsSoundWarehouse}
 use Rattle.hy_commands.specs.NewOrders.{order_number}
-use Rattle.hy_commands.specs.Payments.{paid_in}
 use Rattle.hy_commands.specs.Transactions.{begin_refusal_of, payer}
 use Rattle.hy_commands.proofs.Kept.{not_0}
 use Rattle.hy_commands.proofs.KeptByDelivery.{oldest-other, sound-delivered_in}
-use Rattle.hy_commands.proofs.KeptByPayment.{sound-paid}
+use Rattle.hy_commands.proofs.KeptByPayment.{sound-paid, sound-paid_in}
+use Rattle.hy_slices.specs.Begun.{Begins}
 use Rattle.hy_slices.specs.Between.{IsWholeWarehouse}
 use Rattle.hy_slices.specs.Slices.{after_slices, has_item_at, has_items_before, line_behind, slice_count, with_line}
-use Rattle.hy_slices.proofs.BegunLaws.{begun-delivery, begun-payment, begun-purchase}
+use Rattle.hy_slices.proofs.BegunLaws.{alone-delivery, alone-payment, begun-delivery, begun-payment, begun-purchase}
 use Rattle.hy_slices.proofs.WholeLaws.{IsPlacing, number-headed_next, placing-headed, placing-with_line, whole-sound}
 
 -- ---- a purchase
 
-module _ (items : List Item) (number : ℕ) (order : Purchase) (tables : Tables) (sound : IsSoundWarehouse items number tables) (begins : begin_refusal_of number (commands.NewOrder order) tables ≡ None) where
+module _ (items : List Item) (number : ℕ) (order : Purchase) (tables : Tables) (sound : IsSoundWarehouse items number tables) (begins : Begins number (commands.NewOrder order) tables) where
   abbrev after : ℕ → Tables
   after done = after_slices items number (commands.NewOrder order) done tables
 
@@ -54,39 +54,14 @@ module _ (items : List Item) (number : ℕ) (order : Purchase) (tables : Tables)
 
 -- ---- a payment
 
--- its first slice leaves the customers
-whole-paid_in : (items : List Item) (number : ℕ) (payment : Payment) (tables : Tables)
-    → IsSoundWarehouse items number tables → begin_refusal_of number (commands.Payment payment) tables ≡ None
-    → IsWholeWarehouse items number (paid_in payment (payer payment tables).id tables)
-whole-paid_in items number payment tables sound begins =
-    let paid = sound-paid items number payment (payer payment tables).id tables (begun-payment number payment tables
-    begins) sound in
-    record {
-      rows = record {
-        warehouse = paid.rows.warehouse;
-        districts = paid.rows.districts;
-        customers = sound.rows.customers;
-        unique = sound.rows.unique;
-      };
-      orders = record {
-        unique_orders = sound.orders.unique_orders;
-        unique_new_orders = sound.orders.unique_new_orders;
-        unique_lines = sound.orders.unique_lines;
-        next_orders = paid.orders.next_orders;
-        orders = sound.orders.orders;
-        new_orders = sound.orders.new_orders;
-        order_lines = sound.orders.order_lines;
-      };
-      numbers = paid.numbers;
-      stock = record { unique = sound.stock.unique; each = sound.stock.each };
-    }
-
 whole-payment : (items : List Item) (number : ℕ) (payment : Payment) (tables : Tables) (done : ℕ)
     → IsSoundWarehouse items number tables → begin_refusal_of number (commands.Payment payment) tables ≡ None
     → done ≤ 2 → IsWholeWarehouse items number (after_slices items number (commands.Payment payment) done tables)
 whole-payment items number payment tables zero sound begins within = whole-sound items number tables sound
 whole-payment items number payment tables (suc zero) sound begins within =
-    whole-paid_in items number payment tables sound begins
+    whole-sound items number (after_slices items number (commands.Payment payment) 1 tables)
+    (sound-paid_in items number payment (payer payment tables).id tables (begun-payment number payment tables begins)
+    sound)
 whole-payment items number payment tables (suc (suc zero)) sound begins within =
     whole-sound items number (after_slices items number (commands.Payment payment) 2 tables)
     (sound-paid items number payment (payer payment tables).id tables (begun-payment number payment tables begins) sound)
@@ -135,7 +110,7 @@ level-slices items number level tables (suc done) = level-slices items number le
 -- ---- all commands
 
 pub whole-slices : (items : List Item) (number : ℕ) (command : Command) (tables : Tables) (done : ℕ)
-    → IsSoundWarehouse items number tables → begin_refusal_of number command tables ≡ None
+    → IsSoundWarehouse items number tables → Begins number command tables
     → done ≤ slice_count command → has_items_before items command done ≡ true
     → IsWholeWarehouse items number (after_slices items number command done tables)
 whole-slices items number (commands.NewOrder order) tables zero sound begins within known =
@@ -143,13 +118,13 @@ whole-slices items number (commands.NewOrder order) tables zero sound begins wit
 whole-slices items number (commands.NewOrder order) tables (suc done) sound begins within known =
     (placing-slices items number order tables sound begins done known).whole
 whole-slices items number (commands.Payment payment) tables done sound begins within known =
-    whole-payment items number payment tables done sound begins within
+    whole-payment items number payment tables done sound (alone-payment number payment tables begins) within
 whole-slices items number (commands.OrderStatus status) tables done sound begins within known =
     subst (IsWholeWarehouse items number) (sym (status-slices items number status tables done))
     (whole-sound items number tables sound)
 whole-slices items number (commands.Delivery delivery) tables done sound begins within known =
     whole-sound items number (after_slices items number (commands.Delivery delivery) done tables)
-    (sound-slices items number delivery tables sound begins done)
+    (sound-slices items number delivery tables sound (alone-delivery number delivery tables begins) done)
 whole-slices items number (commands.StockLevel level) tables done sound begins within known =
     subst (IsWholeWarehouse items number) (sym (level-slices items number level tables done))
     (whole-sound items number tables sound)

@@ -1,12 +1,12 @@
 -- What one slice adds to the numbers of a warehouse.
-use Rattle.std.proofs.Common.{◌≡◌, ℕ, ◌+◌, ◌-◌, ◌*◌, ◌≤◌, ℤ, pos, ◌≤ℤ◌, ◌==◌, Bool, true, false, cond, not, List, [], ◌∷◌, length, Some, refl, sym, ap, subst, arith}
-use Rattle.std.specs.Prelude.{All, nat_le, unwrap_or}
+use Rattle.std.proofs.Common.{◌≡◌, ℕ, ◌+◌, ◌*◌, ◌≤◌, pos, ◌≤ℤ◌, ◌==◌, Bool, true, false, cond, not, List, [], length, Some, refl, sym, ap, subst, arith}
+use Rattle.std.specs.Prelude.{All, unwrap_or}
 use Rattle.std.specs.List.{find, list_all, list_any}
 use Rattle.std.proofs.Math.Nat.{mul-le-mul_left}
 use Rattle.std.proofs.lemmas.Int.{ints}
-use Rattle.std.proofs.lemmas.Bool.{eqb-true, leb-false}
-use Rattle.std.proofs.lemmas.List.Elements.{All-cons, All-filter, All-head, All-map, All-nil, All-push, All-tail, All-weaker}
-use Rattle.hy_rows.specs.Finding.{first_or, is_customer, is_district, with_changed}
+use Rattle.std.proofs.lemmas.Bool.{eqb-true}
+use Rattle.std.proofs.lemmas.List.Elements.{All-filter, All-map, All-push, All-weaker}
+use Rattle.hy_rows.specs.Finding.{first_or, is_customer, is_district}
 use Rattle.hy_rows.specs.Ranges.{IsBetween}
 use Rattle.hy_rows.specs.Rows.{order_of}
 use Rattle.hy_rows.specs.Tables.{Tables}
@@ -14,20 +14,18 @@ use Rattle.hy_rows.specs.declared.customer.Customer.{Customer}
 use Rattle.hy_rows.specs.declared.item.Item.{Item}
 use Rattle.hy_rows.specs.declared.order.Order.{Order}
 use Rattle.hy_rows.specs.declared.order_line.OrderLine.{OrderLine}
-use Rattle.hy_rows.specs.declared.stock.Stock.{Stock}
 use Rattle.hy_rows.proofs.BetweenLaws.{bounds}
-use Rattle.hy_schema.specs.Conditions.{column_sum}
 use Rattle.hy_schema.specs.Related.{is_item, is_line_of, is_new_order, is_order, lines_of}
 use Rattle.hy_commands.specs.declared.command.Delivery.{Delivery}
 use Rattle.hy_commands.specs.declared.command.Purchase.{Purchase}
 use Rattle.hy_commands.specs.declared.command.PurchaseLine.{PurchaseLine}
 use Rattle.hy_commands.specs.Deliveries.{carried, customer_delivered, delivered_in, delivered_line, oldest, order_cents, with_delivered}
-use Rattle.hy_commands.specs.Growth.{HasGrownBy, IsCustomerUpTo, IsDistrictUpTo, IsLineUpTo, IsMoneyUpTo, IsNewOrderUpTo, IsOrderUpTo, IsPaymentUpTo, IsStockUpTo, IsWarehouseUpTo}
+use Rattle.hy_commands.specs.Growth.{HasGrownBy, IsCustomerUpTo, IsDistrictUpTo, IsLineUpTo, IsNewOrderUpTo, IsOrderUpTo, IsPaymentUpTo, IsStockUpTo, IsWarehouseUpTo}
 use Rattle.hy_commands.specs.Invariant.{IsSoundWarehouse}
-use Rattle.hy_commands.specs.NewOrders.{has_item, is_stock, line_row, new_order_row, no_item, order_number, order_row, quantity_left, sold, sold_line, with_next_order}
-use Rattle.hy_commands.proofs.GrowthLaws.{All-with_changed_to, ItemsFit, grown-later, left-small, line-sold, money-later, stock-later, sum-between}
+use Rattle.hy_commands.specs.NewOrders.{has_item, line_row, new_order_row, no_item, order_number, order_row, sold_line, with_next_order}
+use Rattle.hy_commands.proofs.GrowthLaws.{All-with_changed_to, ItemsFit, grown-later, line-sold, money-later, stock-later, sum-between}
 use Rattle.hy_commands.proofs.KeptByDelivery.{oldest-there}
-use Rattle.hy_commands.proofs.ListLaws.{All-find, All-of_both, column_sum-cons, find-any, find-passes}
+use Rattle.hy_commands.proofs.ListLaws.{All-find, All-of_both, find-any, find-passes}
 use Rattle.hy_commands.proofs.MeetsLaws.{CountsLines, meets-facts}
 use Rattle.hy_commands.proofs.OnceLaws.{tells-three}
 use Rattle.hy_slices.specs.Slices.{headed, lined}

@@ -6,8 +6,7 @@ use Rattle.std.proofs.lemmas.Bool.{and_parts}
 use Rattle.std.proofs.lemmas.List.Sums.{AllPass-from_list_all}
 use Rattle.std.proofs.lemmas.Option.{IfSome_then, get_or_from_slice_get, slice_get_within}
 use Rattle.hy_rows.specs.Finding.{is_district}
-use Rattle.hy_rows.specs.Ranges.{IsBetween}
-use Rattle.hy_rows.specs.Tables.{Lists, Tables, of_warehouse}
+use Rattle.hy_rows.specs.Tables.{Lists, Tables}
 use Rattle.hy_rows.specs.declared.item.Item.{Item}
 use Rattle.hy_rows.proofs.BetweenLaws.{bounds}
 use Rattle.hy_schema.specs.Loads.{IsItemAt, IsLoad, IsWarehouseAt}
@@ -22,15 +21,16 @@ use Rattle.hy_commands.specs.Commands.{is_line_in_range}
 use Rattle.hy_commands.specs.Growth.{HasGrownBy, IsDistrictUpTo}
 use Rattle.hy_commands.specs.Invariant.{IsSoundWarehouse}
 use Rattle.hy_commands.specs.NewOrders.{order_number}
-use Rattle.hy_commands.specs.Replay.{replay}
+use Rattle.hy_commands.specs.Replay.{HasWarehouse, rows_after}
 use Rattle.hy_commands.specs.Transactions.{begin_refusal_of, payer}
 use Rattle.hy_commands.proofs.GrowthLaws.{ItemsFit, grown-later, grown-paid, payer-small}
-use Rattle.hy_commands.proofs.Grown.{grown-commits}
-use Rattle.hy_commands.proofs.Kept.{sound-replay}
+use Rattle.hy_commands.proofs.Grown.{grown-rows}
+use Rattle.hy_commands.proofs.Kept.{sound-rows}
 use Rattle.hy_commands.proofs.ListLaws.{All-find}
-use Rattle.hy_commands.proofs.SoundLoad.{all-by_place, sound-load}
+use Rattle.hy_commands.proofs.SoundLoad.{all-by_place}
+use Rattle.hy_slices.specs.Begun.{Begins}
 use Rattle.hy_slices.specs.Slices.{after_slices, has_item_at, has_items_before, headed_number, is_known, line_behind, lined, slice_count, with_line}
-use Rattle.hy_slices.proofs.BegunLaws.{begun-delivery, begun-payment, begun-purchase}
+use Rattle.hy_slices.proofs.BegunLaws.{alone-delivery, alone-payment, begun-delivery, begun-payment, begun-purchase, begun-suppliers}
 use Rattle.hy_slices.proofs.BetweenSlices.{level-slices, number-slices, sound-slices, status-slices}
 use Rattle.hy_slices.proofs.GrowingLaws.{IsGrowing, growing-delivered_in, growing-end, growing-headed, growing-later, growing-lined, growing-start}
 use Rattle.hy_slices.proofs.SliceLaws.{take-more}
@@ -45,7 +45,7 @@ All-at P rows place row is all =
 module _ (items : List Item) (fits : ItemsFit items) (number : ℕ) (near : number ≤ 16) (n : ℕ) (tables : Tables) (sound : IsSoundWarehouse items number tables) (grown : HasGrownBy n tables) where
   -- ---- a purchase
 
-  module _ (order : Purchase) (begins : begin_refusal_of number (commands.NewOrder order) tables ≡ None) where
+  module _ (order : Purchase) (begins : Begins number (commands.NewOrder order) tables) where
     abbrev after : ℕ → Tables
     after done = after_slices items number (commands.NewOrder order) done tables
 
@@ -72,12 +72,13 @@ module _ (items : List Item) (fits : ItemsFit items) (number : ℕ) (near : numb
         let passed = begun-purchase number order tables begins in
         let in_range = All-at (λ line. is_line_in_range line ≡ true) order.lines done line is
         (AllPass-from_list_all is_line_in_range order.lines (passed.0).in_range) in
-        let own = All-at (λ line. line.supply_warehouse ≡ number) order.lines done line is (passed.0).suppliers in
+        let near_line = All-at (λ line. line.supply_warehouse ≤ 16) order.lines done line is
+        (begun-suppliers number order tables near begins) in
         let taken : ℕ = headed_number order state in
         growing-later (n + 1) (10 * n) (10 * n) (15 * n + done + 1) (15 * n + suc done)
         (lined items number order taken (done + 1) state line) (omega arith) (omega arith)
         (growing-lined items fits number order taken (done + 1) line (n + 1) low within
-        (bounds 1 10 line.quantity in_range).1 (omega (arith, own, near)) known (10 * n) (15 * n + done) state growing)
+        (bounds 1 10 line.quantity in_range).1 near_line known (10 * n) (15 * n + done) state growing)
 
     growing-purchase : (done : ℕ) → done ≤ length order.lines
         → has_items_before items (commands.NewOrder order) (suc done) ≡ true
@@ -156,44 +157,44 @@ module _ (items : List Item) (fits : ItemsFit items) (number : ℕ) (near : numb
 
   -- ---- all commands
 
-  grown-slices : (command : Command) (done : ℕ) → begin_refusal_of number command tables ≡ None
+  pub grown-slices : (command : Command) (done : ℕ) → Begins number command tables
       → done ≤ slice_count command → has_items_before items command done ≡ true
       → HasGrownBy (n + 1) (after_slices items number command done tables)
   grown-slices (commands.NewOrder order) done begins within known = grown-purchase order begins done within known
-  grown-slices (commands.Payment payment) done begins within known = grown-payment payment done begins within
+  grown-slices (commands.Payment payment) done begins within known =
+      grown-payment payment done (alone-payment number payment tables begins) within
   grown-slices (commands.OrderStatus status) done begins within known =
       subst (HasGrownBy (n + 1)) (sym (status-slices items number status tables done)) (grown-later n tables grown)
-  grown-slices (commands.Delivery delivery) done begins within known = grown-delivery delivery begins done within
+  grown-slices (commands.Delivery delivery) done begins within known =
+      grown-delivery delivery (alone-delivery number delivery tables begins) done within
   grown-slices (commands.StockLevel level) done begins within known =
       subst (HasGrownBy (n + 1)) (sym (level-slices items number level tables done)) (grown-later n tables grown)
 
 -- ---- loads
 
-module _ (load : Lists) (is_load : IsLoad load) where
-  items-fit : ItemsFit load.items
-  items-fit =
-      all-by_place (λ row. (row.id ≤ 100_000) × (row.price ≤ 1_000_000)) load.items
-      (λ place. IfSome_then (slice_get load.items place) {P = IsItemAt place}
-      {Q = λ row. (row.id ≤ 100_000) × (row.price ≤ 1_000_000)} (is_load.items.each place)
-      (λ row right. ((bounds 1 100_000 row.id (right.0).id).1, (bounds 1 1_000_000 row.price (right.0).price).1)))
+-- the items of a load are small
+pub items-fit : (load : Lists) → IsLoad load → ItemsFit load.items
+items-fit load is_load =
+    all-by_place (λ row. (row.id ≤ 100_000) × (row.price ≤ 1_000_000)) load.items
+    (λ place. IfSome_then (slice_get load.items place) {P = IsItemAt place}
+    {Q = λ row. (row.id ≤ 100_000) × (row.price ≤ 1_000_000)} (is_load.items.each place)
+    (λ row right. ((bounds 1 100_000 row.id (right.0).id).1, (bounds 1 1_000_000 row.price (right.0).price).1)))
 
-  -- the number of a warehouse is that of its row
-  number-near : (number : ℕ) → IsBetween 1 (length load.tables.warehouses) number → number ≤ 16
-  number-near number between =
-      let ends = bounds 1 (length load.tables.warehouses) number between in
-      let row = take-more load.tables.warehouses (number - 1) (omega (arith, ends.0, ends.1)) in
-      let right : IsWarehouseAt (number - 1) row.0 = subst (λ row. IfSome row (IsWarehouseAt (number - 1))) row.1
-      (is_load.warehouses.each (number - 1)) in
-      omega (arith, ends.0, (bounds 1 16 (row.0).id (right.0).id).1, right.1)
+-- the number of a warehouse is that of its row
+pub number-near : (load : Lists) → IsLoad load → (number : ℕ) → HasWarehouse load number → number ≤ 16
+number-near load is_load number between =
+    let ends = bounds 1 (length load.tables.warehouses) number between in
+    let row = take-more load.tables.warehouses (number - 1) (omega (arith, ends.0, ends.1)) in
+    let right : IsWarehouseAt (number - 1) row.0 = subst (λ row. IfSome row (IsWarehouseAt (number - 1))) row.1
+    (is_load.warehouses.each (number - 1)) in
+    omega (arith, ends.0, (bounds 1 16 (row.0).id (right.0).id).1, right.1)
 
-  pub grown-between : (number : ℕ) (commits : List Commit) (command : Command) (done : ℕ)
-      → IsBetween 1 (length load.tables.warehouses) number
-      → begin_refusal_of number command (replay load.items number (of_warehouse number load.tables) commits) ≡ None
-      → done ≤ slice_count command → has_items_before load.items command done ≡ true
-      → HasGrownBy (length commits + 1) (after_slices load.items number command done
-      (replay load.items number (of_warehouse number load.tables) commits))
-  grown-between number commits command done between begins within known =
-      grown-slices load.items items-fit number (number-near number between) (length commits)
-      (replay load.items number (of_warehouse number load.tables) commits)
-      (sound-replay load.items number (of_warehouse number load.tables) commits (sound-load number load is_load between))
-      (grown-commits load is_load number commits between) command done begins within known
+pub grown-between : (load : Lists) → IsLoad load → (number : ℕ) (commits : List Commit) (command : Command) (done : ℕ)
+    → HasWarehouse load number → Begins number command (rows_after load number commits)
+    → done ≤ slice_count command → has_items_before load.items command done ≡ true
+    → HasGrownBy (length commits + 1)
+    (after_slices load.items number command done (rows_after load number commits))
+grown-between load is_load number commits command done between begins within known =
+    grown-slices load.items (items-fit load is_load) number (number-near load is_load number between) (length commits)
+    (rows_after load number commits) (sound-rows load number commits is_load between)
+    (grown-rows load number commits is_load between) command done begins within known

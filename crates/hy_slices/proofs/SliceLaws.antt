@@ -6,7 +6,7 @@ use Rattle.std.specs.Option.{option_map}
 use Rattle.std.proofs.Math.Bool.{and-true}
 use Rattle.std.proofs.lemmas.List.Folds.{list_all-append}
 use Rattle.std.proofs.Math.Seq.{take-length}
-use Rattle.std.proofs.lemmas.Bool.{and_parts, false_from_ne_true}
+use Rattle.std.proofs.lemmas.Bool.{and_parts, eq-eqb, false_from_ne_true}
 use Rattle.std.proofs.lemmas.List.{append-nil, length-take-le}
 use Rattle.hy_rows.specs.Finding.{is_district, with_changed}
 use Rattle.hy_rows.specs.Rows.{district_of}
@@ -20,8 +20,10 @@ use Rattle.hy_commands.specs.declared.command.Command.{Command}
 use Rattle.hy_commands.specs.declared.command.Command.TheVariants as commands
 use Rattle.hy_commands.specs.declared.command.Purchase.{Purchase}
 use Rattle.hy_commands.specs.declared.command.PurchaseLine.{PurchaseLine}
-use Rattle.hy_commands.specs.NewOrders.{has_item, line_row, line_rows, order_number, sold_line, with_next_order}
+use Rattle.hy_commands.specs.NewOrders.{has_item, line_row, line_rows, order_number, ordered, sold_line, supplied, with_next_order}
+use Rattle.hy_commands.specs.Parts.{part}
 use Rattle.hy_commands.specs.Transactions.{accepted, act, begin_refusal_of, has_items, outcome_of, refusal_of}
+use Rattle.hy_slices.specs.Begun.{BeginsPart}
 use Rattle.hy_slices.specs.Slices.{after_slices, has_item_at, has_items_before, headed, headed_number, is_known, lined, slice_count, with_line}
 use Rattle.hy_slices.proofs.BegunLaws.{refusal-begun}
 
@@ -167,7 +169,7 @@ module _ (items : List Item) (number : ℕ) (order : Purchase) (tables : Tables)
 
 -- ---- all commands
 
-slices-accepted : (items : List Item) (number : ℕ) (command : Command) (tables : Tables)
+pub slices-accepted : (items : List Item) (number : ℕ) (command : Command) (tables : Tables)
     → after_slices items number command (slice_count command) tables ≡ (accepted items number command tables).tables
 slices-accepted items number (commands.NewOrder order) tables = purchase-slices items number order tables
 slices-accepted items number (commands.Payment payment) tables = refl
@@ -191,7 +193,7 @@ known-at items (line ∷ lines) zero known = (and_parts (has_item items line) (l
 known-at items (line ∷ lines) (suc place) known =
     known-at items lines place (and_parts (has_item items line) (list_all (has_item items) lines) known).1
 
-slice-known : (items : List Item) (command : Command) (done : ℕ) → has_items items command ≡ true
+pub slice-known : (items : List Item) (command : Command) (done : ℕ) → has_items items command ≡ true
     → has_item_at items command done ≡ true
 slice-known items (commands.NewOrder order) zero known = refl
 slice-known items (commands.NewOrder order) (suc done) known = known-at items order.lines done known
@@ -220,3 +222,16 @@ slices-act items number command tables begins known =
     slices-accepted items number command tables
     ∙ ap (λ refusal. (outcome_of refusal items number command tables).tables)
     (sym (slices-not_refused items number command tables begins known))
+
+-- at the home of a purchase they are the home's part of it
+pub slices-part : (items : List Item) (number : ℕ) (command : Command) (tables : Tables)
+    → BeginsPart number command tables
+    → after_slices items number command (slice_count command) tables ≡ part items number command tables
+slices-part items number (commands.NewOrder order) tables home =
+    purchase-slices items number order tables
+    ∙ ap (λ b. supplied number order (cond b (ordered items order tables) tables))
+    (sym (eq-eqb order.warehouse number home.home))
+slices-part items number (commands.Payment payment) tables never = absurd never
+slices-part items number (commands.OrderStatus status) tables never = absurd never
+slices-part items number (commands.Delivery delivery) tables never = absurd never
+slices-part items number (commands.StockLevel level) tables never = absurd never

@@ -1,6 +1,7 @@
--- A command that a warehouse begins, and the items that its slices ask for.
-use Rattle.std.specs.Prelude.{◌≡◌, ◌≢◌, ℕ, ◌+◌, ◌<◌, ◌≤◌, true, List, None, length, All}
+-- A command that a warehouse begins, by itself or as its part of it, and the items that its slices ask for.
+use Rattle.std.specs.Prelude.{◌≡◌, ◌≢◌, ℕ, ◌+◌, ◌<◌, ◌≤◌, ◌⊎◌, true, List, None, length, All}
 use Rattle.hy_rows.specs.declared.item.Item.{Item}
+use Rattle.hy_rows.specs.Limits.{max_warehouses}
 use Rattle.hy_rows.specs.Ranges.{IsBetween}
 use Rattle.hy_rows.specs.Tables.{Lists, Tables}
 use Rattle.hy_schema.specs.Loads.{IsLoad}
@@ -9,16 +10,35 @@ use Rattle.hy_commands.specs.declared.command.Command.TheVariants as commands
 use Rattle.hy_commands.specs.declared.command.Commit.{Commit}
 use Rattle.hy_commands.specs.declared.command.Delivery.{Delivery}
 use Rattle.hy_commands.specs.declared.command.Purchase.{Purchase}
+use Rattle.hy_commands.specs.Commands.{is_in_range}
 use Rattle.hy_commands.specs.Invariant.{IsSoundWarehouse}
 use Rattle.hy_commands.specs.NewOrders.{order_number}
 use Rattle.hy_commands.specs.Replay.{HasWarehouse, rows_after}
-use Rattle.hy_commands.specs.Transactions.{begin_refusal_of}
+use Rattle.hy_commands.specs.Transactions.{begin_refusal_of, has_customer, has_districts}
 use Rattle.hy_slices.specs.Between.{IsLineBefore}
 use Rattle.hy_slices.specs.Slices.{after_slices, has_item_at, has_items_before, slice_count}
 
--- the warehouse begins the command: if anything refuses it then, it is an item that isn't there
+-- the warehouse begins the command by itself: if anything refuses it then, it is an item that isn't there
+abbrev pub BeginsAlone : ℕ → Command → Tables → Type 0
+BeginsAlone number command tables = begin_refusal_of number command tables ≡ None
+
+-- the warehouse is the home of a purchase, of which any warehouses supply the lines; its values are in range, and its
+-- district and its customer are there
+pub record IsHomeOf (number : ℕ) (order : Purchase) (tables : Tables) : Type 0 where
+  pub home : order.warehouse ≡ number
+  pub in_range : is_in_range (commands.NewOrder order) ≡ true
+  pub districts : has_districts (commands.NewOrder order) ≡ true
+  pub customer : has_customer (commands.NewOrder order) tables ≡ true
+  pub suppliers : All (λ line. line.supply_warehouse ≤ max_warehouses) order.lines
+
+-- the warehouse begins its part of a command over several warehouses: it is the home of a purchase
+abbrev pub BeginsPart : ℕ → Command → Tables → Type 0
+BeginsPart number (commands.NewOrder order) tables = IsHomeOf number order tables
+BeginsPart number command tables = ⊥
+
+-- it begins the command by itself, or its part of it
 abbrev pub Begins : ℕ → Command → Tables → Type 0
-Begins number command tables = begin_refusal_of number command tables ≡ None
+Begins number command tables = BeginsAlone number command tables ⊎ BeginsPart number command tables
 
 -- the items that its first slices ask for are there, and those of all its slices
 abbrev pub HasItemsBefore : List Item → Command → ℕ → Type 0
@@ -71,7 +91,7 @@ after_districts items number delivery done tables = after_slices items number (c
 pub record DeliversBefore (items : List Item) (number : ℕ) (delivery : Delivery) (done district : ℕ) (tables : Tables)
     : Type 0 where
   pub sound : IsSoundWarehouse items number tables
-  pub begins : Begins number (commands.Delivery delivery) tables
+  pub begins : BeginsAlone number (commands.Delivery delivery) tables
   pub before : done < district
   pub between : IsBetween 1 10 district
 

@@ -1,4 +1,4 @@
 pub mod Slices
 pub mod Between
-pub mod WorkedSlices
 pub mod Begun
+pub mod WorkedSlices

@@ -1,6 +1,10 @@
 -- Examples of slices on the small warehouse of `hy_commands`, each with values from hand calculation; the checker
 -- computes them.
-use Rattle.std.specs.Prelude.{◌≡◌, ℕ, ℤ, pos, negsuc, true, false, Some, None, List, [], ◌∷◌, map, length, refl}
+use Rattle.std.specs.Prelude.{◌≡◌, ◌≤◌, ℕ, ℤ, pos, negsuc, nat_le, true, false, Some, None, List, [], ◌∷◌, map, length, refl}
+use Rattle.std.proofs.Common.{inl, inr, arith}
+use Rattle.std.proofs.lemmas.Bool.{leb-true}
+use Rattle.std.proofs.lemmas.List.Elements.{All-weaker}
+use Rattle.std.proofs.lemmas.List.Sums.{AllPass-from_list_all}
 use Rattle.hy_rows.specs.declared.customer.Customer.{Customer}
 use Rattle.hy_rows.specs.declared.district.District.{District}
 use Rattle.hy_rows.specs.declared.new_order.NewOrder.{NewOrder}
@@ -16,8 +20,11 @@ use Rattle.hy_commands.specs.declared.command.Command.TheVariants as commands
 use Rattle.hy_commands.specs.declared.command.Purchase.{Purchase}
 use Rattle.hy_commands.specs.declared.command.PurchaseLine.{PurchaseLine}
 use Rattle.hy_commands.specs.declared.command.Who.TheVariants as who
-use Rattle.hy_commands.specs.Transactions.{act}
+use Rattle.hy_schema.specs.declared.refusal.Refusal.TheVariants as refusals
+use Rattle.hy_commands.specs.Parts.{part}
+use Rattle.hy_commands.specs.Transactions.{act, begin_refusal_of}
 use Rattle.hy_commands.specs.WorkedSample.{after, bought, delivery, five_of_each, items, level, payment, purchase, sample, status, stock_columns}
+use Rattle.hy_slices.specs.Begun.{Begins}
 use Rattle.hy_slices.specs.Slices.{after_slices, has_item_at, has_items_before, slice_count}
 
 -- ---- how many
@@ -116,6 +123,79 @@ row_of_remote_line = refl
 
 abbrev stock_of_remote_line : remote_line.stock ≡ sample.stock
 stock_of_remote_line = refl
+
+-- ---- a purchase at its home, of which warehouse 2 supplies the third of five lines
+
+abbrev crossing_order : Purchase
+crossing_order = record {
+  warehouse = 1;
+  district = 3;
+  customer = 2;
+  at = 6;
+  lines =
+      bought 4 5 ∷ bought 2 3 ∷ record { item = 1; supply_warehouse = 2; quantity = 9 } ∷ bought 5 1 ∷ bought 3 2 ∷ [];
+}
+
+abbrev crossing : Command
+crossing = commands.NewOrder crossing_order
+
+-- warehouse 1 doesn't begin it by itself, and begins its part of it; warehouse 2 isn't its home
+abbrev not_alone : begin_refusal_of 1 crossing sample ≡ Some refusals.NoSuchWarehouse
+not_alone = refl
+
+begins_its_part : Begins 1 crossing sample
+begins_its_part = inr record {
+  home = refl;
+  in_range = refl;
+  districts = refl;
+  customer = refl;
+  suppliers =
+      All-weaker (λ (line : PurchaseLine). nat_le line.supply_warehouse 16 ≡ true) (λ line. line.supply_warehouse ≤ 16)
+      (λ line within. leb-true line.supply_warehouse 16 within) crossing_order.lines
+      (AllPass-from_list_all (λ (line : PurchaseLine). nat_le line.supply_warehouse 16) crossing_order.lines refl);
+}
+
+not_its_home : Begins 2 crossing sample → ⊥
+not_its_home (inl begins) = absurd (cc)
+not_its_home (inr home) = absurd (omega (arith, home.home))
+
+abbrev sliced_crossing : ℕ → Tables
+sliced_crossing done = after_slices items 1 crossing done sample
+
+-- the order isn't all local
+abbrev order_of_crossing : (sliced_crossing 1).orders
+    ≡ record {
+      id = 1;
+      district = 3;
+      warehouse = 1;
+      customer = 2;
+      entry_date = 6;
+      carrier = 0;
+      line_count = 5;
+      all_local = 0;
+    } ∷ []
+order_of_crossing = refl
+
+-- all its lines are there, each with its supplier; the third one leaves the stock, and no line raises S_REMOTE_CNT
+abbrev supplier_columns : OrderLine → ℕ × ℕ × ℕ × ℕ × ℤ
+supplier_columns row = (row.number, row.item, row.supply_warehouse, row.quantity, row.amount)
+
+abbrev lines_of_crossing : map supplier_columns (sliced_crossing 6).order_lines
+    ≡ (1, 4, 1, 5, pos 1_240) ∷ (2, 2, 1, 3, pos 522) ∷ (3, 1, 2, 9, pos 1_233) ∷ (4, 5, 1, 1, pos 285)
+    ∷ (5, 3, 1, 2, pos 422) ∷ []
+lines_of_crossing = refl
+
+abbrev stock_of_crossing : map (λ item. stock_columns item (sliced_crossing 6)) (1 ∷ 2 ∷ 3 ∷ 4 ∷ 5 ∷ 6 ∷ [])
+    ≡ (18 ∷ 0 ∷ 0 ∷ 0 ∷ []) ∷ (22 ∷ 3 ∷ 1 ∷ 0 ∷ []) ∷ (30 ∷ 2 ∷ 1 ∷ 0 ∷ []) ∷ (34 ∷ 5 ∷ 1 ∷ 0 ∷ [])
+    ∷ (45 ∷ 1 ∷ 1 ∷ 0 ∷ []) ∷ (53 ∷ 0 ∷ 0 ∷ 0 ∷ []) ∷ []
+stock_of_crossing = refl
+
+-- all slices do what the part of the home warehouse is
+abbrev whole_crossing : sliced_crossing 6 ≡ part items 1 crossing sample
+whole_crossing = refl
+
+abbrev whole_crossing_is_consistent : first_broken (sliced_crossing 6) ≡ None
+whole_crossing_is_consistent = refl
 
 -- ---- an item that isn't there
 

@@ -11,28 +11,37 @@ ghost use Rattle.hy_commands.specs.declared.command.Purchase.{Purchase};
 ghost use Rattle.hy_commands.specs.Deliveries.{oldest};
 ghost use Rattle.hy_commands.specs.Growth.{HasGrownBy};
 ghost use Rattle.hy_commands.specs.NewOrders.{order_number};
+ghost use Rattle.hy_commands.specs.Parts.{part};
 ghost use Rattle.hy_commands.specs.Replay.{rows_after};
-ghost use Rattle.hy_commands.specs.Transactions.{act, refusal_of};
-ghost use Rattle.hy_slices.specs.Begun.{AreLinesBefore, Begins, DeliversBefore, HasAllItems, HasItemsOfLines, IsBegunBehind, IsUnderWay, LacksItemAt, PlacesLines, after_districts, after_lines};
+ghost use Rattle.hy_commands.specs.Transactions.{accepted, act, refusal_of};
+ghost use Rattle.hy_slices.specs.Begun.{AreLinesBefore, BeginsAlone, BeginsPart, DeliversBefore, HasAllItems, HasItemsOfLines, IsBegunBehind, IsUnderWay, LacksItemAt, PlacesLines, after_districts, after_lines};
 ghost use Rattle.hy_slices.specs.Between.{IsWholeWarehouse};
 ghost use Rattle.hy_slices.specs.Slices.{after_slices, slice_count};
 
-/// Does nothing: its contract says that the slices of a command that a warehouse begins, where the items of all its
-/// lines are there, leave the rows that the command leaves, and that a command is refused E7 exactly where one of its
-/// slices asks for an item that isn't there.
+/// Does nothing: its contract says that all slices of a command leave the rows of the accepted command. So those of a
+/// command that a warehouse begins by itself, where the items of all its lines are there, leave the rows that the
+/// command leaves, and such a command is refused E7 exactly where one of its slices asks for an item that isn't there;
+/// and those of a purchase over several warehouses leave, at its home, the rows of the home's part.
 pub fn slices_are_the_command()
+    ensures whole { (items : List Item) (number : ℕ) (command : Command) (tables : Tables)
+        → after_slices items number command (slice_count command) tables
+        ≡ (accepted items number command tables).tables }
     ensures rows { (items : List Item) (number : ℕ) (command : Command) (tables : Tables)
-        → Begins number command tables → HasAllItems items command
+        → BeginsAlone number command tables → HasAllItems items command
         → after_slices items number command (slice_count command) tables ≡ (act items number command tables).tables }
+    ensures part { (items : List Item) (number : ℕ) (command : Command) (tables : Tables)
+        → BeginsPart number command tables
+        → after_slices items number command (slice_count command) tables ≡ part items number command tables }
     ensures accepted { (items : List Item) (number : ℕ) (command : Command) (tables : Tables)
-        → Begins number command tables → HasAllItems items command → refusal_of items number command tables ≡ None }
+        → BeginsAlone number command tables → HasAllItems items command
+        → refusal_of items number command tables ≡ None }
     ensures refused { (items : List Item) (number : ℕ) (command : Command) (tables : Tables) (done : ℕ)
-        → Begins number command tables → LacksItemAt items command done
+        → BeginsAlone number command tables → LacksItemAt items command done
         → refusal_of items number command tables ≡ Some refusals.NoSuchItem }
 {}
 
 /// Does nothing: its contract says what holds of the rows of a warehouse between the slices of a command that it
-/// begins, where it holds before.
+/// begins, or of its part of a purchase over several warehouses, where it holds before.
 pub fn rows_stay_whole()
     ensures { (items : List Item) (number : ℕ) (command : Command) (tables : Tables) (done : ℕ)
         → IsUnderWay items number command done tables
@@ -59,7 +68,7 @@ pub fn deliveries_stay_the_same()
 {}
 
 /// Does nothing: its contract says how far the numbers of a warehouse of a load can have grown between the slices of a
-/// command that comes behind a list of commits.
+/// command, or of its part of one, that comes behind a list of commits.
 pub fn numbers_stay_small_between()
     ensures { (lists : Lists) (number : ℕ) (commits : List Commit) (command : Command) (done : ℕ)
         → IsBegunBehind lists number commits command done → HasGrownBy (length commits + 1)

@@ -1,61 +1,47 @@
 -- What a command has passed that a warehouse begins.
-use Rattle.std.proofs.Common.{◌≡◌, ℕ, ◌==◌, ◌&&◌, Bool, true, false, cond, List, [], ◌∷◌, ◌++◌, Option, Some, None, refl, ap, ◌∙◌}
-use Rattle.std.specs.Prelude.{find, fold, is_some, MatchOption}
-use Rattle.std.specs.List.{list_all, list_any}
+use Rattle.std.proofs.Common.{◌≡◌, ℕ, ◌==◌, true, false, Option, Some, None, refl, ap, ◌∙◌}
+use Rattle.std.specs.Prelude.{find, is_some, MatchOption}
+use Rattle.std.specs.List.{list_all}
 use Rattle.std.proofs.lemmas.Bool.{and_parts, eqb-true}
 use Rattle.hy_commands.specs.declared.command.Purchase.{Purchase}
-use Rattle.hy_commands.specs.declared.command.PurchaseLine.{PurchaseLine}
 use Rattle.hy_rows.specs.Finding.{is_customer}
 use Rattle.hy_rows.specs.Tables.{Tables}
 use Rattle.hy_commands.specs.declared.command.Command.TheVariants as commands
 use Rattle.hy_commands.specs.declared.command.Who.TheVariants as who
 use Rattle.hy_commands.specs.Customers.{customer_meant}
+use Rattle.hy_commands.specs.Parts.{customer_home_of}
 use Rattle.hy_commands.specs.Transactions.{begin_refusal_of, has_customer, has_districts}
 use Rattle.hy_layout.specs.Layout.{IsMeantAt}
 use Rattle.hy_tpcc.specs.Executor.{HasCustomerAt}
 use Rattle.hy_schema.specs.declared.refusal.Refusal.TheVariants as refusals
 use Rattle.hy_commands.specs.declared.command.Command.{Command}
-use Rattle.hy_commands.specs.Commands.{is_in_range, warehouses_of, with_named}
+use Rattle.hy_commands.specs.Commands.{is_in_range, warehouses_of}
+use Rattle.hy_commands.proofs.AcceptedLaws.{named-purchase, own-payer}
 
-all-front : {Item : Type 0} (test : Item → Bool) (items : List Item) (item : Item)
-    → list_all test (items ++ item ∷ []) ≡ true → list_all test items ≡ true
-all-front test [] item all = refl
-all-front test (first ∷ items) item all =
-    let parts = and_parts (test first) (list_all test (items ++ item ∷ [])) all in
-    ap (λ b. b && list_all test items) parts.0 ∙ all-front test items item parts.1
-
-all-named : (test : ℕ → Bool) (lines : List PurchaseLine) (named : List ℕ)
-    → list_all test (fold (λ named (line : PurchaseLine). with_named named line.supply_warehouse) named lines) ≡ true
-    → list_all test named ≡ true
-all-named test [] named all = all
-all-named test (line ∷ lines) named all =
-    let next = all-named test lines (with_named named line.supply_warehouse) all in
-    elim (list_any (λ other. other == line.supply_warehouse) named) as (λ b.
-    list_all test (cond b named (named ++ line.supply_warehouse ∷ [])) ≡ true → list_all test named ≡ true) [
-      | true ↦ λ same. same
-      | false ↦ λ more. all-front test named line.supply_warehouse more
-    ] next
-
--- the home of a purchase that names one warehouse
-pub purchase-home : (warehouse : ℕ) (order : Purchase)
-    → list_all (λ named. named == warehouse) (warehouses_of (commands.NewOrder order)) ≡ true → order.warehouse ≡ warehouse
-purchase-home warehouse order all =
-    let first = all-named (λ named. named == warehouse) order.lines (order.warehouse ∷ []) all in
-    eqb-true order.warehouse warehouse (and_parts (order.warehouse == warehouse) true first).0
+-- the customer whom a command names that names one warehouse is one of it
+pub customer-home : (warehouse : ℕ) (command : Command)
+    → list_all (λ named. named == warehouse) (warehouses_of command) ≡ true → customer_home_of command ≡ warehouse
+customer-home warehouse (commands.NewOrder order) all =
+    eqb-true order.warehouse warehouse (named-purchase (λ named. named == warehouse) order all).0
+customer-home warehouse (commands.Payment payment) all = own-payer warehouse payment all
+customer-home warehouse (commands.OrderStatus status) all =
+    eqb-true status.warehouse warehouse (and_parts (status.warehouse == warehouse) true all).0
+customer-home warehouse (commands.Delivery delivery) all =
+    eqb-true delivery.warehouse warehouse (and_parts (delivery.warehouse == warehouse) true all).0
+customer-home warehouse (commands.StockLevel level) all =
+    eqb-true level.warehouse warehouse (and_parts (level.warehouse == warehouse) true all).0
 
 pub begin-purchase : (warehouse : ℕ) (order : Purchase) (tables : Tables) (found : Option ℕ)
-    → list_all (λ named. named == warehouse) (warehouses_of (commands.NewOrder order)) ≡ true
+    → order.warehouse ≡ warehouse
     → MatchOption found (customer_meant warehouse order.district (who.Number order.customer) tables.customers ≡ None)
     (IsMeantAt warehouse order.district (who.Number order.customer) tables.customers)
     → MatchOption found (has_customer (commands.NewOrder order) tables ≡ false)
     (λ place. (has_customer (commands.NewOrder order) tables ≡ true)
     × HasCustomerAt warehouse (commands.NewOrder order) tables place)
-begin-purchase warehouse order tables None all none =
-    ap (λ w. is_some (find (is_customer w order.district order.customer) tables.customers)) (purchase-home warehouse order all)
-    ∙ ap is_some none
-begin-purchase warehouse order tables (Some place) all meant = (
-  ap (λ w. is_some (find (is_customer w order.district order.customer) tables.customers)) (purchase-home warehouse order all)
-      ∙ ap is_some meant.meant,
+begin-purchase warehouse order tables None home none =
+    ap (λ w. is_some (find (is_customer w order.district order.customer) tables.customers)) home ∙ ap is_some none
+begin-purchase warehouse order tables (Some place) home meant = (
+  ap (λ w. is_some (find (is_customer w order.district order.customer) tables.customers)) home ∙ ap is_some meant.meant,
   meant,
 )
 

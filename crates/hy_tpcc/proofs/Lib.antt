@@ -7,3 +7,4 @@ pub mod SliceLaws
 pub mod KeepsLaws
 pub mod PurchaseLaws
 pub mod UnderWay
+pub mod PartLaws

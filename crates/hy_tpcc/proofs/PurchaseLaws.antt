@@ -1,24 +1,23 @@
 -- The slices of a purchase.
 use Rattle.std.proofs.Common.{◌≡◌, ◌&&◌, ◌≢◌, Bool, cond, false, ℕ, ◌<◌, ◌≤◌, ◌+◌, ◌*◌, ◌-◌, ◌^◌, ◌==◌, true, List, [], ◌∷◌, length, Option, Some, None, refl, sym, ap, ap₂, subst, ◌∙◌, zero, suc, arith}
-use Rattle.std.specs.Prelude.{All, is_some, slice_get, unwrap_or}
+use Rattle.std.specs.Prelude.{All, is_some, unwrap_or}
 use Rattle.std.specs.List.{find, list_all, list_any}
 use Rattle.std.specs.Option.{option_map}
 use Rattle.std.proofs.lemmas.Bool.{and_parts, eqb-true}
 use Rattle.std.proofs.lemmas.Bool.Decides.{nat_tests}
 use Rattle.std.proofs.lemmas.List.Elements.{All-cons, All-head, All-nil, All-tail}
-use Rattle.std.proofs.lemmas.Option.{IfSome_then}
 use Rattle.hy_rows.proofs.BetweenLaws.{bounds}
 use Rattle.hy_rows.specs.Finding.{is_customer, is_district, is_warehouse}
 use Rattle.hy_rows.specs.Ranges.{IsBetween}
 use Rattle.hy_rows.specs.Rows.{district_of, warehouse_of}
-use Rattle.hy_rows.specs.Tables.{Lists, Tables}
+use Rattle.hy_rows.specs.Tables.{Tables}
 use Rattle.hy_rows.specs.declared.district.District.{District}
 use Rattle.hy_rows.specs.declared.item.Item.{Item}
 use Rattle.hy_rows.specs.declared.new_order.NewOrder.{NewOrder}
 use Rattle.hy_rows.specs.declared.order.Order.{Order}
 use Rattle.hy_rows.specs.Finding.{first_or}
 use Rattle.hy_schema.specs.Keys.{IsOneWarehouse}
-use Rattle.hy_schema.specs.Loads.{IsItemAt, IsLoad}
+use Rattle.hy_schema.specs.Loads.{IsLoad}
 use Rattle.hy_schema.specs.Related.{is_item, is_order, orders_of}
 use Rattle.hy_rows.specs.Spelling.{live_rows}
 use Rattle.hy_commands.specs.declared.command.Command.TheVariants as commands
@@ -29,10 +28,9 @@ use Rattle.hy_commands.specs.Commands.{is_line_in_range}
 use Rattle.hy_commands.specs.Growth.{IsCustomerUpTo}
 use Rattle.hy_commands.specs.Invariant.{HasOrder, IsBehindOrders, IsOwnOrder, IsSoundWarehouse}
 use Rattle.hy_commands.specs.NewOrders.{buyer, district_of_purchase, has_item, order_number, purchase_cents, purchase_total, total_of, with_next_order}
+use Rattle.hy_commands.specs.Replay.{HasWarehouse}
 use Rattle.hy_commands.specs.declared.reply.Reply.TheVariants as replies
-use Rattle.hy_commands.specs.Transactions.{accepted, begin_refusal_of}
-use Rattle.hy_commands.proofs.GrowthLaws.{ItemsFit}
-use Rattle.hy_commands.proofs.SoundLoad.{all-by_place}
+use Rattle.hy_commands.specs.Transactions.{accepted}
 use Rattle.hy_commands.proofs.ListLaws.{All-find, find-passes, found-any}
 use Rattle.hy_commands.proofs.OnceLaws.{tells-three, tells-two}
 use Rattle.hy_layout.specs.Layout.{IsMeantAt, LayoutState}
@@ -40,7 +38,9 @@ use Rattle.hy_layout.specs.Finds.{IsIn}
 use Rattle.hy_layout.proofs.MemberLaws.{in-filter, in-place}
 use Rattle.hy_slices.specs.Between.{IsLineBefore}
 use Rattle.hy_slices.specs.Slices.{after_slices, has_item_at, headed, headed_number, is_known, line_behind, lined, with_line}
-use Rattle.hy_slices.proofs.BegunLaws.{begun-purchase}
+use Rattle.hy_slices.specs.Begun.{Begins}
+use Rattle.hy_slices.proofs.BegunLaws.{begun-purchase, begun-suppliers}
+use Rattle.hy_slices.proofs.GrowingSlices.{items-fit, number-near}
 use Rattle.hy_slices.proofs.BetweenSlices.{number-slices, placing-slices}
 use Rattle.hy_slices.proofs.SliceLaws.{find-with_changed, purchase-known}
 use Rattle.hy_slices.proofs.WholeLaws.{home-district, number-is, whole-sound}
@@ -63,26 +63,26 @@ use Rattle.hy_tpcc.specs.Executor.{HasDone, IsBegun, answer_of, rows_after}
 
 -- ---- what a begun purchase has passed
 
-lines-begun : (warehouse : ℕ) (lines : List PurchaseLine) → list_all is_line_in_range lines ≡ true
-    → All (λ line. line.supply_warehouse ≡ warehouse) lines → All (IsBegunLine warehouse) lines
-lines-begun warehouse [] in_range near = All-nil (IsBegunLine warehouse)
-lines-begun warehouse (line ∷ lines) in_range near =
+lines-begun : (lines : List PurchaseLine) → list_all is_line_in_range lines ≡ true
+    → All (λ line. line.supply_warehouse ≤ 16) lines → All IsBegunLine lines
+lines-begun [] in_range near = All-nil IsBegunLine
+lines-begun (line ∷ lines) in_range near =
     let parts = and_parts (is_line_in_range line) (list_all is_line_in_range lines) in_range in
-    let home = All-head (λ (line : PurchaseLine). line.supply_warehouse ≡ warehouse) line lines near in
-    let others = All-tail (λ (line : PurchaseLine). line.supply_warehouse ≡ warehouse) line lines near in
-    All-cons (IsBegunLine warehouse) line lines (record { home = home; quantity = parts.0 })
-    (lines-begun warehouse lines parts.1 others)
+    let supplier = All-head (λ (line : PurchaseLine). line.supply_warehouse ≤ 16) line lines near in
+    let others = All-tail (λ (line : PurchaseLine). line.supply_warehouse ≤ 16) line lines near in
+    All-cons IsBegunLine line lines (record { supplier = omega (arith, supplier); quantity = parts.0 })
+    (lines-begun lines parts.1 others)
 
-pub purchase-begun : (warehouse : ℕ) (order : Purchase) (tables : Tables)
-    → begin_refusal_of warehouse (commands.NewOrder order) tables ≡ None → IsBegunPurchase warehouse order
-purchase-begun warehouse order tables begins =
+pub purchase-begun : (warehouse : ℕ) (order : Purchase) (tables : Tables) → warehouse ≤ 16
+    → Begins warehouse (commands.NewOrder order) tables → IsBegunPurchase warehouse order
+purchase-begun warehouse order tables near begins =
     let whole = (begun-purchase warehouse order tables begins).0 in
     record {
       home = whole.home;
       district = whole.district;
       moment = whole.moment;
       count = whole.count;
-      lines = lines-begun warehouse order.lines whole.in_range whole.suppliers;
+      lines = lines-begun order.lines whole.in_range (begun-suppliers warehouse order tables near begins);
     }
 
 -- the number of its customer is that of a row
@@ -102,7 +102,7 @@ customer-small layout order place before begun =
 
 module _ (items : List Item) (number : ℕ) (order : Purchase) (tables : Tables)
     (sound : IsSoundWarehouse items number tables)
-    (begins : begin_refusal_of number (commands.NewOrder order) tables ≡ None) where
+    (begins : Begins number (commands.NewOrder order) tables) where
   orders-below : AreBelow order.district (order_number order tables) tables.orders
   orders-below place row here same =
       let passed = begun-purchase number order tables begins in
@@ -254,25 +254,19 @@ pub not-no_item : (shortage : Shortage) → refusal_of_shortage shortage ≢ ref
 not-no_item shortages.NoMemory same = absurd (cc)
 not-no_item shortages.NoFrame same = absurd (cc)
 
--- the items of a load fit their columns
-pub items-fit : (load : Lists) → IsLoad load → ItemsFit load.items
-items-fit load is_load =
-    all-by_place (λ (row : Item). (row.id ≤ 100_000) × (row.price ≤ 1_000_000)) load.items
-    (λ place. IfSome_then (slice_get load.items place) {P = IsItemAt place}
-    {Q = λ (row : Item). (row.id ≤ 100_000) × (row.price ≤ 1_000_000)} (is_load.items.each place)
-    (λ row right. ((bounds 1 100_000 row.id (right.0).id).1, (bounds 1 1_000_000 row.price (right.0).price).1)))
-
 -- a store takes the line behind so many slices
 pub can-add_line : (layout : LayoutState) (order : Purchase) (place done : ℕ) (before : Tables) (s : Stored)
-    (line : PurchaseLine) (item : Item) → IsLoad layout.load → 0 < done → done < length order.lines + 1
+    (line : PurchaseLine) (item : Item) → IsLoad layout.load → HasWarehouse layout.load layout.warehouse
+    → 0 < done → done < length order.lines + 1
     → line_behind order (done - 1) ≡ Some line → find (is_item line.item) layout.load.items ≡ Some item
     → IsBetween 1 (length layout.load.items) line.item → HasDone layout (commands.NewOrder order) place done before s
     → CanAddLine layout order (done - 1) line item s
-can-add_line layout order place done before s line item is_load head next is_line is_item_of number now =
+can-add_line layout order place done before s line item is_load there head next is_line is_item_of number now =
     let command = commands.NewOrder order in
     let within : done ≤ length order.lines + 1 = omega (arith, next) in
     let whole = whole-done layout command place done before s now within in
-    let begun = purchase-begun layout.warehouse order before now.begun.begun in
+    let begun = purchase-begun layout.warehouse order before
+    (number-near layout.load is_load layout.warehouse there) now.begun.begun in
     let few = (bounds 5 15 (length order.lines) begun.count).1 in
     let fits = All-find (λ (row : Item). (row.id ≤ 100_000) × (row.price ≤ 1_000_000)) (is_item line.item)
     layout.load.items item (items-fit layout.load is_load) is_item_of in
@@ -286,7 +280,7 @@ can-add_line layout order place done before s line item is_load head next is_lin
       next = whole.orders.next_orders;
       begun = begun;
       few = omega (arith, few, next, head);
-      passed = all-at (IsBegunLine layout.warehouse) order.lines (done - 1) line begun.lines is_line;
+      passed = all-at IsBegunLine order.lines (done - 1) line begun.lines is_line;
       found = is_item_of;
       number = number;
       small = omega (arith, fits.0, id_is);
@@ -311,15 +305,16 @@ all-true test (row ∷ rows) all =
     All-cons (λ row. test row ≡ true) row rows parts.0 (all-true test rows parts.1)
 
 pub can-reply : (layout : LayoutState) (order : Purchase) (place : ℕ) (before : Tables) (s : Stored)
-    → HasDone layout (commands.NewOrder order) place (length order.lines + 1) before s → CanReply layout order place s
-can-reply layout order place before s now =
+    → layout.warehouse ≤ 16 → HasDone layout (commands.NewOrder order) place (length order.lines + 1) before s
+    → CanReply layout order place s
+can-reply layout order place before s near now =
     let command = commands.NewOrder order in
     let last : ℕ = length order.lines + 1 in
     let whole = whole-done layout command place last before s now (omega arith) in
     record {
       rows = whole.rows;
       next = whole.orders.next_orders;
-      begun = purchase-begun layout.warehouse order before now.begun.begun;
+      begun = purchase-begun layout.warehouse order before near now.begun.begun;
       known = all-true (has_item layout.load.items) order.lines
           (sym (purchase-known layout.load.items layout.warehouse order before) ∙ now.known);
       buyer = now.begun.customer s.tables (places-done layout command place last before s now (omega arith));
@@ -337,9 +332,9 @@ reply-ordered layout order place before s row total found is now =
     let one_more : lines + 1 ≡ suc lines = omega arith in
     let rows : s.tables ≡ rows_after layout (commands.NewOrder order) (suc lines) before =
     subst (λ n. s.tables ≡ rows_after layout (commands.NewOrder order) n before) one_more now.rows in
-    let begun = purchase-begun layout.warehouse order before now.begun.begun in
+    let home = ((begun-purchase layout.warehouse order before now.begun.begun).0).home in
     let read : order_number order s.tables ≡ row.next_order =
-    ap (λ home. (first_or (district_of []) (is_district home order.district) s.tables.districts).next_order) begun.home
+    ap (λ home. (first_or (district_of []) (is_district home order.district) s.tables.districts).next_order) home
     ∙ ap (λ one. (unwrap_or one (district_of [])).next_order) found.found in
     let next = number-slices items layout.warehouse order before now.begun.sound now.begun.begun lines in
     let after : order_number order s.tables ≡ order_number order before + 1 = ap (order_number order) rows ∙ next in

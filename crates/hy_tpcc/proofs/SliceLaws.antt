@@ -1,9 +1,10 @@
 -- What holds of a store between the slices of a command.
 use Rattle.std.proofs.Common.{◌≡◌, ◌&&◌, ◌≢◌, ℕ, ◌<◌, ◌≤◌, ◌+◌, ◌==◌, Bool, true, false, cond, Option, Some, None, refl, sym, ap, subst, ◌∙◌, zero, suc, arith}
-use Rattle.std.specs.Prelude.{not}
+use Rattle.std.specs.Prelude.{not, slice_get}
 use Rattle.std.specs.List.{list_all}
 use Rattle.std.proofs.lemmas.Bool.{and_parts, eqb-true}
 use Rattle.hy_rows.specs.Tables.{Tables}
+use Rattle.hy_rows.specs.declared.customer.Customer.{Customer}
 use Rattle.hy_schema.specs.declared.refusal.Refusal.{Refusal}
 use Rattle.hy_commands.specs.declared.command.Command.{Command}
 use Rattle.hy_commands.specs.declared.command.Command.TheVariants as commands
@@ -15,19 +16,22 @@ use Rattle.hy_commands.specs.declared.command.StockLevel.{StockLevel}
 use Rattle.hy_commands.specs.Invariant.{IsSoundWarehouse}
 use Rattle.hy_writers.specs.Waiting.{IsSoundStore}
 use Rattle.hy_commands.specs.Commands.{is_in_range, warehouses_of}
-use Rattle.hy_commands.specs.Payments.{paid_by}
+use Rattle.hy_commands.specs.Payments.{paid_by, paid_in}
 use Rattle.hy_commands.specs.Transactions.{begin_refusal_of, has_districts, is_district_number, payer}
+use Rattle.hy_commands.proofs.AcceptedLaws.{own-payer}
 use Rattle.hy_layout.specs.Layout.{KeepsPlaces, LayoutState, own_rows}
 use Rattle.hy_slices.specs.Between.{IsWholeWarehouse}
+use Rattle.hy_slices.specs.Begun.{Begins}
 use Rattle.hy_slices.specs.Slices.{slice_count}
-use Rattle.hy_slices.proofs.BegunLaws.{begun-delivery, begun-payment}
+use Rattle.hy_slices.proofs.BegunLaws.{alone-delivery, alone-level, alone-payment, alone-status, begun-delivery, begun-payment}
 use Rattle.hy_slices.proofs.BetweenSlices.{oldest-before, sound-slices, whole-slices}
 use Rattle.hy_store.specs.Stored.{Stored}
-use Rattle.hy_writers.specs.Begun.{IsBegunDelivery, IsBegunPayment}
+use Rattle.hy_writers.specs.Begun.{IsBegunDelivery, IsCustomerPayment, IsHomePayment}
 use Rattle.hy_writers.specs.Limits.{AreInBounds}
 use Rattle.hy_commands.specs.declared.reply.Reply.{Reply}
 use Rattle.hy_indexes.specs.Indexes.{HasIndexes}
-use Rattle.hy_writers.specs.Payments.{CanPay, payment_reply}
+use Rattle.hy_writers.specs.Payments.{CanPayCustomer, CanPayHome, payment_reply, with_home_paid}
+use Rattle.hy_writers.proofs.PaymentLaws.{payer-at}
 use Rattle.hy_tpcc.proofs.KeepsLaws.{keeps-slices}
 use Rattle.hy_tpcc.specs.Executor.{HasDone, answer_of}
 
@@ -44,18 +48,37 @@ districts-begun warehouse command tables begins =
     let second = passed (list_all (λ named. named == warehouse) (warehouses_of command)) _ _ first.1 in
     (passed (has_districts command) _ _ second.1).0
 
-pub payment-begun : (warehouse : ℕ) (payment : Payment) (tables : Tables)
-    → begin_refusal_of warehouse (commands.Payment payment) tables ≡ None → IsBegunPayment warehouse payment
-payment-begun warehouse payment tables begins =
-    let whole = begun-payment warehouse payment tables begins in
+-- a command that names one warehouse alone, and no other
+pub named-begun : (warehouse : ℕ) (command : Command) (tables : Tables)
+    → begin_refusal_of warehouse command tables ≡ None
+    → list_all (λ named. named == warehouse) (warehouses_of command) ≡ true
+named-begun warehouse command tables begins =
+    let first = passed (is_in_range command) _ _ begins in
+    (passed (list_all (λ named. named == warehouse) (warehouses_of command)) _ _ first.1).0
+
+pub payment-home : (warehouse : ℕ) (payment : Payment) (tables : Tables) → warehouse ≤ 16
+    → Begins warehouse (commands.Payment payment) tables → IsHomePayment warehouse payment
+payment-home warehouse payment tables near begins =
+    let alone = alone-payment warehouse payment tables begins in
+    let whole = begun-payment warehouse payment tables alone in
+    let own = own-payer warehouse payment (named-begun warehouse (commands.Payment payment) tables alone) in
     record {
       home = whole.home;
-      customer_home = whole.customer_home;
       district = whole.district;
+      customer_warehouse = omega (arith, own, near);
       customer_district = (and_parts (is_district_number payment.district) (is_district_number payment.customer_district)
-          (districts-begun warehouse (commands.Payment payment) tables begins)).1;
+          (districts-begun warehouse (commands.Payment payment) tables alone)).1;
       amount = whole.amount;
       moment = whole.moment;
+    }
+
+pub payment-customer : (warehouse : ℕ) (payment : Payment) (tables : Tables)
+    → Begins warehouse (commands.Payment payment) tables → IsCustomerPayment warehouse payment
+payment-customer warehouse payment tables begins =
+    let alone = alone-payment warehouse payment tables begins in
+    record {
+      customer_home = own-payer warehouse payment (named-begun warehouse (commands.Payment payment) tables alone);
+      amount = (begun-payment warehouse payment tables alone).amount;
     }
 
 module _ (layout : LayoutState) (command : Command) (place done : ℕ) (before : Tables) (s : Stored)
@@ -75,16 +98,52 @@ module _ (layout : LayoutState) (command : Command) (place done : ℕ) (before :
 
 -- ---- a payment
 
-pub can-pay : (layout : LayoutState) (payment : Payment) (place done : ℕ) (before : Tables) (s : Stored) → done < 2
-    → HasDone layout (commands.Payment payment) place done before s → CanPay layout payment place s
-can-pay layout payment place done before s next now =
+pub can-pay_home : (layout : LayoutState) (payment : Payment) (place done : ℕ) (before : Tables) (s : Stored)
+    → layout.warehouse ≤ 16 → done < 2 → HasDone layout (commands.Payment payment) place done before s
+    → CanPayHome layout payment s
+can-pay_home layout payment place done before s near next now =
     let within : done ≤ 2 = omega (arith, next) in
     record {
       rows = (whole-done layout (commands.Payment payment) place done before s now within).rows;
       bounds = bounds-done layout (commands.Payment payment) place done before s now within;
-      begun = payment-begun layout.warehouse payment before now.begun.begun;
+      begun = payment-home layout.warehouse payment before near now.begun.begun;
+    }
+
+pub can-pay_customer : (layout : LayoutState) (payment : Payment) (place done : ℕ) (before : Tables) (s : Stored)
+    → done < 2 → HasDone layout (commands.Payment payment) place done before s
+    → CanPayCustomer layout payment place s
+can-pay_customer layout payment place done before s next now =
+    let within : done ≤ 2 = omega (arith, next) in
+    record {
+      rows = (whole-done layout (commands.Payment payment) place done before s now within).rows;
+      bounds = bounds-done layout (commands.Payment payment) place done before s now within;
+      begun = payment-customer layout.warehouse payment before now.begun.begun;
       payer = now.begun.customer s.tables
           (places-done layout (commands.Payment payment) place done before s now within);
+    }
+
+-- the first slice, with the number of the customer at the place
+pub home-done : (layout : LayoutState) (payment : Payment) (place customer : ℕ) (before : Tables) (s s1 : Stored)
+    (row : Customer) → slice_get s.tables.customers place ≡ Some row → customer ≡ row.id
+    → s1 ≡ with_home_paid payment customer s → HasDone layout (commands.Payment payment) place 0 before s
+    → HasDone layout (commands.Payment payment) place 1 before s1
+home-done layout payment place customer before s s1 row here is paid now =
+    let can = can-pay_customer layout payment place 0 before s (omega arith) now in
+    let payer_is = payer-at layout.warehouse payment s.tables place row can.begun can.payer here in
+    let number : customer ≡ (payer payment s.tables).id = is ∙ ap (λ (row : Customer). row.id) (sym payer_is) in
+    record {
+      begun = now.begun;
+      rows =
+          ap (λ (t : Stored). t.tables) paid ∙ ap (λ n. paid_in payment n s.tables) number
+          ∙ ap (λ (t : Tables). paid_in payment (payer payment t).id t) now.rows;
+      known = refl;
+      indexes = subst HasIndexes (sym paid)
+          (record {
+            orders = now.indexes.orders;
+            last_orders = now.indexes.last_orders;
+            waiting = now.indexes.waiting;
+            lines = now.indexes.lines;
+          });
     }
 
 -- the last slice
@@ -132,32 +191,26 @@ sound-begun layout command place before s now = record {
   indexes = now.indexes;
 }
 
--- a command that names one warehouse alone, and no other
-pub named-begun : (warehouse : ℕ) (command : Command) (tables : Tables)
-    → begin_refusal_of warehouse command tables ≡ None
-    → list_all (λ named. named == warehouse) (warehouses_of command) ≡ true
-named-begun warehouse command tables begins =
-    let first = passed (is_in_range command) _ _ begins in
-    (passed (list_all (λ named. named == warehouse) (warehouses_of command)) _ _ first.1).0
-
 pub home-status : (warehouse : ℕ) (status : OrderStatus) (tables : Tables)
-    → begin_refusal_of warehouse (commands.OrderStatus status) tables ≡ None → status.warehouse ≡ warehouse
+    → Begins warehouse (commands.OrderStatus status) tables → status.warehouse ≡ warehouse
 home-status warehouse status tables begins =
     eqb-true status.warehouse warehouse
-    (and_parts (status.warehouse == warehouse) true (named-begun warehouse (commands.OrderStatus status) tables begins)).0
+    (and_parts (status.warehouse == warehouse) true
+    (named-begun warehouse (commands.OrderStatus status) tables (alone-status warehouse status tables begins))).0
 
 pub home-level : (warehouse : ℕ) (level : StockLevel) (tables : Tables)
-    → begin_refusal_of warehouse (commands.StockLevel level) tables ≡ None → level.warehouse ≡ warehouse
+    → Begins warehouse (commands.StockLevel level) tables → level.warehouse ≡ warehouse
 home-level warehouse level tables begins =
     eqb-true level.warehouse warehouse
-    (and_parts (level.warehouse == warehouse) true (named-begun warehouse (commands.StockLevel level) tables begins)).0
+    (and_parts (level.warehouse == warehouse) true
+    (named-begun warehouse (commands.StockLevel level) tables (alone-level warehouse level tables begins))).0
 
 -- ---- a delivery
 
 pub delivery-begun : (warehouse : ℕ) (delivery : Delivery) (tables : Tables)
-    → begin_refusal_of warehouse (commands.Delivery delivery) tables ≡ None → IsBegunDelivery warehouse delivery
+    → Begins warehouse (commands.Delivery delivery) tables → IsBegunDelivery warehouse delivery
 delivery-begun warehouse delivery tables begins =
-    let whole = begun-delivery warehouse delivery tables begins in
+    let whole = begun-delivery warehouse delivery tables (alone-delivery warehouse delivery tables begins) in
     record { home = whole.home; carrier = whole.carrier; moment = whole.moment }
 
 -- between its slices the rows are sound
@@ -167,7 +220,8 @@ sound-delivering layout delivery place done before s next now =
     let within : done ≤ 10 = omega (arith, next) in
     record {
       sound = subst (IsSoundWarehouse layout.load.items layout.warehouse) (sym now.rows)
-          (sound-slices layout.load.items layout.warehouse delivery before now.begun.sound now.begun.begun done);
+          (sound-slices layout.load.items layout.warehouse delivery before now.begun.sound
+          (alone-delivery layout.warehouse delivery before now.begun.begun) done);
       places = places-done layout (commands.Delivery delivery) place done before s now within;
       bounds = bounds-done layout (commands.Delivery delivery) place done before s now within;
       indexes = now.indexes;
@@ -193,5 +247,5 @@ pub oldest-delivered : (layout : LayoutState) (delivery : Delivery) (place done 
     → oldest layout.warehouse (done + 1) s.tables ≡ oldest layout.warehouse (done + 1) before
 oldest-delivered layout delivery place done before s now =
     ap (oldest layout.warehouse (done + 1)) now.rows
-    ∙ oldest-before layout.load.items layout.warehouse delivery before now.begun.sound now.begun.begun done (done + 1)
-    (omega arith)
+    ∙ oldest-before layout.load.items layout.warehouse delivery before now.begun.sound
+    (alone-delivery layout.warehouse delivery before now.begun.begun) done (done + 1) (omega arith)

@@ -39,6 +39,7 @@ slice-done executor command one done s s1 is unnoted step =
     subst (λ (c : Command). (before : Tables) → IsUnderWay executor c done before s → IsUnderWay executor c (done + 1) before s1)
     (sym is)
     (λ before now. record {
+      alone = now.alone;
       slices = step before now.slices;
       delivered = unnoted executor.layout.warehouse (done + 1) before executor.delivered;
     })

@@ -8,8 +8,9 @@ use Rattle.hy_commands.specs.declared.command.Who.TheVariants as who
 use Rattle.hy_commands.specs.Deliveries.{oldest}
 use Rattle.hy_commands.specs.Invariant.{IsSoundWarehouse}
 use Rattle.hy_commands.specs.declared.reply.Reply.{Reply}
-use Rattle.hy_commands.specs.Transactions.{accepted, begin_refusal_of, has_customer}
+use Rattle.hy_commands.specs.Transactions.{accepted, has_customer}
 use Rattle.hy_layout.specs.Layout.{IsMeantAt, KeepsPlaces, LayoutState, own_rows}
+use Rattle.hy_slices.specs.Begun.{Begins, BeginsAlone}
 use Rattle.hy_slices.specs.Slices.{after_slices, has_items_before, slice_count}
 use Rattle.hy_store.specs.Stored.{Stored}
 use Rattle.hy_indexes.specs.Indexes.{HasIndexes}
@@ -51,10 +52,10 @@ StaysInBounds layout command before =
     (done : ℕ) → done ≤ slice_count command → has_items_before layout.load.items command done ≡ true
     → AreInBounds (rows_after layout command done before)
 
--- a command that the warehouse began with some rows
+-- a command that the warehouse began with some rows, by itself or as its part of it
 pub record IsBegun (layout : LayoutState) (command : Command) (place : ℕ) (before : Tables) : Type 0 where
   pub sound : IsSoundWarehouse layout.load.items layout.warehouse before
-  pub begun : begin_refusal_of layout.warehouse command before ≡ None
+  pub begun : Begins layout.warehouse command before
   pub places : KeepsPlaces (own_rows layout) before
   pub bounds : StaysInBounds layout command before
   pub customer : KnowsCustomer layout command place
@@ -76,16 +77,22 @@ abbrev pub DoesSlice : LayoutState → Command → ℕ → ℕ → Stored → St
 DoesSlice layout command place done old new =
     (before : Tables) → HasDone layout command place done before old → HasDone layout command place (done + 1) before new
 
+-- whatever rows the command began with, so many slices are done of one of which none was
+abbrev pub DoesSlices : LayoutState → Command → ℕ → ℕ → Stored → Stored → Type 0
+DoesSlices layout command place done old new =
+    (before : Tables) → HasDone layout command place 0 before old → HasDone layout command place done before new
+
 -- a delivery that runs is noted with the orders that its slices have delivered
 abbrev pub NotesDelivered : ℕ → Command → ℕ → Tables → List ℕ → Type 0
 NotesDelivered warehouse (commands.Delivery delivery) done before delivered =
     delivered ≡ delivered_before warehouse before done
 NotesDelivered warehouse command done before delivered = ⊤
 
--- an executor has done so many slices of a command that its warehouse began with some rows, and the store is what they
--- leave
+-- an executor has done so many slices of a command that its warehouse began by itself with some rows, and the store is
+-- what they leave
 pub record IsUnderWay (executor : ExecutorState) (command : Command) (done : ℕ) (before : Tables) (s : Stored)
     : Type 0 where
+  pub alone : BeginsAlone executor.layout.warehouse command before
   pub slices : HasDone executor.layout command executor.place done before s
   pub delivered : NotesDelivered executor.layout.warehouse command done before executor.delivered
 

@@ -4,6 +4,7 @@ ghost use Rattle.std.specs.Prelude.{◌≡◌, ◌==◌, None, Some, true, IfErr
 ghost use Rattle.std.specs.List.{list_all};
 ghost use Rattle.hy_rows.specs.Tables.{Tables};
 ghost use Rattle.hy_commands.specs.Commands.{is_in_range, warehouses_of};
+ghost use Rattle.hy_commands.specs.Parts.{customer_home_of};
 ghost use Rattle.hy_commands.specs.Transactions.{begin_refusal_of, has_districts, is_district_number};
 ghost use Rattle.hy_layout.specs.Layout.{KeepsPlaces, own_rows};
 ghost use Rattle.hy_space.specs.Space.{owner_bytes};
@@ -27,7 +28,7 @@ fn is_district_number(number: u64) -> bool
 }
 
 /// Whether the districts that a command names are there.
-fn has_districts(command: &Command) -> bool
+pub fn has_districts(command: &Command) -> bool
     ensures { result ≡ has_districts command.now }
 {
     match command {
@@ -50,9 +51,10 @@ fn names_only(command: &Command, warehouse: u8) -> bool
     command.warehouses().iter().all(|named| *named == home)
 }
 
-/// The place of the customer whom a command names, and 0 where it names none; none where there is no such customer.
-fn customer_place(layout: &Layout, command: &Command) -> Option<u64>
-    requires { list_all (λ named. named == layout.now.warehouse) (warehouses_of command.now) ≡ true }
+/// The place of the customer whom a command names, who is one of this warehouse, and 0 where it names none; none where
+/// there is no such customer.
+pub(crate) fn customer_place(layout: &Layout, command: &Command) -> Option<u64>
+    requires { customer_home_of command.now ≡ layout.now.warehouse }
     ensures { (tables : Tables) → KeepsPlaces (own_rows layout.now) tables
         → FindsCustomer layout.now.warehouse command.now tables result }
 {

@@ -3,6 +3,7 @@
 use crate::ahead::read_ahead;
 use crate::begin::begin_place;
 use crate::delivery::deliver;
+use crate::parts::{find_payer, has_items, order_part, payment_part};
 use crate::payment::pay;
 use crate::purchase::buy;
 use crate::reading::{answer_level, answer_status};
@@ -47,12 +48,16 @@ impl Executor {
     ghost use Rattle.std.specs.Prelude.{◌≡◌, ◌<◌, ◌↔◌, ◌⊎◌, IfErr, IfOk, IsErrOf, None, OnOk, Some, false};
     ghost use Rattle.hy_undo.specs.Writes.{IsOutOfFrames};
     ghost use Rattle.hy_space.specs.Space.{owner_bytes};
-    ghost use Rattle.hy_commands.specs.Transactions.{begin_refusal_of};
+    ghost use Rattle.hy_frames.specs.FrameTable.{free_of};
+    ghost use Rattle.hy_commands.specs.Growth.{HasGrownBy};
+    ghost use Rattle.hy_commands.specs.Parts.{customer_home_of};
+    ghost use Rattle.hy_commands.specs.Transactions.{begin_refusal_of, has_items};
     ghost use Rattle.hy_slices.specs.Slices.{has_item_at, slice_count};
     ghost use Rattle.hy_store.specs.Stored.{HasStore};
     ghost use Rattle.hy_store.specs.Writes.{IsWritableStore, LeavesStore, WritesStore, stored_in};
     ghost use Rattle.hy_writers.specs.Waiting.{IsSoundStore};
     ghost use Rattle.hy_tpcc.specs.Executor.{AnswersSlice, IsAnswer, IsPartlyDone, IsUnderWay, RunsCommand, RunsSlice, StaysInBounds};
+    ghost use Rattle.hy_tpcc.specs.Parts.{DoesPart, FindsPayer, HasPart, reply_of_part};
     ghost use Rattle.hy_tpcc.specs.Shortages.{FindsNoFrame};
 
     /// An executor for the warehouse of a layout. Takes no memory.
@@ -137,6 +142,55 @@ impl Executor {
             Command::OrderStatus(status) => self.read_status(space, status),
             Command::Delivery(delivery) => self.deliver(space, undo, delivery, done),
             Command::StockLevel(level) => self.read_level(space, level),
+        }
+    }
+
+    /// Whether the items that a command names are there. Takes no memory.
+    pub fn has_items(&self, command: &Command) -> bool
+        ensures { result ≡ has_items self.now.layout.load.items command.now }
+    {
+        has_items(&self.layout, command)
+    }
+
+    /// The number of the customer who pays, who is one of this warehouse, and 0 where nobody does; none where the
+    /// customer whom the command names isn't there. Takes no memory.
+    pub fn find_customer<const N: usize>(&self, space: &Space<N>, command: &Command) -> Option<u64>
+        requires store { HasStore N (owner_bytes space.now) }
+        requires sound { IsSoundStore self.now.layout (stored_in N space.now) }
+        requires here { customer_home_of command.now ≡ self.now.layout.warehouse }
+        ensures { FindsPayer command.now (stored_in N space.now).tables result }
+    {
+        find_payer(&self.layout, space, command)
+    }
+
+    /// Does the part of a command over several warehouses here, which the database doesn't refuse: at the home of a
+    /// purchase all but the stock of the lines that others supply, and elsewhere the stock of those that are supplied
+    /// from here; at the home of a payment the amount and the history, and elsewhere the customer's change. The
+    /// warehouse whose customer is named answers the reply. Refused E2 where it lacks a frame, and E1; behind these
+    /// only what the undo log gives back is known.
+    pub fn run_part<const N: usize>(
+        &self,
+        space: &mut Space<N>,
+        undo: &mut Undo<N>,
+        command: &Command,
+    ) -> Result<Option<Reply>, Refusal>
+        requires writable { IsWritableStore N space.old undo.old }
+        requires sound { IsSoundStore self.now.layout (stored_in N space.old) }
+        requires part { HasPart self.now.layout command.now }
+        requires small { HasGrownBy 100_000_000 (stored_in N space.old).tables }
+        ensures done { OnOk result (LeavesStore N space.old space.new (DoesPart self.now.layout command.now)) }
+        ensures reply { IfOk result (λ reply. reply
+            ≡ reply_of_part self.now.layout command.now (stored_in N space.old).tables) }
+        ensures refused { IfErr result (λ refusal. (refusal ≡ Refusal.NoFrame) ⊎ (refusal ≡ Refusal.NoMemory)) }
+        ensures writes { WritesStore N space.old space.new undo.old undo.new }
+        ensures no_frame { IsErrOf result Refusal.NoFrame → free_of space.new.frames ≡ 0 }
+    {
+        match command {
+            Command::NewOrder(order) => order_part(&self.layout, space, undo, order),
+            Command::Payment(payment) => payment_part(&self.layout, space, undo, payment),
+            Command::OrderStatus(_) | Command::Delivery(_) | Command::StockLevel(_) => {
+                unreachable!()
+            }
         }
     }
 

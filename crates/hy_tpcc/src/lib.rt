@@ -6,11 +6,13 @@ mod begin;
 mod delivery;
 mod executor;
 mod level;
+mod parts;
 mod payment;
 mod purchase;
 mod reading;
 mod refused;
 mod status;
 
+pub use begin::has_districts;
 pub use executor::Executor;
 pub use refused::refusal_of_shortage;

@@ -1,6 +1,9 @@
 //! The slices of a payment.
 
-ghost use Rattle.std.specs.Prelude.{◌≡◌, ◌<◌, ◌⊎◌, IfErr, IfOk, IsErrOf, OnOk};
+ghost use Rattle.std.specs.Prelude.{◌≡◌, ◌<◌, ◌⊎◌, IfErr, IfOk, IsErrOf, OnOk, Some, length, slice_get};
+ghost use Rattle.hy_rows.specs.declared.customer.Customer.{Customer};
+ghost use Rattle.hy_space.specs.Space.{owner_bytes};
+ghost use Rattle.hy_store.specs.Stored.{HasStore};
 ghost use Rattle.hy_store.specs.Writes.{IsWritableStore, LeavesStore, WritesStore, stored_in};
 ghost use Rattle.hy_tpcc.specs.Executor.{DoesSlice, IsAnswer, IsPartlyDone};
 ghost use Rattle.hy_tpcc.specs.Shortages.{FindsNoFrame};
@@ -8,10 +11,22 @@ ghost use Rattle.hy_tpcc.specs.Shortages.{FindsNoFrame};
 use crate::refused::refusal_of_shortage;
 use hy_commands::{Command, Payment, Reply};
 use hy_layout::Layout;
+use hy_rows::Customer;
 use hy_schema::Refusal;
 use hy_space::Space;
+use hy_store::row_bytes_at;
 use hy_undo::Undo;
 use hy_writers::{pay_customer, pay_home};
+
+/// The number of the customer at a place.
+pub(crate) fn number_at<const N: usize>(space: &Space<N>, place: u64) -> u16
+    requires store { HasStore N (owner_bytes space.now) }
+    requires there { place < length (stored_in N space.now).tables.customers }
+    ensures { (row : Customer) × (slice_get (stored_in N space.now).tables.customers place ≡ Some row)
+        × (result ≡ row.id) }
+{
+    Customer::id_in(row_bytes_at::<Customer, N>(space, place))
+}
 
 /// The next slice of a payment behind so many: the home warehouse's, then the customer's with the reply.
 pub(crate) fn pay<const N: usize>(
@@ -33,7 +48,10 @@ pub(crate) fn pay<const N: usize>(
     ensures no_frame { IsErrOf result Refusal.NoFrame → FindsNoFrame (Command.Payment payment.now) done space.new }
 {
     if done == 0 {
-        return match pay_home(layout, space, undo, payment, place) {
+        layout.load().sound();
+        layout.know_places();
+        let customer = number_at(space, place);
+        return match pay_home(layout, space, undo, payment, customer) {
             Ok(()) => Ok(None),
             Err(shortage) => Err(refusal_of_shortage(shortage)),
         };

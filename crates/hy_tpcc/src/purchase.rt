@@ -34,6 +34,8 @@ fn place_order<const N: usize>(
     ensures no_frame { IsErrOf result Shortage.NoFrame → free_of space.new.frames ≡ 0 }
 {
     know_store(space);
+    layout.load().sound();
+    layout.know_places();
     add_order(layout, space, undo, order)
 }
 
@@ -70,6 +72,7 @@ fn place_line<const N: usize>(
     ensures no_frame { IsErrOf result Refusal.NoFrame → free_of space.new.frames ≡ 0 }
 {
     layout.load().sound();
+    layout.know_places();
     let lines = done - 1;
     let line = line_behind(order, lines);
     let Some(item) = layout.item(line.item) else {
@@ -95,6 +98,7 @@ fn reply_to_order<const N: usize>(
         (stored_in N space.now) result }
 {
     layout.load().sound();
+    layout.know_places();
     let number = own_next_order(layout, space, order.district) - 1;
     Reply::NewOrder {
         order: number,

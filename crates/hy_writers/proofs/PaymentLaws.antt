@@ -14,14 +14,14 @@ use Rattle.hy_commands.specs.Payments.{customer_paid, district_paid, history_row
 use Rattle.hy_commands.specs.Transactions.{payer}
 use Rattle.hy_layout.specs.Layout.{IsMeantAt}
 use Rattle.hy_store.specs.Stored.{Stored}
-use Rattle.hy_writers.specs.Begun.{IsBegunPayment}
+use Rattle.hy_writers.specs.Begun.{IsCustomerPayment, IsHomePayment}
 use Rattle.hy_writers.specs.Changes.{IsFoundAt}
 use Rattle.hy_writers.specs.Payments.{history_for}
 use Rattle.hy_writers.proofs.FindLaws.{found-customer, same-row}
 
 -- the customer who is meant, at a place
 pub payer-at : (number : ℕ) (payment : Payment) (tables : Tables) (place : ℕ) (row : Customer)
-    → IsBegunPayment number payment
+    → IsCustomerPayment number payment
     → IsMeantAt number payment.customer_district payment.who tables.customers place
     → slice_get tables.customers place ≡ Some row → payer payment tables ≡ row
 payer-at number payment tables place row begun meant here =
@@ -30,7 +30,7 @@ payer-at number payment tables place row begun meant here =
     rw (begun.customer_home) (ap (λ found. unwrap_or found (customer_of [])) meant.meant ∙ same)
 
 pub history-found : (number customer : ℕ) (payment : Payment) (tables : Tables) (warehouse : Warehouse)
-    (district : District) (place : ℕ) → IsBegunPayment number payment
+    (district : District) (place : ℕ) → IsHomePayment number payment
     → IsFoundAt (is_warehouse number) tables.warehouses 0 warehouse
     → IsFoundAt (is_district number payment.district) tables.districts place district
     → history_for payment customer warehouse district ≡ history_row payment customer tables
@@ -42,7 +42,7 @@ history-found number customer payment tables warehouse district place begun foun
     ap₂ (λ (w : Warehouse) (d : District). history_for payment customer w d) (sym home) (sym own)
 
 -- the warehouse, the district and the history, one after the other
-module _ (number place customer : ℕ) (payment : Payment) (begun : IsBegunPayment number payment) (s s1 s2 s3 : Stored)
+module _ (number place customer : ℕ) (payment : Payment) (begun : IsHomePayment number payment) (s s1 s2 s3 : Stored)
     (warehouse warehouse_row : Warehouse) (district district_row : District) (row : History) where
   abbrev with_district : Stored → Stored
   with_district t = record t {
@@ -73,7 +73,7 @@ module _ (number place customer : ℕ) (payment : Payment) (begun : IsBegunPayme
       ) refl
 
 pub payer-paid : (number place : ℕ) (payment : Payment) (s s1 : Stored) (row paid : Customer)
-    → IsBegunPayment number payment → IsOneWarehouse number s.tables
+    → IsCustomerPayment number payment → IsOneWarehouse number s.tables
     → IsMeantAt number payment.customer_district payment.who s.tables.customers place
     → slice_get s.tables.customers place ≡ Some row → paid ≡ customer_paid payment.amount row
     → s1 ≡ record s { tables = record s.tables { customers = slice_set s.tables.customers place paid } }

@@ -1,22 +1,21 @@
 -- The slices of a purchase, write by write.
-use Rattle.std.proofs.Common.{◌≡◌, ℕ, ◌+◌, ◌-◌, ◌*◌, ◌==◌, true, false, not, List, ◌++◌, ◌∷◌, [], length, Some, refl, sym, ap, ap₂, ◌∙◌}
+use Rattle.std.proofs.Common.{◌≡◌, Bool, ℕ, ◌+◌, ◌-◌, ◌*◌, false, not, List, ◌++◌, ◌∷◌, [], length, Some, refl, sym, ap, ap₂, ◌∙◌}
 use Rattle.std.proofs.lemmas.Bool.{eq-eqb}
-use Rattle.std.specs.Prelude.{if◌then◌else◌, slice_get, slice_set, unwrap_or, find}
+use Rattle.std.specs.Prelude.{slice_get, slice_set, unwrap_or, find}
 use Rattle.hy_rows.specs.declared.district.District.{District}
 use Rattle.hy_rows.specs.declared.order.Order.{Order}
 use Rattle.hy_rows.specs.declared.item.Item.{Item}
 use Rattle.hy_rows.specs.declared.order_line.OrderLine.{OrderLine}
-use Rattle.hy_rows.specs.declared.stock.Stock.{Stock}
 use Rattle.hy_rows.specs.declared.customer.Customer.{Customer}
 use Rattle.hy_rows.specs.declared.warehouse.Warehouse.{Warehouse}
-use Rattle.hy_rows.specs.Finding.{first_or, is_district, is_warehouse, with_changed}
+use Rattle.hy_rows.specs.Finding.{first_or, is_district, is_warehouse}
 use Rattle.hy_rows.specs.Rows.{customer_of, district_of, warehouse_of}
 use Rattle.hy_rows.specs.Tables.{Tables}
 use Rattle.hy_schema.specs.Related.{is_item}
 use Rattle.hy_index.specs.Index.{with_entry}
 use Rattle.hy_commands.specs.declared.command.PurchaseLine.{PurchaseLine}
 use Rattle.hy_commands.specs.declared.command.Purchase.{Purchase}
-use Rattle.hy_commands.specs.NewOrders.{buyer, purchase_cents, purchase_total, total_of, is_stock, line_cents, line_row, no_item, sold, sold_line, order_number, order_row, with_next_order}
+use Rattle.hy_commands.specs.NewOrders.{buyer, purchase_cents, purchase_total, total_of, line_cents, line_row, no_item, order_number, order_row, with_next_order}
 use Rattle.hy_commands.specs.declared.command.Who.TheVariants as who
 use Rattle.hy_layout.specs.Layout.{IsMeantAt}
 use Rattle.hy_slices.specs.Slices.{headed_number}
@@ -24,7 +23,7 @@ use Rattle.hy_store.specs.Keys.{is_lesser_line}
 use Rattle.hy_store.specs.Stored.{Stored}
 use Rattle.hy_writers.specs.Begun.{IsBegunPurchase}
 use Rattle.hy_writers.specs.Changes.{IsFoundAt}
-use Rattle.hy_writers.specs.Purchases.{line_for, with_order, with_order_entries, with_order_line, with_waiting}
+use Rattle.hy_writers.specs.Purchases.{line_for, with_line_sold, with_order, with_order_entries, with_order_line, with_waiting}
 
 -- the number of a purchase is the next one of its district
 pub number-found : (warehouse place : ℕ) (order : Purchase) (tables : Tables) (district : District)
@@ -63,8 +62,7 @@ module _ (warehouse district_place place : ℕ) (order : Purchase) (begun : IsBe
 
 -- a line, write by write
 module _ (items : List Item) (warehouse district_place place number lines cents : ℕ) (order : Purchase)
-    (line : PurchaseLine) (item : Item) (s s1 s2 s3 : Stored) (district : District) (stock stock_row : Stock)
-    (row : OrderLine) where
+    (line : PurchaseLine) (item : Item) (s s1 s2 s3 : Stored) (district : District) (row : OrderLine) where
   abbrev with_line_row : Stored → Stored
   with_line_row t = record t { tables = record t.tables { order_lines = t.tables.order_lines ++ row ∷ [] } }
 
@@ -74,49 +72,39 @@ module _ (items : List Item) (warehouse district_place place number lines cents 
         with_entry is_lesser_line (record { order = number; district = order.district; number = lines + 1 }) place t.lines;
   }
 
-  pub line-added : order.warehouse ≡ warehouse → line.supply_warehouse ≡ warehouse
+  pub line-added : order.warehouse ≡ warehouse
       → IsFoundAt (is_district warehouse order.district) s.tables.districts district_place district
       → number ≡ district.next_order - 1
-      → IsFoundAt (is_stock warehouse line.item) s.tables.stock (line.item - 1) stock
-      → stock_row ≡ sold false line.quantity stock
       → find (is_item line.item) items ≡ Some item → cents ≡ line.quantity * item.price
       → row ≡ line_for order number (lines + 1) line cents
       → place ≡ length s1.tables.order_lines
-      → s1 ≡ record s { tables = record s.tables { stock = slice_set s.tables.stock (line.item - 1) stock_row } }
+      → s1 ≡ with_line_sold warehouse false line s
       → s2 ≡ record s1 { tables = record s1.tables { order_lines = s1.tables.order_lines ++ row ∷ [] } }
       → s3 ≡ with_line_entry s2 → s3 ≡ with_order_line items warehouse order lines line s
-  line-added home supplier found is_number found_stock is_stock_row is_item is_cents is_row is_place first second third =
+  line-added home found is_number is_item is_cents is_row is_place first second third =
       let at : place ≡ length s.tables.order_lines = is_place ∙ ap (λ (t : Stored). length t.tables.order_lines) first in
       let next : number ≡ headed_number order s.tables =
       is_number ∙ ap (λ n. n - 1) (sym (number-found warehouse district_place order s.tables district home found)) in
       let costs : cents ≡ line_cents items line =
       is_cents ∙ ap (λ found. line.quantity * (unwrap_or found no_item).price) (sym is_item) in
-      let at_home : (line.supply_warehouse == warehouse) ≡ true = eq-eqb line.supply_warehouse warehouse supplier in
-      let own : (order.warehouse == warehouse) ≡ true = eq-eqb order.warehouse warehouse home in
-      let sells : with_changed (is_stock warehouse line.item) (sold (not (order.warehouse == warehouse)) line.quantity) s.tables.stock
-      ≡ slice_set s.tables.stock (line.item - 1) stock_row =
-      ap (λ b. with_changed (is_stock warehouse line.item) (sold (not b) line.quantity) s.tables.stock) own
-      ∙ found_stock.changed (sold false line.quantity) ∙ ap (slice_set s.tables.stock (line.item - 1)) (sym is_stock_row) in
-      let falls : (if line.supply_warehouse == warehouse then sold_line warehouse order s.tables.stock line else s.tables.stock)
-      ≡ slice_set s.tables.stock (line.item - 1) stock_row =
-      ap (λ b. if b then sold_line warehouse order s.tables.stock line else s.tables.stock) at_home ∙ sells in
       let row_is : row ≡ line_row items order (headed_number order s.tables) (lines + 1) line =
       is_row ∙ ap₂ (λ (n : ℕ) (c : ℕ). line_for order n (lines + 1) line c) next costs in
       third ∙ ap with_line_entry (second ∙ ap with_line_row first)
-      ∙ ap₂ (λ (p : ℕ) (n : ℕ). record s {
-        tables = record s.tables {
+      ∙ ap₂ (λ (p : ℕ) (n : ℕ). record (with_line_sold warehouse false line s) {
+        tables = record (with_line_sold warehouse false line s).tables {
           order_lines = s.tables.order_lines ++ row ∷ [];
-          stock = slice_set s.tables.stock (line.item - 1) stock_row;
         };
         lines = with_entry is_lesser_line (record { order = n; district = order.district; number = lines + 1 }) p s.lines;
       }) at next
-      ∙ ap₂ (λ (r : OrderLine) (rows : List Stock). record s {
-        tables = record s.tables { order_lines = s.tables.order_lines ++ r ∷ []; stock = rows };
+      ∙ ap₂ (λ (r : OrderLine) (is_remote : Bool). record (with_line_sold warehouse is_remote line s) {
+        tables = record (with_line_sold warehouse is_remote line s).tables {
+          order_lines = s.tables.order_lines ++ r ∷ [];
+        };
         lines =
             with_entry is_lesser_line
             (record { order = headed_number order s.tables; district = order.district; number = lines + 1 })
             (length s.tables.order_lines) s.lines;
-      }) row_is (sym falls)
+      }) row_is (ap not (sym (eq-eqb order.warehouse warehouse home)))
 
 -- the total, from the rows that it reads
 pub total-found : (items : List Item) (warehouse district_place place cents : ℕ) (order : Purchase) (tables : Tables)

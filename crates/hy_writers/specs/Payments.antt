@@ -12,12 +12,12 @@ use Rattle.hy_commands.specs.Transactions.{payer}
 use Rattle.hy_layout.specs.Layout.{IsMeantAt, LayoutState}
 use Rattle.hy_schema.specs.Keys.{IsOneWarehouse}
 use Rattle.hy_store.specs.Stored.{Stored}
-use Rattle.hy_writers.specs.Begun.{IsBegunPayment}
+use Rattle.hy_writers.specs.Begun.{IsCustomerPayment, IsHomePayment}
 use Rattle.hy_writers.specs.Limits.{AreInBounds}
 
--- the home warehouse, its district and the history after a payment
-abbrev pub with_home_paid : Payment → Stored → Stored
-with_home_paid payment s = record s { tables = paid_in payment (payer payment s.tables).id s.tables }
+-- the home warehouse, its district and the history after a payment of a customer
+abbrev pub with_home_paid : Payment → ℕ → Stored → Stored
+with_home_paid payment customer s = record s { tables = paid_in payment customer s.tables }
 
 -- its customer after it
 abbrev pub with_customer_paid : Payment → Stored → Stored
@@ -39,10 +39,16 @@ history_for payment customer warehouse district = record {
 abbrev pub payment_reply : Payment → Customer → Reply
 payment_reply payment row = replies.Payment row.id (customer_paid payment.amount row).balance
 
--- what a slice of a payment needs: the warehouse has its rows, within their bounds, it has begun the payment, and the
--- customer who pays stands at a place
-pub record CanPay (layout : LayoutState) (payment : Payment) (place : ℕ) (s : Stored) : Type 0 where
+-- what the home's slice of a payment needs: the warehouse has its rows, within their bounds, and takes in the payment
+pub record CanPayHome (layout : LayoutState) (payment : Payment) (s : Stored) : Type 0 where
   pub rows : IsOneWarehouse layout.warehouse s.tables
   pub bounds : AreInBounds s.tables
-  pub begun : IsBegunPayment layout.warehouse payment
+  pub begun : IsHomePayment layout.warehouse payment
+
+-- and what the customer's slice needs: the warehouse has its rows, within their bounds, and the customer who pays is
+-- one of it, and stands at a place
+pub record CanPayCustomer (layout : LayoutState) (payment : Payment) (place : ℕ) (s : Stored) : Type 0 where
+  pub rows : IsOneWarehouse layout.warehouse s.tables
+  pub bounds : AreInBounds s.tables
+  pub begun : IsCustomerPayment layout.warehouse payment
   pub payer : IsMeantAt layout.warehouse payment.customer_district payment.who s.tables.customers place

@@ -1,8 +1,9 @@
 -- What the slices of a purchase write into a store: rows, and their entries in the indexes.
-use Rattle.std.specs.Prelude.{◌≡◌, ℕ, ◌+◌, ◌^◌, ◌<◌, ◌≤◌, List, [], ◌∷◌, ◌++◌, find, length, map, pos, All, Some}
+use Rattle.std.specs.Prelude.{◌≡◌, ℕ, ◌+◌, ◌*◌, ◌^◌, ◌<◌, ◌≤◌, ◌==◌, Bool, if◌then◌else◌, List, [], ◌∷◌, ◌++◌, find, length, map, pos, All, Some}
 use Rattle.hy_rows.specs.declared.item.Item.{Item}
 use Rattle.hy_rows.specs.declared.order_line.OrderLine.{OrderLine}
-use Rattle.hy_rows.specs.Limits.{max_items, max_lines, max_price}
+use Rattle.hy_rows.specs.Finding.{with_changed}
+use Rattle.hy_rows.specs.Limits.{max_items, max_lines, max_price, max_quantity}
 use Rattle.hy_rows.specs.Ranges.{IsBetween}
 use Rattle.hy_schema.specs.Keys.{AreUnique, IsOneWarehouse}
 use Rattle.hy_schema.specs.Related.{is_item}
@@ -10,14 +11,15 @@ use Rattle.hy_index.specs.Index.{with_entry}
 use Rattle.hy_commands.specs.declared.command.Purchase.{Purchase}
 use Rattle.hy_commands.specs.declared.command.PurchaseLine.{PurchaseLine}
 use Rattle.hy_commands.specs.Invariant.{stock_key}
-use Rattle.hy_commands.specs.NewOrders.{new_order_row, order_number}
+use Rattle.hy_commands.specs.Growth.{IsStockUpTo}
+use Rattle.hy_commands.specs.NewOrders.{is_stock, new_order_row, order_number, sold}
 use Rattle.hy_layout.specs.Layout.{KeepsPlaces, LayoutState, own_rows}
 use Rattle.hy_slices.specs.Slices.{headed, headed_number, lined}
 use Rattle.hy_store.specs.Keys.{is_lesser_customer, is_lesser_line, is_lesser_order, is_lesser_waiting}
 use Rattle.hy_store.specs.Changes.{with_new_order}
 use Rattle.hy_store.specs.Stored.{Stored}
 use Rattle.hy_writers.specs.Begun.{IsBegunLine, IsBegunPurchase}
-use Rattle.hy_writers.specs.Limits.{AreInBounds}
+use Rattle.hy_writers.specs.Limits.{AreInBounds, most_applied}
 
 -- the entries of an order with a number: that it stands at a place, and that it is its customer's last one
 abbrev pub with_order_entries : Purchase → ℕ → ℕ → Stored → Stored
@@ -63,6 +65,17 @@ with_order_line items warehouse order lines line s =
           (length s.tables.order_lines) s.lines;
     }
 
+-- a line of a purchase, from here or from another home, is sold where the warehouse supplies it
+abbrev pub with_line_sold : ℕ → Bool → PurchaseLine → Stored → Stored
+with_line_sold warehouse is_remote line s = record s {
+  tables = record s.tables {
+    stock =
+        if line.supply_warehouse == warehouse
+        then with_changed (is_stock warehouse line.item) (sold is_remote line.quantity) s.tables.stock
+        else s.tables.stock;
+  };
+}
+
 -- the row of ORDER-LINE for a line that costs so many cents
 abbrev pub line_for : Purchase → ℕ → ℕ → PurchaseLine → ℕ → OrderLine
 line_for order number place line cents = record {
@@ -85,6 +98,15 @@ pub record CanAddOrder (layout : LayoutState) (order : Purchase) (s : Stored) : 
   pub begun : IsBegunPurchase layout.warehouse order
   pub customer : order.customer < 2 ^ 16
 
+-- what the stock of a line needs: the warehouse has a row for each item, at its place, none of them too large for a
+-- line more, and the item of the line is there
+pub record CanSellLine (layout : LayoutState) (line : PurchaseLine) (s : Stored) : Type 0 where
+  pub unique : AreUnique (map stock_key s.tables.stock)
+  pub places : KeepsPlaces (own_rows layout) s.tables
+  pub bounds : All (IsStockUpTo (max_lines * most_applied)) s.tables.stock
+  pub quantity : IsBetween 1 max_quantity line.quantity
+  pub number : IsBetween 1 (length layout.load.items) line.item
+
 -- what a line behind so many needs: the warehouse has its rows, at their places and within their bounds, it has begun the
 -- purchase, whose head is done, and the item is the one of the line
 pub record CanAddLine (layout : LayoutState) (order : Purchase) (lines : ℕ) (line : PurchaseLine) (item : Item)
@@ -96,7 +118,7 @@ pub record CanAddLine (layout : LayoutState) (order : Purchase) (lines : ℕ) (l
   pub next : All (λ row. 0 < row.next_order) s.tables.districts
   pub begun : IsBegunPurchase layout.warehouse order
   pub few : lines < max_lines
-  pub passed : IsBegunLine layout.warehouse line
+  pub passed : IsBegunLine line
   pub found : find (is_item line.item) layout.load.items ≡ Some item
   pub number : IsBetween 1 (length layout.load.items) line.item
   pub small : line.item ≤ max_items

@@ -1,8 +1,9 @@
 -- What the checker computes on a small store, with values from hand calculation: lines delivered by their places, the head
--- and a line of a purchase, a delivery, and the text of a payment.
-use Rattle.std.specs.Prelude.{◌≡◌, ℕ, pos, true, false, None, Some, List, [], ◌∷◌, codes, refl}
+-- and lines of a purchase, lines that are sold to another home, a delivery, and both parts of a payment.
+use Rattle.std.specs.Prelude.{◌≡◌, ℕ, negsuc, pos, true, false, None, Some, List, [], ◌∷◌, codes, refl}
 use Rattle.hy_rows.specs.declared.customer.Customer.{Customer}
 use Rattle.hy_rows.specs.declared.district.District.{District}
+use Rattle.hy_rows.specs.declared.history.History.{History}
 use Rattle.hy_rows.specs.declared.item.Item.{Item}
 use Rattle.hy_rows.specs.declared.new_order.NewOrder.{NewOrder}
 use Rattle.hy_rows.specs.declared.order.Order.{Order}
@@ -23,8 +24,8 @@ use Rattle.hy_store.specs.declared.keys.OrderKey.{OrderKey}
 use Rattle.hy_store.specs.declared.keys.WaitingKey.{WaitingKey}
 use Rattle.hy_store.specs.Stored.{Stored}
 use Rattle.hy_writers.specs.Deliveries.{is_listed, lines_at, walked, with_delivery}
-use Rattle.hy_writers.specs.Payments.{history_for}
-use Rattle.hy_writers.specs.Purchases.{with_order, with_order_line}
+use Rattle.hy_writers.specs.Payments.{history_for, with_customer_paid, with_home_paid}
+use Rattle.hy_writers.specs.Purchases.{with_line_sold, with_order, with_order_line}
 use Rattle.hy_writers.specs.Waiting.{order_of_entry}
 
 -- ---- rows and entries of warehouse 1
@@ -185,6 +186,39 @@ abbrev lines_up : with_order_line items 1 purchase 0 bought headed_small ≡ rec
 }
 lines_up = refl
 
+-- the same line from warehouse 2: its row says so, and the stock stays
+abbrev bought_afar : PurchaseLine
+bought_afar = record { item = 2; supply_warehouse = 2; quantity = 5 }
+
+abbrev lines_up_afar : with_order_line items 1 purchase 0 bought_afar headed_small ≡ record headed_small {
+  tables = record headed_small.tables {
+    order_lines = line 3 5 1 11 700 ∷ line 4 6 1 0 90 ∷ line 3 6 1 0 250 ∷ line 3 6 2 0 130
+        ∷ (record (line 3 7 1 0 300) { supply_warehouse = 2 }) ∷ [];
+  };
+  lines = at_line 5 3 1 0 ∷ at_line 6 3 1 2 ∷ at_line 6 3 2 3 ∷ at_line 6 4 1 1 ∷ at_line 7 3 1 4 ∷ [];
+}
+lines_up_afar = refl
+
+-- ---- a line that warehouse 1 sells
+
+-- to its own order, and to one of another home, which S_REMOTE_CNT counts
+abbrev sells : with_line_sold 1 false bought small ≡ record small {
+  tables = record small.tables { stock = stock_with 35 5 1 ∷ [] };
+}
+sells = refl
+
+abbrev sells_afar : with_line_sold 1 true bought small ≡ record small {
+  tables = record small.tables { stock = (record (stock_with 35 5 1) { remote_count = 1 }) ∷ [] };
+}
+sells_afar = refl
+
+-- it sells no line that another warehouse supplies, and no other item
+abbrev sells_no_other : with_line_sold 1 true bought_afar small ≡ small
+sells_no_other = refl
+
+abbrev sells_no_item : with_line_sold 1 true (record { item = 3; supply_warehouse = 1; quantity = 5 }) small ≡ small
+sells_no_item = refl
+
 -- ---- a delivery in district 3
 
 abbrev delivery : Delivery
@@ -209,30 +243,58 @@ abbrev delivers : with_delivery delivery (order_by 4 3 6 0 2) 2 small ≡ record
 }
 delivers = refl
 
--- ---- a payment in district 3, by customer 4 of district 5
+-- ---- a payment in district 3 of warehouse 1, by customer 6 of district 5 of warehouse 2
 
 abbrev warehouse : Warehouse
-warehouse = record { id = 1; name = codes "W1"; tax = 500; ytd = pos 0 }
+warehouse = record { id = 1; name = codes "W1"; tax = 500; ytd = pos 70 }
 
 abbrev payment : Payment
 payment = record {
   warehouse = 1;
   district = 3;
-  customer_warehouse = 1;
+  customer_warehouse = 2;
   customer_district = 5;
-  who = who.Number 4;
+  who = who.Number 6;
   amount = 100;
   at = 20;
 }
 
-abbrev enters_history : history_for payment 4 warehouse (district_with 7) ≡ record {
-  customer = 4;
+abbrev paid : History
+paid = record {
+  customer = 6;
   customer_district = 5;
-  customer_warehouse = 1;
+  customer_warehouse = 2;
   district = 3;
   warehouse = 1;
   date = 20;
   amount = pos 100;
   information = codes "W1    D3";
 }
+
+abbrev enters_history : history_for payment 6 warehouse (district_with 7) ≡ paid
 enters_history = refl
+
+-- the home has the amount and the history, and no customer pays there
+abbrev home : Stored
+home = record small { tables = record small.tables { warehouses = warehouse ∷ [] } }
+
+abbrev pays_at_home : with_home_paid payment 6 home ≡ record home {
+  tables = record home.tables {
+    warehouses = record warehouse { ytd = pos 170 } ∷ [];
+    districts = record (district_with 7) { ytd = pos 100 } ∷ [];
+    history = paid ∷ [];
+  };
+}
+pays_at_home = refl
+
+-- a customer of warehouse 1 who pays at warehouse 2: the balance falls, and nothing else changes here
+abbrev payment_elsewhere : Payment
+payment_elsewhere = record payment { warehouse = 2; customer_warehouse = 1; customer_district = 3; who = who.Number 4 }
+
+abbrev customer_pays : with_customer_paid payment_elsewhere home ≡ record home {
+  tables = record home.tables {
+    customers =
+        record (customer_with 40 2) { balance = negsuc 59; ytd_payment = pos 1_100; payment_count = 2 } ∷ [];
+  };
+}
+customer_pays = refl

@@ -10,4 +10,4 @@ mod purchase;
 pub use delivery::deliver_in;
 pub use finds::{own_district, own_next_order};
 pub use payment::{pay_customer, pay_home};
-pub use purchase::{add_line, add_order, purchase_total};
+pub use purchase::{add_line, add_order, purchase_total, sell_line};

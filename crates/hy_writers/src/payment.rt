@@ -10,9 +10,9 @@ ghost use Rattle.hy_commands.specs.Growth.{IsCustomerUpTo, IsDistrictUpTo, IsMon
 ghost use Rattle.hy_commands.specs.Payments.{customer_paid, district_paid, warehouse_paid};
 ghost use Rattle.hy_commands.specs.Transactions.{payer};
 ghost use Rattle.hy_store.specs.Writes.{ChangesStore, IsWritableStore, WritesStore, stored_in};
-ghost use Rattle.hy_writers.specs.Begun.{IsBegunPayment};
+ghost use Rattle.hy_writers.specs.Begun.{IsHomePayment};
 ghost use Rattle.hy_writers.specs.Limits.{most_applied};
-ghost use Rattle.hy_writers.specs.Payments.{CanPay, history_for, payment_reply, with_customer_paid, with_home_paid};
+ghost use Rattle.hy_writers.specs.Payments.{CanPayCustomer, CanPayHome, history_for, payment_reply, with_customer_paid, with_home_paid};
 
 use crate::finds::{own_district, own_warehouse};
 use arrayvec::ArrayVec;
@@ -21,7 +21,7 @@ use hy_frames::Shortage;
 use hy_layout::Layout;
 use hy_rows::{Customer, District, History, Text, Warehouse};
 use hy_space::Space;
-use hy_store::{push_row, put_row, row_at, row_bytes_at};
+use hy_store::{push_row, put_row, row_at};
 use hy_undo::Undo;
 
 /// An amount that rises by some cents.
@@ -112,7 +112,7 @@ fn history_for(
     warehouse: &Warehouse,
     district: &District,
 ) -> History
-    requires payment { IsBegunPayment payment.now.warehouse payment.now }
+    requires payment { IsHomePayment payment.now.warehouse payment.now }
     requires home { payment.now.warehouse < 256 }
     requires warehouse { length warehouse.now.name ≤ 10 }
     requires district { length district.now.name ≤ 10 }
@@ -130,23 +130,23 @@ fn history_for(
     }
 }
 
-/// The first slice: W_YTD and D_YTD rise by the amount, and the payment of the customer at a place enters the history.
+/// What a payment does to its home: W_YTD and D_YTD rise by the amount, and the payment of the customer with a number
+/// enters the history.
 pub fn pay_home<const N: usize>(
     layout: &Layout,
     space: &mut Space<N>,
     undo: &mut Undo<N>,
     payment: &Payment,
-    place: u64,
+    customer: u16,
 ) -> Result<(), Shortage>
     requires writable { IsWritableStore N space.old undo.old }
-    requires can { CanPay layout.now payment.now place (stored_in N space.old) }
-    ensures paid { OnOk result (ChangesStore N space.old space.new (with_home_paid payment.now)) }
+    requires can { CanPayHome layout.now payment.now (stored_in N space.old) }
+    ensures paid { OnOk result (ChangesStore N space.old space.new (with_home_paid payment.now customer)) }
     ensures writes { WritesStore N space.old space.new undo.old undo.new }
     ensures no_frame { IsErrOf result Shortage.NoFrame → free_of space.new.frames ≡ 0 }
 {
     let warehouse = own_warehouse(layout, space);
     let district = own_district(layout, space, payment.district);
-    let payer = Customer::id_in(row_bytes_at::<Customer, N>(space, place));
     put_row(space, undo, 0, &warehouse_after(&warehouse, payment.amount))?;
     put_row(
         space,
@@ -157,13 +157,13 @@ pub fn pay_home<const N: usize>(
     push_row(
         space,
         undo,
-        &history_for(payment, payer, &warehouse, &district),
+        &history_for(payment, customer, &warehouse, &district),
     )?;
     Ok(())
 }
 
-/// The second slice, for the customer at a place: the balance falls by the amount, what was paid rises by it, and the
-/// number of payments by one. The reply has the customer's number, and the balance in cents.
+/// What a payment does to its customer, who stands at a place: the balance falls by the amount, what was paid rises by
+/// it, and the number of payments by one. The reply has the customer's number, and the balance in cents.
 pub fn pay_customer<const N: usize>(
     layout: &Layout,
     space: &mut Space<N>,
@@ -172,7 +172,7 @@ pub fn pay_customer<const N: usize>(
     place: u64,
 ) -> Result<Reply, Shortage>
     requires writable { IsWritableStore N space.old undo.old }
-    requires can { CanPay layout.now payment.now place (stored_in N space.old) }
+    requires can { CanPayCustomer layout.now payment.now place (stored_in N space.old) }
     ensures paid { OnOk result (ChangesStore N space.old space.new (with_customer_paid payment.now)) }
     ensures reply { IfOk result (λ reply. reply
         ≡ payment_reply payment.now (payer payment.now (stored_in N space.old).tables)) }

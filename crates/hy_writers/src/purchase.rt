@@ -2,6 +2,7 @@
 
 ghost use Rattle.std.specs.Prelude.{◌≡◌, ◌*◌, ◌≤◌, ◌<◌, ◌^◌, true, false, length, All, OnOk, IsErrOf};
 ghost use Rattle.hy_frames.specs.FrameTable.{free_of};
+ghost use Rattle.hy_undo.specs.Writes.{IsOutOfFrames};
 ghost use Rattle.hy_rows.specs.Limits.{max_line_cents, max_lines, max_price, max_quantity, max_stock};
 ghost use Rattle.hy_schema.specs.Keys.{IsOneWarehouse};
 ghost use Rattle.hy_space.specs.Space.{owner_bytes};
@@ -14,7 +15,7 @@ ghost use Rattle.hy_store.specs.Stored.{HasStore};
 ghost use Rattle.hy_store.specs.Writes.{ChangesStore, IsWritableStore, WritesStore, stored_in};
 ghost use Rattle.hy_writers.specs.Begun.{IsBegunLine, IsBegunPurchase};
 ghost use Rattle.hy_writers.specs.Limits.{most_applied};
-ghost use Rattle.hy_writers.specs.Purchases.{CanAddLine, CanAddOrder, line_for, with_order, with_order_entries, with_order_line, with_waiting};
+ghost use Rattle.hy_writers.specs.Purchases.{CanAddLine, CanAddOrder, CanSellLine, line_for, with_line_sold, with_order, with_order_entries, with_order_line, with_waiting};
 
 use crate::finds::{own_district, own_district_tax, own_next_order, own_stock, own_tax};
 use hy_commands::{Purchase, PurchaseLine, PurchaseLines};
@@ -161,18 +162,47 @@ fn quantity_left(stock: u16, quantity: u16) -> u16
     }
 }
 
-/// A row of STOCK after a line of the home warehouse.
-fn stock_after(row: &Stock, quantity: u64) -> Stock
+/// A row of STOCK after a line of a purchase, from here or from another home.
+fn stock_after(row: &Stock, quantity: u64, is_remote: bool) -> Stock
     requires row { IsStockUpTo (max_lines * most_applied) row.now }
     requires quantity { quantity ≤ max_quantity }
-    ensures { result ≡ sold false quantity row.now }
+    ensures { result ≡ sold is_remote quantity row.now }
 {
     Stock {
         quantity: quantity_left(row.quantity, quantity as u16),
         ytd: row.ytd + quantity,
         order_count: row.order_count + 1,
+        remote_count: row.remote_count + u64::from(is_remote),
         ..*row
     }
+}
+
+/// Sells the stock of a line, where this warehouse supplies it. The line is one of a purchase from here, or from
+/// another home, which S_REMOTE_CNT counts.
+pub fn sell_line<const N: usize>(
+    layout: &Layout,
+    space: &mut Space<N>,
+    undo: &mut Undo<N>,
+    line: &PurchaseLine,
+    is_remote: bool,
+) -> Result<(), Shortage>
+    requires writable { IsWritableStore N space.old undo.old }
+    requires can { CanSellLine layout.now line.now (stored_in N space.old) }
+    ensures sold { OnOk result (ChangesStore N space.old space.new
+        (with_line_sold layout.now.warehouse is_remote line.now)) }
+    ensures writes { WritesStore N space.old space.new undo.old undo.new }
+    ensures no_frame { IsErrOf result Shortage.NoFrame → IsOutOfFrames space.new }
+{
+    if line.supply_warehouse != u64::from(layout.warehouse()) {
+        return Ok(());
+    }
+    let stock = own_stock(layout, space, line.item);
+    put_row(
+        space,
+        undo,
+        line.item - 1,
+        &stock_after(&stock, line.quantity, is_remote),
+    )
 }
 
 /// What a line of a quantity costs, in cents.
@@ -195,7 +225,7 @@ fn line_for(
     cents: u64,
 ) -> OrderLine
     requires order { IsBegunPurchase home order.now }
-    requires line { IsBegunLine home line.now }
+    requires line { IsBegunLine line.now }
     requires item { line.now.item < 2 ^ 32 }
     requires cents { cents ≤ max_line_cents }
     ensures { result ≡ line_for order.now number place line.now cents }
@@ -206,14 +236,15 @@ fn line_for(
         warehouse: home,
         number: place,
         item: line.item as u32,
-        supply_warehouse: home,
+        supply_warehouse: line.supply_warehouse as u8,
         delivery_date: 0,
         quantity: line.quantity as u8,
         amount: cents as i64,
     }
 }
 
-/// A line of an order whose head is done, behind so many others. The item of the line is lent.
+/// A line of an order whose head is done, behind so many others; its stock is sold where this warehouse supplies it.
+/// The item of the line is lent.
 pub fn add_line<const N: usize>(
     layout: &Layout,
     space: &mut Space<N>,
@@ -233,13 +264,7 @@ pub fn add_line<const N: usize>(
     let home = layout.warehouse();
     let cents = cents_of(item, line.quantity);
     let number = own_next_order(layout, space, order.district) - 1;
-    let stock = own_stock(layout, space, line.item);
-    put_row(
-        space,
-        undo,
-        line.item - 1,
-        &stock_after(&stock, line.quantity),
-    )?;
+    sell_line(layout, space, undo, line, false)?;
     let row = line_for(order, home, number, lines + 1, line, cents);
     let place = push_row(space, undo, &row)?;
     let key = LineKey {

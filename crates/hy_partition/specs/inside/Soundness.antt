@@ -5,8 +5,10 @@ use Rattle.hy_rows.specs.Tables.{Lists, Tables, of_warehouse}
 use Rattle.hy_schema.specs.Loads.{IsLoad}
 use Rattle.hy_passes.specs.Worlds.{KeptState}
 use Rattle.hy_tickets.specs.Desks.{DeskState, is_out}
+use Rattle.hy_commands.specs.declared.command.Command.{Command}
 use Rattle.hy_commands.specs.declared.command.Commit.{Commit}
 use Rattle.hy_commands.specs.Commands.{is_reader}
+use Rattle.hy_commands.specs.Transactions.{begin_refusal_of}
 use Rattle.hy_slices.specs.Slices.{slice_count}
 use Rattle.hy_space.specs.Space.{SpaceState, owner_bytes}
 use Rattle.hy_undo.specs.UndoLog.{UndoLog, undone, empty_log}
@@ -14,11 +16,13 @@ use Rattle.hy_undo.specs.PrivatePages.{IsUndoLog}
 use Rattle.hy_store.specs.Stored.{HasStore, stored}
 use Rattle.hy_indexes.specs.Indexes.{HasIndexes}
 use Rattle.hy_tpcc.specs.Executor.{ExecutorState, IsUnderWay}
+use Rattle.hy_tpcc.specs.Parts.{HasPart}
 use Rattle.hy_partition.specs.Accounts.{IsBookOf}
 use Rattle.hy_partition.specs.Partition.{PartitionState, commits_of, layout_of, rows_now}
 use Rattle.hy_partition.specs.Limits.{most_kept}
 use Rattle.hy_partition.specs.Jobs.{RunningJob}
 use Rattle.hy_partition.specs.Headline.{SpellsBeginning}
+use Rattle.hy_partition.specs.Parts.{rows_with_part}
 
 -- bytes are those of a store with these rows and their indexes, on pages of n bytes
 pub record IsStoreOf (n : ℕ) (tables : Tables) (bytes : List (List (List ℕ))) : Type 0 where
@@ -28,6 +32,8 @@ pub record IsStoreOf (n : ℕ) (tables : Tables) (bytes : List (List (List ℕ))
 
 -- a job runs: the executor has done its slices, and its commit has room, if it will have one
 pub record Runs (n room : ℕ) (executor : ExecutorState) (p : PartitionState) (job : RunningJob) : Type 0 where
+  pub no_part : p.part ≡ None
+  pub begins : begin_refusal_of p.warehouse job.command (rows_now p) ≡ None
   pub no_reply : p.finished ≡ None
   pub slices : job.slices < slice_count job.command
   pub store : HasStore n (owner_bytes p.space)
@@ -40,6 +46,17 @@ pub record Rests (n : ℕ) (p : PartitionState) : Type 0 where
   pub undo : p.undo ≡ empty_log p.space
   pub pages : IsStoreOf n (rows_now p) (owner_bytes p.space)
 
+-- the part of a command over several warehouses is done: the live pages have the rows after it, and its commit has room
+pub record HoldsPart (n room : ℕ) (p : PartitionState) (command : Command) : Type 0 where
+  pub has_part : HasPart (layout_of p) command
+  pub pages : IsStoreOf n (rows_with_part p command) (owner_bytes p.space)
+  pub has_room : 1 ≤ room
+  pub below_max : length p.kept < p.max_kept
+
+-- no job runs
+abbrev pub IsIdle : ℕ → ℕ → PartitionState → Type 0
+IsIdle n room p = MatchOption p.part (Rests n p) (HoldsPart n room p)
+
 -- with pages of n bytes, room for so many more commits, and the executor of the warehouse
 pub record IsSound (n room : ℕ) (executor : ExecutorState) (p : PartitionState) : Type 0 where
   pub snapshots : (child : ℕ) → SpellsBeginning n p child
@@ -50,7 +67,7 @@ pub record IsSound (n room : ℕ) (executor : ExecutorState) (p : PartitionState
   pub layout : executor.layout ≡ layout_of p
   pub within : length p.kept ≤ p.max_kept
   pub limit : p.max_kept ≤ most_kept
-  pub job : MatchOption p.running (Rests n p) (Runs n room executor p)
+  pub job : MatchOption p.running (IsIdle n room p) (Runs n room executor p)
 
 -- how the parts of a partition belong together: they are of one warehouse, and of the load that the world names; a ticket
 -- that is out is that of an open snapshot; no more was drained than is kept; the book has what was taken in

@@ -19,6 +19,7 @@ partition_of p = record {
   drained = p.drained;
   book = p.book;
   running = p.running;
+  part = p.part;
   undo = p.undo;
   finished = p.finished;
   space = p.space;

@@ -1,6 +1,6 @@
 -- A load's numbers are small, and each commit adds as much as it can.
-use Rattle.hy_commands.proofs.Grown.{grown-commits}
+use Rattle.hy_commands.proofs.Grown.{grown-rows}
 use Rattle.hy_commands.proofs.theorem.numbers_stay_small.Goals as goal
 
 pub returns : goal.returns
-returns c = λ lists number commits is_load between. grown-commits lists is_load number commits between
+returns c = grown-rows

@@ -2,8 +2,14 @@ use Rattle.std.proofs.Common.{◌≡◌, ◌==◌, false, refl, subst, sym, true
 use Rattle.std.specs.List.{list_all}
 use Rattle.hy_commands.specs.Commands.{warehouses_of}
 use Rattle.hy_store.specs.Writes.{stored_in}
-use Rattle.hy_tpcc.proofs.BeginLaws.{not-refused, refused-customer, refused-district, refused-elsewhere}
+use Rattle.hy_tpcc.proofs.BeginLaws.{customer-home, not-refused, refused-customer, refused-district, refused-elsewhere}
 use Rattle.hy_tpcc.proofs.begin.begin_place.Goals as goal
+
+pub customer_place-requires : goal.customer_place-requires
+customer_place-requires g c =
+    customer-home c.args.layout.now.warehouse c.args.command.now
+    (subst (λ home. list_all (λ named. named == home) (warehouses_of c.args.command.now) ≡ true) c.warehouse.ensures
+    (sym c.if-not-names_only.ensures))
 
 pub returns-then-not-names_only-clause-refused : goal.returns-then-not-names_only-clause-refused
 returns-then-not-names_only-clause-refused g c =

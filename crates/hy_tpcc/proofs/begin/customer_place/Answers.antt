@@ -1,8 +1,7 @@
-use Rattle.std.proofs.Common.{◌≡◌, ◌==◌, false, subst, sym, true}
+use Rattle.std.proofs.Common.{◌≡◌, false, subst, sym, true}
 use Rattle.std.specs.Prelude.{MatchOption}
-use Rattle.std.specs.List.{list_all}
 use Rattle.hy_commands.specs.declared.command.Command.{Command}
-use Rattle.hy_commands.specs.Commands.{warehouses_of}
+use Rattle.hy_commands.specs.Parts.{customer_home_of}
 use Rattle.hy_commands.specs.Transactions.{has_customer}
 use Rattle.hy_tpcc.specs.Executor.{HasCustomerAt}
 use Rattle.hy_tpcc.proofs.BeginLaws.{begin-purchase}
@@ -14,6 +13,5 @@ returns-in-NewOrder c = λ tables keeps.
     subst (λ (command : Command). MatchOption c.place_of_number.result (has_customer command tables ≡ false)
     (λ place. (has_customer command tables ≡ true) × HasCustomerAt warehouse command tables place)) (sym c.in-NewOrder.is)
     (begin-purchase warehouse c.in-NewOrder.order tables c.place_of_number.result
-    (subst (λ (command : Command). list_all (λ named. named == warehouse) (warehouses_of command) ≡ true) c.in-NewOrder.is
-    c.requires)
+    (subst (λ (command : Command). customer_home_of command ≡ warehouse) c.in-NewOrder.is c.requires)
     (c.place_of_number.ensures tables keeps))

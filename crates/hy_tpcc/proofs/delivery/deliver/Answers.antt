@@ -15,6 +15,7 @@ pub returns-then-done-lt9-clause-under_way : goal.returns-then-done-lt9-clause-u
 returns-then-done-lt9-clause-under_way g c = record {
   store = c.in_ok-number.ensures.done.store;
   step = λ before now. record {
+    alone = now.alone;
     slices = c.in_ok-number.ensures.done.step before now.slices;
     delivered =
         c.push.ensures.items
@@ -27,6 +28,7 @@ pub returns-clause-under_way : goal.returns-clause-under_way
 returns-clause-under_way g c = record {
   store = c.in_ok-number.ensures.done.store;
   step = λ before now. record {
+    alone = now.alone;
     slices = c.in_ok-number.ensures.done.step before now.slices;
     delivered =
         c.push.ensures.items

@@ -13,7 +13,8 @@ pub add_line-requires : goal.add_line-requires
 add_line-requires g c =
     let can = can-add_line c.args.layout.now c.args.order.now c.args.place c.args.done c.requires.done.0
     (stored_in g.row.N c.args.space.now) c.line_behind-line.result c.in-Some.item.now
-    (subst IsLoad c.load.ensures c.sound.ensures) c.requires.behind c.requires.next c.line_behind-line.ensures
+    (subst IsLoad c.load.ensures c.sound.ensures) c.know_places.ensures.warehouse c.requires.behind
+    c.requires.next c.line_behind-line.ensures
     c.in-Some.ensures.item c.in-Some.ensures.number c.requires.done.1 in
     (lit< tt, (lit< tt, (c.requires.writable, can)))
 

@@ -1,4 +1,6 @@
-use Rattle.std.proofs.Common.{lit<}
+use Rattle.std.proofs.Common.{lit<, subst}
+use Rattle.hy_schema.specs.Loads.{IsLoad}
+use Rattle.hy_slices.proofs.GrowingSlices.{number-near}
 use Rattle.hy_commands.specs.declared.command.Command.TheVariants as commands
 use Rattle.hy_store.specs.Writes.{stored_in}
 use Rattle.hy_writers.specs.Purchases.{CanAddOrder}
@@ -14,7 +16,9 @@ add_order-requires g c =
     let now = c.requires.done.1 in
     let sound = sound-begun layout (commands.NewOrder c.args.order.now) c.args.place before
     (stored_in g.row.N c.args.space.now) now in
-    let begun = purchase-begun layout.warehouse c.args.order.now before now.begun.begun in
+    let near = number-near layout.load (subst IsLoad c.load.ensures c.sound.ensures) layout.warehouse
+    c.know_places.ensures.warehouse in
+    let begun = purchase-begun layout.warehouse c.args.order.now before near now.begun.begun in
     let small = customer-small layout c.args.order.now c.args.place before now.begun in
     let can : CanAddOrder layout c.args.order.now (stored_in g.row.N c.args.space.now) =
     record { rows = sound.sound.rows; bounds = sound.bounds; begun = begun; customer = small } in

@@ -4,20 +4,25 @@ use Rattle.hy_rows.specs.declared.district.District.{District}
 use Rattle.hy_commands.specs.declared.reply.Reply.TheVariants as replies
 use Rattle.hy_schema.specs.Loads.{IsLoad}
 use Rattle.hy_commands.proofs.ListLaws.{All-find}
+use Rattle.hy_slices.proofs.GrowingSlices.{items-fit, number-near}
 use Rattle.hy_store.specs.Writes.{stored_in}
-use Rattle.hy_tpcc.proofs.PurchaseLaws.{can-reply, items-fit, reply-ordered}
+use Rattle.hy_tpcc.proofs.PurchaseLaws.{can-reply, reply-ordered}
 use Rattle.hy_tpcc.proofs.purchase.reply_to_order.Goals as goal
 
 pub own_next_order-number-requires : goal.own_next_order-number-requires
 own_next_order-number-requires g c =
+    let near = number-near c.args.layout.now.load (subst IsLoad c.load.ensures c.sound.ensures)
+    c.args.layout.now.warehouse c.know_places.ensures.warehouse in
     let can = can-reply c.args.layout.now c.args.order.now c.args.place c.requires.done.0
-    (stored_in g.row.N c.args.space.now) c.requires.done.1 in
+    (stored_in g.row.N c.args.space.now) near c.requires.done.1 in
     (lit< tt, (c.requires.store, (can.rows, can.begun.district)))
 
 pub overflow_sub-number : goal.overflow_sub-number
 overflow_sub-number g c =
+    let near = number-near c.args.layout.now.load (subst IsLoad c.load.ensures c.sound.ensures)
+    c.args.layout.now.warehouse c.know_places.ensures.warehouse in
     let s = stored_in g.row.N c.args.space.now in
-    let can = can-reply c.args.layout.now c.args.order.now c.args.place c.requires.done.0 s c.requires.done.1 in
+    let can = can-reply c.args.layout.now c.args.order.now c.args.place c.requires.done.0 s near c.requires.done.1 in
     let read = c.own_next_order-number.ensures in
     let positive : 0 < (read.0).next_order = All-find (λ (row : District). 0 < row.next_order)
     (is_district c.args.layout.now.warehouse c.args.order.now.district) s.tables.districts
@@ -26,8 +31,10 @@ overflow_sub-number g c =
 
 pub purchase_total-requires : goal.purchase_total-requires
 purchase_total-requires g c =
+    let near = number-near c.args.layout.now.load (subst IsLoad c.load.ensures c.sound.ensures)
+    c.args.layout.now.warehouse c.know_places.ensures.warehouse in
     let can = can-reply c.args.layout.now c.args.order.now c.args.place c.requires.done.0
-    (stored_in g.row.N c.args.space.now) c.requires.done.1 in
+    (stored_in g.row.N c.args.space.now) near c.requires.done.1 in
     let fit = items-fit c.args.layout.now.load (subst IsLoad c.load.ensures c.sound.ensures) in
     (lit< tt, (c.requires.store, (can.rows, (can.begun, (fit, (can.known, can.buyer))))))
 

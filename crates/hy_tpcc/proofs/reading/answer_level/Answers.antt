@@ -1,6 +1,7 @@
 use Rattle.std.proofs.Common.{lit<}
 use Rattle.hy_commands.specs.declared.command.Command.TheVariants as commands
 use Rattle.hy_store.specs.Writes.{stored_in}
+use Rattle.hy_slices.proofs.BegunLaws.{alone-level}
 use Rattle.hy_tpcc.proofs.SliceLaws.{districts-begun, home-level, sound-begun}
 use Rattle.hy_tpcc.proofs.reading.answer_level.Goals as goal
 
@@ -17,7 +18,8 @@ stock_level-requires g c =
           sound-begun layout command c.args.place before (stored_in g.row.N c.args.space.now) now,
           (
             home-level layout.warehouse c.args.level.now before now.begun.begun,
-            districts-begun layout.warehouse command before now.begun.begun,
+            districts-begun layout.warehouse command before
+                (alone-level layout.warehouse c.args.level.now before now.begun.begun),
           ),
         ),
       ),

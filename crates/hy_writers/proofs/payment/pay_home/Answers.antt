@@ -1,14 +1,11 @@
-use Rattle.std.proofs.Common.{◌≡◌, ◌-◌, ◌<◌, ◌∙◌, sym, ap, subst, rules}
+use Rattle.std.proofs.Common.{◌≡◌, ◌-◌, ◌<◌, ◌∙◌, sym, subst, rules}
 use Rattle.std.proofs.lemmas.Bool.{eqb-true}
 use Rattle.hy_commands.proofs.ListLaws.{find-passes}
 use Rattle.hy_rows.specs.Finding.{is_warehouse}
-use Rattle.hy_rows.specs.declared.customer.Customer.{Customer}
-use Rattle.hy_rows.specs.Rows.{customer_of}
-use Rattle.hy_commands.specs.Payments.{paid_in}
 use Rattle.hy_commands.specs.Growth.{IsDistrictUpTo, IsWarehouseUpTo}
 use Rattle.hy_store.specs.Writes.{stored_in}
 use Rattle.hy_writers.specs.Limits.{most_applied}
-use Rattle.hy_writers.proofs.PaymentLaws.{home-paid, payer-at}
+use Rattle.hy_writers.proofs.PaymentLaws.{home-paid}
 use Rattle.hy_writers.proofs.WritesLaws.{all-at, writes-then}
 use Rattle.hy_writers.proofs.payment.pay_home.Goals as goal
 
@@ -49,21 +46,16 @@ returns-in_err-push_row-clause-writes g c =
 pub returns-clause-paid : goal.returns-clause-paid
 returns-clause-paid g c =
     let payment = c.args.payment.now in
-    let number = c.args.layout.now.warehouse in
-    let s = stored_in g.row.N c.args.space.now in
-    let row : Customer = customer_of c.row_bytes_at.result.now in
-    let payer_is = payer-at number payment s.tables c.args.place row c.requires.can.begun c.requires.can.payer
-    c.row_bytes_at.ensures.row in
-    let paid = home-paid number (payment.district - 1) c.id_in-payer.result payment c.requires.can.begun s
-    (stored_in g.row.N c.put_row.new.space) (stored_in g.row.N c.put_row-2.new.space)
-    (stored_in g.row.N c.push_row.new.space) c.own_warehouse-warehouse.result c.warehouse_after.result
-    c.own_district-district.result c.district_after.result c.history_for.result c.own_warehouse-warehouse.ensures
-    c.own_district-district.ensures c.warehouse_after.ensures c.district_after.ensures c.history_for.ensures
-    c.in_ok-put_row.ensures.put.changed c.in_ok-put_row-2.ensures.put.changed c.in_ok-push_row.ensures.pushed.changed in
-    let payer_id = c.id_in-payer.ensures ∙ ap (λ (row : Customer). row.id) (sym payer_is) in
     record {
       store = c.in_ok-push_row.ensures.pushed.store;
-      changed = paid ∙ ap (λ id. record s { tables = paid_in payment id s.tables }) payer_id;
+      changed = home-paid c.args.layout.now.warehouse (payment.district - 1) c.args.customer payment
+          c.requires.can.begun (stored_in g.row.N c.args.space.now) (stored_in g.row.N c.put_row.new.space)
+          (stored_in g.row.N c.put_row-2.new.space) (stored_in g.row.N c.push_row.new.space)
+          c.own_warehouse-warehouse.result c.warehouse_after.result
+          c.own_district-district.result c.district_after.result c.history_for.result c.own_warehouse-warehouse.ensures
+          c.own_district-district.ensures c.warehouse_after.ensures c.district_after.ensures c.history_for.ensures
+          c.in_ok-put_row.ensures.put.changed c.in_ok-put_row-2.ensures.put.changed
+          c.in_ok-push_row.ensures.pushed.changed;
     }
 
 -- src/payment.rt:137:1

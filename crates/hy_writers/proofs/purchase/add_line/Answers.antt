@@ -4,11 +4,9 @@ use Rattle.hy_writers.proofs.PurchaseLaws.{line-added}
 use Rattle.hy_writers.proofs.WritesLaws.{on_ok-then, writes-then}
 use Rattle.hy_writers.proofs.purchase.add_line.Goals as goal
 
--- src/purchase.rt:277:17
 pub returns-in_err-place-clause-writes : goal.returns-in_err-place-clause-writes
-returns-in_err-place-clause-writes g c = writes-then c.put_row.ensures.writes c.push_row.ensures.writes
+returns-in_err-place-clause-writes g c = writes-then c.sell_line.ensures.writes c.push_row.ensures.writes
 
--- src/purchase.rt:242:1
 pub returns-clause-added : goal.returns-clause-added
 returns-clause-added g c =
     on_ok-then c.insert_entry.result (λ inserted. record {
@@ -16,14 +14,14 @@ returns-clause-added g c =
       changed = line-added c.args.layout.now.load.items c.args.layout.now.warehouse
           (c.args.order.now.district - 1) c.in_ok-place.place (c.own_next_order-number.result - 1) c.args.lines
           c.cents_of-cents.result c.args.order.now c.args.line.now c.args.item.now (stored_in g.row.N c.args.space.now)
-          (stored_in g.row.N c.put_row.new.space) (stored_in g.row.N c.push_row.new.space)
-          (stored_in g.row.N c.insert_entry.new.space) c.own_next_order-number.ensures.0 c.own_stock-stock.result c.stock_after.result
-          c.line_for-row.result c.requires.can.begun.home c.requires.can.passed.home c.own_next_order-number.ensures.1 (ap (λ n. n - 1) c.own_next_order-number.ensures.2) c.own_stock-stock.ensures
-          c.stock_after.ensures c.requires.can.found c.cents_of-cents.ensures.cents c.line_for-row.ensures c.in_ok-place.ensures.place
-          c.in_ok-put_row.ensures.put.changed c.in_ok-place.ensures.pushed.changed inserted.changed;
+          (stored_in g.row.N c.sell_line.new.space) (stored_in g.row.N c.push_row.new.space)
+          (stored_in g.row.N c.insert_entry.new.space) c.own_next_order-number.ensures.0 c.line_for-row.result
+          c.requires.can.begun.home c.own_next_order-number.ensures.1
+          (ap (λ n. n - 1) c.own_next_order-number.ensures.2) c.requires.can.found c.cents_of-cents.ensures.cents
+          c.line_for-row.ensures c.in_ok-place.ensures.place
+          c.in_ok-sell_line.ensures.sold.changed c.in_ok-place.ensures.pushed.changed inserted.changed;
     }) c.insert_entry.ensures.inserted
 
--- src/purchase.rt:242:1
 pub returns-clause-writes : goal.returns-clause-writes
 returns-clause-writes g c =
-    writes-then (writes-then c.put_row.ensures.writes c.push_row.ensures.writes) c.insert_entry.ensures.writes
+    writes-then (writes-then c.sell_line.ensures.writes c.push_row.ensures.writes) c.insert_entry.ensures.writes

@@ -14,8 +14,8 @@ begin-requires g c =
     let p : PartitionState = partition_of c.self.inside in (
       omega arith,
       (
-        (rests g.row.N _ _ p c.self.invariant.0 (search rules)).pages.store,
-        store_now g.row.N _ _ p c.self.invariant.0 (search rules),
+        (rests g.row.N _ _ p c.self.invariant.0 (search rules) (search rules)).pages.store,
+        store_now g.row.N _ _ p c.self.invariant.0 (search rules) (search rules),
       ),
     )
 
@@ -25,7 +25,7 @@ invariant_of-self g c =
     let inside = c.self.inside in
     relaid (λ q. IsSound g.row.N inside.kept.room c.begin.new.self q × IsTied g.K.Loaded.load inside.kept inside.desk q) p
     c.begin.new.self.layout c.begin.ensures.layout
-    (sound-idle g.row.N _ _ p c.self.invariant.0 _ c.begin.new.self (search rules) c.begin.ensures.layout, c.self.invariant.1)
+    (sound-idle g.row.N _ _ p c.self.invariant.0 _ c.begin.new.self (search rules) (search rules) c.begin.ensures.layout, c.self.invariant.1)
 
 pub invariant_of-self-in-Err-make_room : goal.invariant_of-self-in-Err-make_room
 invariant_of-self-in-Err-make_room g c =
@@ -39,7 +39,7 @@ invariant_of-self-in-Err-make_room g c =
     (relaid (λ q. IsSound g.row.N room c.begin.new.self q
     × IsTied g.K.Loaded.load (record inside.kept { room = room }) inside.desk q) p
     c.begin.new.self.layout c.begin.ensures.layout (
-      sound-idle g.row.N _ _ p c.self.invariant.0 room c.begin.new.self (search rules) c.begin.ensures.layout,
+      sound-idle g.row.N _ _ p c.self.invariant.0 room c.begin.new.self (search rules) (search rules) c.begin.ensures.layout,
       tied-same g.K.Loaded.load inside.kept inside.desk p c.self.invariant.1 room p.running p.undo p.finished p.space,
     ))
 
@@ -54,7 +54,7 @@ invariant_of-self-2 g c =
     let again : c.command-2.result.now ≡ job.command = c.command-2.ensures ∙ sym own in
     let begun_sound : IsSound g.row.N room c.begin.new.self (record p { running = Some job }) =
     sound-begun g.row.N _ _ p c.self.invariant.0 room c.begin.new.self job
-    (search rules) (search rules) (ap (λ (j : RunningJob). j.slices) c.begin-2.ensures) c.begin.ensures.layout
+    (search rules) (search rules) (search rules) (ap (λ (j : RunningJob). j.slices) c.begin-2.ensures) c.begin.ensures.layout
     (rw same at c.in_default.ensures.begun) (rw same at c.in_default.ensures.under_way)
     (rw again at c.in_default-make_room.ensures.room) in
     subst (λ (list : KeptState Commit).

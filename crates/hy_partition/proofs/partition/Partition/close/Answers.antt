@@ -102,6 +102,7 @@ returns-clause-closes g c =
         drained = refl;
         book = refl;
         running = refl;
+        part = refl;
         undo = refl;
         finished = refl;
         owner = c.close.ensures.owner;

@@ -28,6 +28,7 @@ returns-then-is_err-clause-err g c =
         drained = refl;
         book = refl;
         running = refl;
+        part = refl;
         undo = refl;
         finished = refl;
         owner = record { table = refl; bytes = refl };

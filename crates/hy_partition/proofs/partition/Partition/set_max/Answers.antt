@@ -21,6 +21,7 @@ returns-clause-job g c =
       drained = refl;
       book = refl;
       running = refl;
+      part = refl;
       undo = refl;
       finished = refl;
       owner = c.set_max.ensures.owner;

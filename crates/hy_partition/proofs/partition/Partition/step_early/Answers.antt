@@ -135,7 +135,7 @@ invariant_of-self-in-Err g c =
     IsSound g.row.N inside.kept.room next (record after { running = place })
     × IsTied g.K.Loaded.load inside.kept inside.desk (record after { running = place })) (sym c.take.ensures.after) (
       sound-refused g.row.N _ executor p c.self.invariant.0 next c.roll_back.new.space c.roll_back.new.self
-          c.put.new.place c.slice.ensures.layout back.log back.undo_log (back.bytes ∙ writes.undoes.undone) children,
+          c.put.new.place job running c.slice.ensures.layout back.log back.undo_log (back.bytes ∙ writes.undoes.undone) children,
       tied-same g.K.Loaded.load inside.kept inside.desk p c.self.invariant.1 inside.kept.room None c.roll_back.new.self
           c.put.new.place c.roll_back.new.space,
     ))
