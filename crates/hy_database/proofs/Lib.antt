@@ -1,0 +1,10 @@
+pub mod PartLaws
+pub mod EachLaws
+pub mod KeptLaws
+pub mod Replays
+pub mod NumberedLaws
+pub mod DoesLaws
+pub mod PaidLaws
+pub mod PaidLoad
+pub mod JoinedLaws
+pub mod Consistent
