@@ -1,0 +1,10 @@
+pub mod TurnLaws
+pub mod FullLaws
+pub mod PlaceLaws
+pub mod RefusedLaws
+pub mod PairLaws
+pub mod DoingLaws
+pub mod ReplyLaws
+pub mod StepLaws
+pub mod BehindLaws
+pub mod KeepLaws

@@ -1,0 +1,85 @@
+use Rattle.std.proofs.Common.{◌-◌, ◌<◌, length, inr, refl, sym, ◌∙◌, subst, arith}
+use Rattle.hy_rows.proofs.BetweenLaws.{bounds}
+use Rattle.hy_schema.specs.declared.refusal.Refusal.TheVariants as refusals
+use Rattle.hy_commands.specs.declared.command.Command.{Command}
+use Rattle.hy_tpcc.specs.Parts.{HasPart}
+use Rattle.hy_partition.specs.Partition.{layout_of}
+use Rattle.hy_partition.specs.Parts.{HasNoPart, IsWhyUndone}
+use Rattle.hy_crossing.specs.Crossings.{CanDoIfNamed, FailsHere}
+use Rattle.hy_crossing.specs.Lists.{ChangesAt}
+use Rattle.hy_crossing.proofs.DoingLaws.{as-before, err-both, err-given, untouched}
+use Rattle.hy_crossing.proofs.PlaceLaws.{holds-at}
+use Rattle.hy_crossing.proofs.doing.do_here.Goals as goal
+
+pub returns-then-not-names-clause-done : goal.returns-then-not-names-clause-done
+returns-then-not-names-clause-done g c =
+    let number = c.args.number in
+    let rows = g.P.Parts.states c.args.parts.now in
+    let p = c.part-part.result.now in
+    let ends = bounds 1 (length rows) number c.requires.there in
+    let within : number - 1 < length rows = omega (arith, ends.0, ends.1) in (
+      p,
+      p,
+      c.part-part.ensures.value,
+      g.P.Parts.states_put c.args.parts.now (number - 1) p within,
+      inr (sym c.names.ensures ∙ c.if-not-names.true, (refl, refl)),
+    )
+
+pub returns-in_err-copy-clause-refused : goal.returns-in_err-copy-clause-refused
+returns-in_err-copy-clause-refused g c =
+    let number = c.args.number in
+    let command = c.args.command.now in
+    let rows = g.P.Parts.states c.args.parts.now in
+    let p = c.part-part.result.now in
+    let ends = bounds 1 (length rows) number c.requires.there in
+    let within : number - 1 < length rows = omega (arith, ends.0, ends.1) in
+    let named = sym c.names.ensures ∙ c.if-not-names.false in
+    let can = holds-at (CanDoIfNamed command number) rows (number - 1) p within c.part-part.ensures.value c.requires.can named in
+    err-given (λ why. ChangesAt (FailsHere command why number) (number - 1) rows
+    (g.P.Parts.states (g.P.Parts.put c.args.parts.now (number - 1) p))) c.from_residual.result refusals.NoMemory
+    c.from_residual.ensures.1 (
+      p,
+      p,
+      c.part-part.ensures.value,
+      g.P.Parts.states_put c.args.parts.now (number - 1) p within,
+      (named, untouched g.row.N p c.headline.ensures can.idle, inr refl),
+    )
+
+pub do_part-requires : goal.do_part-requires
+do_part-requires g c =
+    let number = c.args.number in
+    let command = c.args.command.now in
+    let rows = g.P.Parts.states c.args.parts.now in
+    let p = c.part-part.result.now in
+    let ends = bounds 1 (length rows) number c.requires.there in
+    let within : number - 1 < length rows = omega (arith, ends.0, ends.1) in
+    let named = sym c.names.ensures ∙ c.if-not-names.false in
+    let can = holds-at (CanDoIfNamed command number) rows (number - 1) p within c.part-part.ensures.value c.requires.can named in (
+      omega arith,
+      (
+        can.idle,
+        (subst (λ (command : Command). HasPart (layout_of p) command) (sym c.in_ok-copy.ensures) can.has_part, can.few),
+      ),
+    )
+
+pub returns-clause-refused : goal.returns-clause-refused
+returns-clause-refused g c =
+    let number = c.args.number in
+    let command = c.args.command.now in
+    let rows = g.P.Parts.states c.args.parts.now in
+    let p = c.part-part.result.now in
+    let new = c.do_part.new.self in
+    let ends = bounds 1 (length rows) number c.requires.there in
+    let within : number - 1 < length rows = omega (arith, ends.0, ends.1) in
+    let named = sym c.names.ensures ∙ c.if-not-names.false in
+    let can = holds-at (CanDoIfNamed command number) rows (number - 1) p within c.part-part.ensures.value c.requires.can named in
+    err-both (HasNoPart p new) (IsWhyUndone p.space new.space)
+    (λ why. ChangesAt (FailsHere command why number) (number - 1) rows
+    (g.P.Parts.states (g.P.Parts.put c.args.parts.now (number - 1) new))) c.do_part.result c.do_part.ensures.undone
+    c.do_part.ensures.refused (λ why none reason. (
+      p,
+      new,
+      c.part-part.ensures.value,
+      g.P.Parts.states_put c.args.parts.now (number - 1) new within,
+      (named, as-before g.row.N p c.headline.ensures can.idle new none, reason),
+    ))

@@ -1,0 +1,104 @@
+use Rattle.std.proofs.Common.{◌≡◌, ◌+◌, ◌-◌, ◌<◌, ◌==◌, ℕ, suc, not, cond, List, length, filter, refl, sym, ap, ◌∙◌, subst, arith}
+use Rattle.std.specs.Prelude.{Option, IfSome, slice_get}
+use Rattle.hy_rows.proofs.BetweenLaws.{bounds}
+use Rattle.hy_commands.specs.Commands.{home_of, warehouses_of}
+use Rattle.hy_partition.specs.Jobs.{Log}
+use Rattle.hy_partition.specs.Partition.{PartitionState}
+use Rattle.hy_crossing.specs.Crossings.{IsPartition, IsReadyIfNamed, KeepsHere, KeepsPartIfNamed, is_named}
+use Rattle.hy_crossing.specs.Lists.{ChangesAt}
+use Rattle.hy_crossing.proofs.BehindLaws.{told-all, told-more, told-none}
+use Rattle.hy_crossing.proofs.KeepLaws.{home-there, keep-step, share-early, share-late}
+use Rattle.hy_crossing.proofs.TurnLaws.{done-end, done-get, done-start}
+use Rattle.hy_crossing.proofs.keeping.keep_parts.Goals as goal
+
+pub loop-place-init : goal.loop-place-init
+loop-place-init g c =
+    let command = c.args.command.now in
+    let olds = g.P.Parts.states c.args.parts.now in
+    let ends = bounds 1 (length olds) (home_of command) (home-there command (length olds) c.requires.there) in (
+      done-start (KeepsPartIfNamed command c.args.crossing c.args.list.now.log) olds,
+      λ early. refl,
+      λ late. absurd (omega (arith, late, ends.0)),
+      refl,
+      c.requires.behind ∙ sym (told-none (length olds) (warehouses_of command) c.requires.there),
+      c.len-place-end.ensures,
+    )
+
+pub keep_here-given-requires-clause-is : goal.keep_here-given-requires-clause-is
+keep_here-given-requires-clause-is g c =
+    let place = c.loop-place.place in
+    let olds = g.P.Parts.states c.args.parts.now in
+    let news = g.P.Parts.states c.loop-place.parts in
+    let back : place ≡ place + 1 - 1 = omega arith in
+    let next : suc place ≡ place + 1 = omega arith in
+    let same = done-get (KeepsPartIfNamed c.args.command.now c.args.crossing c.args.list.now.log) place olds news
+    c.loop-place.invariant.0 in
+    subst (λ n. IfSome (slice_get news n) (IsPartition g.K.Loaded.load (place + 1))) back
+    (subst (λ n. IfSome (slice_get news place) (IsPartition g.K.Loaded.load n)) next
+    (subst (λ (row : Option PartitionState). IfSome row (IsPartition g.K.Loaded.load (suc place))) (sym same)
+    (c.requires.parts.each place)))
+
+pub keep_here-given-requires-clause-ready : goal.keep_here-given-requires-clause-ready
+keep_here-given-requires-clause-ready g c =
+    let place = c.loop-place.place in
+    let command = c.args.command.now in
+    let crossing = c.args.crossing in
+    let log = c.args.list.now.log in
+    let olds = g.P.Parts.states c.args.parts.now in
+    let news = g.P.Parts.states c.loop-place.parts in
+    let back : place ≡ place + 1 - 1 = omega arith in
+    let next : suc place ≡ place + 1 = omega arith in
+    let same = done-get (KeepsPartIfNamed command crossing log) place olds news c.loop-place.invariant.0 in
+    subst (λ (log : Log). IfSome (slice_get news (place + 1 - 1)) (IsReadyIfNamed command crossing log (place + 1)))
+    (sym c.loop-place.invariant.3)
+    (subst (λ n. IfSome (slice_get news n) (IsReadyIfNamed command crossing log (place + 1))) back
+    (subst (λ n. IfSome (slice_get news place) (IsReadyIfNamed command crossing log n)) next
+    (subst (λ (row : Option PartitionState). IfSome row (IsReadyIfNamed command crossing log (suc place))) (sym same)
+    (c.requires.ready place))))
+
+pub loop-place-preserved : goal.loop-place-preserved
+loop-place-preserved g c =
+    let place = c.loop-place.place in
+    let command = c.args.command.now in
+    let crossing = c.args.crossing in
+    let log = c.args.list.now.log in
+    let olds = g.P.Parts.states c.args.parts.now in
+    let middles = g.P.Parts.states c.loop-place.parts in
+    let news = g.P.Parts.states c.keep_here-given.new.parts in
+    let given = c.keep_here-given.result in
+    let done = c.loop-place.invariant.0 in
+    let within : place < length olds = omega (arith, c.loop-place-test.true, c.loop-place.invariant.5) in
+    let changes = subst (λ (log : Log). ChangesAt (λ old new. KeepsHere command crossing log (place + 1) old new given)
+    (place + 1 - 1) middles news) c.loop-place.invariant.3 c.keep_here-given.ensures.kept in (
+      keep-step command crossing log place olds middles done within given news changes,
+      λ before. c.note_share.ensures ∙ share-early command crossing log place olds middles done within given news
+          changes g.K.Loaded.load c.requires.parts c.loop-place.share c.loop-place.invariant.1 before,
+      λ passed. c.note_share.ensures ∙ share-late command crossing log place olds middles done within given news
+          changes g.K.Loaded.load c.requires.parts c.loop-place.share c.loop-place.invariant.1
+          c.loop-place.invariant.2 passed,
+      c.keep_here-given.ensures.log ∙ c.loop-place.invariant.3,
+      c.keep_here-given.ensures.behind
+          ∙ ap (λ (ws : List ℕ). cond (is_named command (place + 1)) (filter (λ w. not (w == place + 1)) ws) ws)
+          c.loop-place.invariant.4 ∙ told-more place (warehouses_of command),
+      c.loop-place.invariant.5,
+    )
+
+pub returns-clause-kept : goal.returns-clause-kept
+returns-clause-kept g c =
+    done-end (KeepsPartIfNamed c.args.command.now c.args.crossing c.args.list.now.log) c.loop-place.place
+    (g.P.Parts.states c.args.parts.now) (g.P.Parts.states c.loop-place.parts) c.loop-place.invariant.0
+    (omega (arith, c.loop-place-test.false, c.loop-place.invariant.5))
+
+pub returns-clause-share : goal.returns-clause-share
+returns-clause-share g c =
+    let olds = g.P.Parts.states c.args.parts.now in
+    let ends = bounds 1 (length olds) (home_of c.args.command.now)
+    (home-there c.args.command.now (length olds) c.requires.there) in
+    c.loop-place.invariant.2 (omega (arith, ends.1, c.loop-place-test.false, c.loop-place.invariant.5))
+
+pub returns-clause-told : goal.returns-clause-told
+returns-clause-told g c =
+    let olds = g.P.Parts.states c.args.parts.now in
+    c.loop-place.invariant.4
+    ∙ told-all (length olds) c.loop-place.place (warehouses_of c.args.command.now) c.requires.there
+    (omega (arith, c.loop-place-test.false, c.loop-place.invariant.5))

@@ -1,0 +1,187 @@
+-- What a command over several warehouses does to the partitions of a load, step by step: what runs is ended, the command
+-- is looked at, and its parts are done in all warehouses that it names or in none, and kept.
+use Rattle.std.specs.Prelude.{◌≡◌, ◌⊎◌, ◌<◌, ℕ, suc, ◌-◌, ◌==◌, ◌&&◌, ◌||◌, Bool, true, false, if◌then◌else◌, List, [], ◌∷◌, ◌++◌, length, slice_get, Option, None, Some, IfSome, MatchOption}
+use Rattle.std.specs.List.{list_any}
+use mathlib.Core.List.{IsPrefix}
+use Rattle.hy_ledger.specs.declared.view.ShareState.{ShareState}
+use Rattle.hy_rows.specs.Tables.{Lists}
+use Rattle.hy_schema.specs.declared.refusal.Refusal.{Refusal}
+use Rattle.hy_schema.specs.declared.refusal.Refusal.TheVariants as refusals
+use Rattle.hy_commands.specs.declared.command.Command.{Command}
+use Rattle.hy_commands.specs.declared.command.Commit.TheVariants as commits
+use Rattle.hy_commands.specs.Commands.{warehouses_of}
+use Rattle.hy_commands.specs.Parts.{customer_home_of, database_of, refusal_in}
+use Rattle.hy_space.specs.Space.{owner_bytes}
+use Rattle.hy_commands.specs.declared.reply.Reply.{Reply}
+use Rattle.hy_tpcc.specs.Parts.{FindsPayer, HasPart, reply_of_part}
+use Rattle.hy_undo.specs.UndoLog.{empty_log}
+use Rattle.hy_partition.specs.Jobs.{Log}
+use Rattle.hy_partition.specs.Partition.{PartitionState, layout_of, projection_of, rows_now}
+use Rattle.hy_partition.specs.Parts.{DoesPart, HasNoPart, IsWhyUndone, KeepsBeside, KeepsPart, PartLacksFrame}
+use Rattle.hy_partition.specs.Steps.{Accepts, KeepsNothing, Refuses, is_full}
+use Rattle.hy_crossing.specs.Lists.{InTurn, Pairwise}
+
+-- the partitions are those of the warehouses 1, 2, 3 and so on of a load
+abbrev pub IsPartition : Lists → ℕ → PartitionState → Type 0
+IsPartition lists number p = (p.load ≡ lists) × (p.warehouse ≡ number)
+
+pub record ArePartitions (lists : Lists) (parts : List PartitionState) : Type 0 where
+  pub count : length parts ≡ length lists.tables.warehouses
+  pub each : (place : ℕ) → IfSome (slice_get parts place) (IsPartition lists (suc place))
+
+-- whether a command names the warehouse with a number
+abbrev pub is_named : Command → ℕ → Bool
+is_named command number = list_any (λ named. named == number) (warehouses_of command)
+
+-- one thing where a command names the warehouse with a number, and another where it doesn't
+abbrev pub IfNamed : Command → ℕ → Type 0 → Type 0 → Type 0
+IfNamed command number Named Other =
+    ((is_named command number ≡ true) × Named) ⊎ ((is_named command number ≡ false) × Other)
+
+-- ---- what runs in the warehouses that a command names
+
+-- the job that ran in a partition, if one did, has come to its end, with the serial list before and after
+abbrev pub EndsJob : Log → Log → PartitionState → PartitionState → Type 0
+EndsJob before after old new = MatchOption old.running ((new ≡ old) × (after ≡ before)) (λ job.
+    Accepts job (Some before) (Some after) old new ⊎ Refuses job (Some before) (Some after) old new)
+
+-- where the command names its warehouse; another partition stays
+abbrev pub EndsIfNamed : Command → ℕ → Log → Log → PartitionState → PartitionState → Type 0
+EndsIfNamed command number before after old new =
+    IfNamed command number (EndsJob before after old new) ((new ≡ old) × (after ≡ before))
+
+-- in all partitions, one after the other
+abbrev pub EndsJobs : Command → Log → Log → List PartitionState → List PartitionState → Type 0
+EndsJobs command before after olds news = InTurn (EndsIfNamed command) 1 before after olds news
+
+-- the partitions of the warehouses that a command names are told the whole serial list; what they have kept is all that
+-- it has of them
+abbrev pub TellsIfNamed : Command → Log → ℕ → PartitionState → PartitionState → Type 0
+TellsIfNamed command log number old new =
+    IfNamed command number
+    ((new ≡ record old { seen = log }) × (old.kept ≡ projection_of old.warehouse log) × IsPrefix old.seen log)
+    (new ≡ old)
+
+abbrev pub TellsNamed : Command → Log → List PartitionState → List PartitionState → Type 0
+TellsNamed command log olds news = Pairwise (TellsIfNamed command log) 1 olds news
+
+-- ---- refusals
+
+-- whether one of the warehouses that a command names, from the one with a number on, keeps as many commits as it may
+abbrev pub some_is_full : Command → ℕ → List PartitionState → Bool
+some_is_full command number [] = false
+some_is_full command number (p ∷ later) = is_named command number && is_full p || some_is_full command (suc number) later
+
+-- a full kept list is found before a missing item
+abbrev pub with_full : Bool → Option Refusal → Option Refusal
+with_full full (Some refusals.NoSuchItem) = Some (if full then refusals.HistoryFull else refusals.NoSuchItem)
+with_full full None = if full then Some refusals.HistoryFull else None
+with_full full other = other
+
+-- why a command is refused before its parts are tried: known by the load, since no warehouse, district, customer or item
+-- ever comes or goes, and by whether a kept list is full
+abbrev pub loaded_refusal : Lists → Command → List PartitionState → Option Refusal
+loaded_refusal lists command parts = with_full (some_is_full command 1 parts) (refusal_in (database_of lists) command)
+
+-- nothing runs in the partitions of the warehouses that a command names, and no part is done there
+abbrev pub IsIdleIfNamed : Command → ℕ → PartitionState → Type 0
+IsIdleIfNamed command number p = is_named command number ≡ true → (p.running ≡ None) × (p.part ≡ None)
+
+abbrev pub AreIdle : Command → List PartitionState → Type 0
+AreIdle command parts = (place : ℕ) → IfSome (slice_get parts place) (IsIdleIfNamed command (suc place))
+
+-- what is found of the customer whom a command names, in the partition of that customer's warehouse
+abbrev pub FindsPayerIn : List PartitionState → Command → Option ℕ → Type 0
+FindsPayerIn parts command found =
+    IfSome (slice_get parts (customer_home_of command - 1)) (λ p. FindsPayer command (rows_now p) found)
+
+abbrev pub IsPayerIn : List PartitionState → Command → ℕ → Type 0
+IsPayerIn parts command number = FindsPayerIn parts command (Some number)
+
+-- ---- parts that are done
+
+-- a part of a command can be done in a partition, where it has one
+pub record CanDoPart (command : Command) (p : PartitionState) : Type 0 where
+  pub idle : (p.running ≡ None) × (p.part ≡ None)
+  pub has_part : HasPart (layout_of p) command
+  pub few : length p.kept < p.max_kept
+
+abbrev pub CanDoIfNamed : Command → ℕ → PartitionState → Type 0
+CanDoIfNamed command number p = is_named command number ≡ true → CanDoPart command p
+
+abbrev pub CanDoParts : Command → List PartitionState → Type 0
+CanDoParts command parts = (place : ℕ) → IfSome (slice_get parts place) (CanDoIfNamed command (suc place))
+
+-- no part is done, and the pages have the bytes of before, though some may be copies
+pub record IsAsBefore (old new : PartitionState) : Type 0 where
+  pub part : new.part ≡ None
+  pub undo : new.undo ≡ empty_log new.space
+  pub bytes : owner_bytes new.space ≡ owner_bytes old.space
+  pub nothing : KeepsNothing old new
+  pub beside : KeepsBeside old new
+
+-- the part is done in a warehouse that the command names, and nothing in another one; with the reply
+abbrev pub DoesHere : Command → ℕ → PartitionState → PartitionState → Option Reply → Type 0
+DoesHere command number old new reply =
+    IfNamed command number (DoesPart command old new reply) ((new ≡ old) × (reply ≡ None))
+
+abbrev pub DoesIfNamed : Command → ℕ → PartitionState → PartitionState → Type 0
+DoesIfNamed command number old new = (reply : Option Reply) × DoesHere command number old new reply
+
+-- it isn't done in a warehouse that the command names
+abbrev pub FailsHere : Command → Refusal → ℕ → PartitionState → PartitionState → Type 0
+FailsHere command why number old new =
+    (is_named command number ≡ true) × IsAsBefore old new × IsWhyUndone old.space new.space why
+
+-- nothing is done there in the end
+abbrev pub LeavesIfNamed : Command → ℕ → PartitionState → PartitionState → Type 0
+LeavesIfNamed command number old new = IfNamed command number ((new ≡ old) ⊎ IsAsBefore old new) (new ≡ old)
+
+-- the reply is that of the warehouse whose customer the command names
+abbrev pub RepliesFrom : Command → List PartitionState → Option Reply → Type 0
+RepliesFrom command parts reply =
+    IfSome (slice_get parts (customer_home_of command - 1))
+    (λ p. reply ≡ reply_of_part (layout_of p) command (rows_now p))
+
+-- one of the partitions lacked a frame
+abbrev pub SomeLacksFrame : List PartitionState → List PartitionState → Type 0
+SomeLacksFrame (old ∷ olds) (new ∷ news) = PartLacksFrame old.space new.space ⊎ SomeLacksFrame olds news
+SomeLacksFrame olds news = ⊥
+
+-- why not all parts are done: in one of them a frame lacked, or memory was refused
+abbrev pub IsWhyNotDone : List PartitionState → List PartitionState → Refusal → Type 0
+IsWhyNotDone olds news why = ((why ≡ refusals.NoFrame) × SomeLacksFrame olds news) ⊎ (why ≡ refusals.NoMemory)
+
+-- ---- parts that are undone
+
+-- nothing runs in the partitions of the warehouses that a command names
+abbrev pub IsQuietIfNamed : Command → ℕ → PartitionState → Type 0
+IsQuietIfNamed command number p = is_named command number ≡ true → p.running ≡ None
+
+abbrev pub AreQuiet : Command → List PartitionState → Type 0
+AreQuiet command parts = (place : ℕ) → IfSome (slice_get parts place) (IsQuietIfNamed command (suc place))
+
+-- the part of a command is undone, where it names the warehouse
+abbrev pub UndoesIfNamed : Command → ℕ → PartitionState → PartitionState → Type 0
+UndoesIfNamed command number old new = IfNamed command number (HasNoPart old new) (new ≡ old)
+
+-- ---- parts that are kept
+
+-- the part of a command is done in a partition, and the serial list has the command behind what is kept
+abbrev pub IsReadyIfNamed : Command → ℕ → Log → ℕ → PartitionState → Type 0
+IsReadyIfNamed command crossing log number p =
+    is_named command number ≡ true → (p.part ≡ Some command)
+    × (projection_of p.warehouse log ≡ p.kept ++ commits.Cross crossing command ∷ [])
+
+abbrev pub AreReady : Command → ℕ → Log → List PartitionState → Type 0
+AreReady command crossing log parts =
+    (place : ℕ) → IfSome (slice_get parts place) (IsReadyIfNamed command crossing log (suc place))
+
+-- it is kept where the command names the warehouse, with the share
+abbrev pub KeepsHere : Command → ℕ → Log → ℕ → PartitionState → PartitionState → Option ShareState → Type 0
+KeepsHere command crossing log number old new share =
+    IfNamed command number (KeepsPart command crossing log old new share) ((new ≡ old) × (share ≡ None))
+
+abbrev pub KeepsPartIfNamed : Command → ℕ → Log → ℕ → PartitionState → PartitionState → Type 0
+KeepsPartIfNamed command crossing log number old new =
+    (share : Option ShareState) × KeepsHere command crossing log number old new share

@@ -1,0 +1,17 @@
+//! The steps of a command over several warehouses, in the partitions of all warehouses of a load.
+//!
+//! What runs in the warehouses that the command names is ended (`end_jobs`), and they are told the whole serial list
+//! (`tell_named`). The command is looked at (`prepare`). Its parts are done in all of these warehouses or in none
+//! (`do_parts`), and are kept once the command has entered the serial list (`keep_parts`).
+#![tactic(auto)]
+
+mod before;
+mod doing;
+mod keeping;
+mod parts;
+mod undoing;
+
+pub use before::{end_jobs, prepare, tell_named};
+pub use doing::do_parts;
+pub use keeping::keep_parts;
+pub use parts::Parts;
