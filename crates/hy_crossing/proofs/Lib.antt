@@ -8,3 +8,11 @@ pub mod ReplyLaws
 pub mod StepLaws
 pub mod BehindLaws
 pub mod KeepLaws
+pub mod BeforeLaws
+pub mod EnterLaws
+pub mod InformLaws
+pub mod NumberedLaws
+pub mod AcceptLaws
+pub mod CrossLaws
+pub mod GuardLaws
+pub mod WholeLaws

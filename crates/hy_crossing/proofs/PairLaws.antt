@@ -20,7 +20,7 @@ pairs-then first second both joins number (old ∷ olds) [] news one other = abs
 pairs-then first second both joins number (old ∷ olds) (middle ∷ middles) [] one other = absurd other
 
 -- the same elements
-pairs-same : {Row : Type 0} (relation : ℕ → Row → Row → Type 0) (first : ℕ)
+pub pairs-same : {Row : Type 0} (relation : ℕ → Row → Row → Type 0) (first : ℕ)
     → ((number : ℕ) (row : Row) → first ≤ number → relation number row row) → (number : ℕ) (rows : List Row)
     → first ≤ number → Pairwise relation number rows rows
 pairs-same relation first still number [] late = tt

@@ -109,7 +109,7 @@ does-undone command number old middle new does undoes = elim does.1 [
   ]
 ]
 
-same-leaves : (command : Command) (number : ℕ) (old new : PartitionState) → new ≡ old
+pub same-leaves : (command : Command) (number : ℕ) (old new : PartitionState) → new ≡ old
     → LeavesIfNamed command number old new
 same-leaves command number old new same =
     elim (is_named command number) as (λ b. is_named command number ≡ b → LeavesIfNamed command number old new) [

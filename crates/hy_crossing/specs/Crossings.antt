@@ -1,23 +1,30 @@
 -- What a command over several warehouses does to the partitions of a load, step by step: what runs is ended, the command
--- is looked at, and its parts are done in all warehouses that it names or in none, and kept.
-use Rattle.std.specs.Prelude.{◌≡◌, ◌⊎◌, ◌<◌, ℕ, suc, ◌-◌, ◌==◌, ◌&&◌, ◌||◌, Bool, true, false, if◌then◌else◌, List, [], ◌∷◌, ◌++◌, length, slice_get, Option, None, Some, IfSome, MatchOption}
+-- is looked at, and its parts are done in all warehouses that it names or in none, and kept. At the end the steps make
+-- one whole.
+use Rattle.std.specs.Prelude.{◌≡◌, ◌⊎◌, ◌<◌, ◌≤◌, ℕ, suc, ◌+◌, ◌-◌, ◌==◌, ◌&&◌, ◌||◌, Bool, true, false, if◌then◌else◌, List, [], ◌∷◌, ◌++◌, length, map, slice_get, Option, None, Some, IfSome, MatchOption}
 use Rattle.std.specs.List.{list_any}
 use mathlib.Core.List.{IsPrefix}
 use Rattle.hy_ledger.specs.declared.view.ShareState.{ShareState}
 use Rattle.hy_rows.specs.Tables.{Lists}
+use Rattle.hy_schema.specs.Loads.{IsLoad}
 use Rattle.hy_schema.specs.declared.refusal.Refusal.{Refusal}
 use Rattle.hy_schema.specs.declared.refusal.Refusal.TheVariants as refusals
 use Rattle.hy_commands.specs.declared.command.Command.{Command}
 use Rattle.hy_commands.specs.declared.command.Commit.TheVariants as commits
-use Rattle.hy_commands.specs.Commands.{warehouses_of}
-use Rattle.hy_commands.specs.Parts.{customer_home_of, database_of, refusal_in}
+use Rattle.hy_passes.specs.declared.entry.Entry.{Entry}
+use Rattle.hy_passes.specs.SerialList.{numbers_of}
+use Rattle.hy_commands.specs.declared.command.Commit.{Commit}
+use Rattle.hy_commands.specs.Commands.{home_of, number_of, warehouses_of, warehouses_of_commit}
+use Rattle.hy_commands.specs.Parts.{Database, customer_home_of, database_of, refusal_in}
+use Rattle.hy_database.specs.Database.{act_on_all, database_after, kept_in}
 use Rattle.hy_space.specs.Space.{owner_bytes}
 use Rattle.hy_commands.specs.declared.reply.Reply.{Reply}
 use Rattle.hy_tpcc.specs.Parts.{FindsPayer, HasPart, reply_of_part}
 use Rattle.hy_undo.specs.UndoLog.{empty_log}
-use Rattle.hy_partition.specs.Jobs.{Log}
+use Rattle.hy_partition.specs.Limits.{most_kept}
+use Rattle.hy_partition.specs.Jobs.{DoneState, JobState, Log, refused_answer, share_of, told}
 use Rattle.hy_partition.specs.Partition.{PartitionState, layout_of, projection_of, rows_now}
-use Rattle.hy_partition.specs.Parts.{DoesPart, HasNoPart, IsWhyUndone, KeepsBeside, KeepsPart, PartLacksFrame}
+use Rattle.hy_partition.specs.Parts.{DoesPart, HasNoPart, IsWhyUndone, KeepsBeside, KeepsPart, PartLacksFrame, with_part_entered}
 use Rattle.hy_partition.specs.Steps.{Accepts, KeepsNothing, Refuses, is_full}
 use Rattle.hy_crossing.specs.Lists.{InTurn, Pairwise}
 
@@ -185,3 +192,131 @@ KeepsHere command crossing log number old new share =
 abbrev pub KeepsPartIfNamed : Command → ℕ → Log → ℕ → PartitionState → PartitionState → Type 0
 KeepsPartIfNamed command crossing log number old new =
     (share : Option ShareState) × KeepsHere command crossing log number old new share
+
+-- ---- a commit that enters the serial list
+
+-- what is known of a partition whose warehouse a command names: it is one of the kit's and of a load, and keeps all that
+-- the serial list has of it as far as it was told, and no more than may be
+pub record IsKnown (partitions : ℕ) (p : PartitionState) : Type 0 where
+  pub kept : p.kept ≡ projection_of p.warehouse p.seen
+  pub sound : IsLoad p.load
+  pub range : (1 ≤ p.warehouse) × (p.warehouse ≤ partitions)
+  pub few : length p.kept ≤ p.max_kept
+  pub limit : p.max_kept ≤ most_kept
+
+abbrev pub IsKnownIfNamed : Command → ℕ → ℕ → PartitionState → Type 0
+IsKnownIfNamed command partitions number p = is_named command number ≡ true → IsKnown partitions p
+
+abbrev pub AreKnown : Command → ℕ → List PartitionState → Type 0
+AreKnown command partitions parts =
+    (place : ℕ) → IfSome (slice_get parts place) (IsKnownIfNamed command partitions (suc place))
+
+-- the part of a command is done there, and the serial list is known, as far as it goes
+abbrev pub IsDoneIfNamed : Command → Log → ℕ → PartitionState → Type 0
+IsDoneIfNamed command log number p =
+    is_named command number ≡ true → (p.part ≡ Some command) × (p.seen ≡ log) × (length p.kept < p.max_kept)
+
+abbrev pub AreDone : Command → Log → List PartitionState → Type 0
+AreDone command log parts = (place : ℕ) → IfSome (slice_get parts place) (IsDoneIfNamed command log (suc place))
+
+-- the next number among the commits of several warehouses, and what enters the serial list: the commit, stamped with what
+-- its client knew
+abbrev pub next_number : Log → ℕ
+next_number log = length (numbers_of warehouses_of_commit number_of log) + 1
+
+abbrev pub crossing_entry : Command → ℕ → Log → Entry Commit
+crossing_entry command stamp log = record { commit = commits.Cross (next_number log) command; stamp = stamp }
+
+-- ---- the whole command
+
+-- no part of a command is done in any partition
+abbrev pub HaveNoPart : List PartitionState → Type 0
+HaveNoPart parts = (place : ℕ) → IfSome (slice_get parts place) (λ p. p.part ≡ None)
+
+-- what is known of a partition before the parts of a command are tried: it is one of the load and has no part done; where
+-- the command names its warehouse, nothing runs there, and it was told the serial list, of which it has kept all
+pub record IsInformed (lists : Lists) (command : Command) (log : Log) (number : ℕ) (p : PartitionState) : Type 0 where
+  pub partition : IsPartition lists number p
+  pub whole : p.part ≡ None
+  pub idle : is_named command number ≡ true → p.running ≡ None
+  pub told : is_named command number ≡ true → (p.seen ≡ log) × (p.kept ≡ projection_of p.warehouse log)
+
+pub record AreInformed (lists : Lists) (command : Command) (log : Log) (parts : List PartitionState) : Type 0 where
+  pub count : length parts ≡ length lists.tables.warehouses
+  pub each : (place : ℕ) → IfSome (slice_get parts place) (IsInformed lists command log (suc place))
+
+-- what ran in the warehouses that a command names has ended, and they were told the serial list
+pub record Informs (command : Command) (before after : Log) (old new : List PartitionState) : Type 0 where
+  pub ended : List PartitionState
+  pub ends : EndsJobs command before after old ended
+  pub tells : TellsNamed command after ended new
+
+-- the commits of a serial list, and the database of a load behind them
+abbrev pub commits_in : Log → List Commit
+commits_in log = map (λ (entry : Entry Commit). entry.commit) log
+
+abbrev pub database_behind : Lists → Log → Database
+database_behind lists log = database_after lists (commits_in log)
+
+-- why a command is refused behind a serial list, before its parts are tried
+abbrev pub crossing_refusal : Lists → Log → List PartitionState → Command → Option Refusal
+crossing_refusal lists log parts command =
+    with_full (some_is_full command 1 parts) (refusal_in (database_behind lists log) command)
+
+-- why it is refused: as said above, or a part lacked a frame, or memory
+abbrev pub IsWhyRefused : Lists → Log → Command → List PartitionState → List PartitionState → Refusal → Type 0
+IsWhyRefused lists log command old new why =
+    (crossing_refusal lists log old command ≡ Some why)
+    ⊎ ((crossing_refusal lists log old command ≡ None) × IsWhyNotDone old new why)
+
+-- the command is refused behind a serial list, which stays, and no part of it is left
+pub record RefusesAll (lists : Lists) (job : JobState) (log after : Log) (old new : List PartitionState)
+    (answer : DoneState) : Type 0 where
+  pub why : Refusal
+  pub reason : IsWhyRefused lists log job.command old new why
+  pub log_is : after ≡ log
+  pub parts : Pairwise (LeavesIfNamed job.command) 1 old new
+  pub answer_is : answer ≡ refused_answer job.pass why
+
+-- what an accepted command enters into the serial list: with the next number among those of several warehouses, the
+-- customer who pays named by number, and stamped with what its client knew
+abbrev pub entry_of : Lists → JobState → Log → Entry Commit
+entry_of lists job log =
+    crossing_entry (kept_in (database_behind lists log) job.command) (length job.pass.seen) log
+
+-- a partition has kept a commit behind all others, with the pages and frames of its part; its home alone enters it into
+-- its book
+pub record KeepsCrossing (command : Command) (commit : Commit) (log : Log) (old new : PartitionState) : Type 0 where
+  pub part : new.part ≡ None
+  pub undo : new.undo ≡ empty_log new.space
+  pub seen : new.seen ≡ log
+  pub kept : new.kept ≡ old.kept ++ commit ∷ []
+  pub book : new.book ≡ with_part_entered old.warehouse old.book command
+  pub beside : KeepsBeside old new
+
+abbrev pub KeepsIfNamed : Command → Commit → Log → ℕ → PartitionState → PartitionState → Type 0
+KeepsIfNamed command commit log number old new =
+    IfNamed command number (KeepsCrossing command commit log old new) (new ≡ old)
+
+-- the command is accepted behind a serial list: its commit enters that list and the kept list of each warehouse that it
+-- names, at the ends. The reply is that of the whole database behind the serial list; the client is told all of it
+pub record AcceptsAll (lists : Lists) (job : JobState) (log after : Log) (old new : List PartitionState)
+    (answer : DoneState) : Type 0 where
+  pub accepted : crossing_refusal lists log old job.command ≡ None
+  pub client_told : IsPrefix job.pass.seen log
+  pub log_is : after ≡ log ++ entry_of lists job log ∷ []
+  pub parts : Pairwise (KeepsIfNamed job.command (entry_of lists job log).commit after) 1 old new
+  pub answer_is : answer ≡ record {
+    reply = (act_on_all job.command (database_behind lists log)).reply;
+    pass = told job.pass after;
+    share = share_of (home_of job.command) job.command;
+  }
+
+-- what ran in the warehouses that a command names has ended, and they were told the serial list; then the command was
+-- accepted, or refused
+pub record Crosses (lists : Lists) (job : JobState) (before after : Log) (old new : List PartitionState)
+    (answer : DoneState) : Type 0 where
+  pub log : Log
+  pub middle : List PartitionState
+  pub informs : Informs job.command before log old middle
+  pub does : AcceptsAll lists job log after middle new answer ⊎ RefusesAll lists job log after middle new answer

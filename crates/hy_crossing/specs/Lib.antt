@@ -1,3 +1,4 @@
 pub mod Lists
 pub mod Crossings
 pub mod Pairs
+pub mod inside

@@ -6,12 +6,16 @@
 #![tactic(auto)]
 
 mod before;
+mod crossing;
 mod doing;
+mod entering;
 mod keeping;
 mod parts;
 mod undoing;
 
 pub use before::{end_jobs, prepare, tell_named};
+pub use crossing::cross;
 pub use doing::do_parts;
+pub use entering::keep_all;
 pub use keeping::keep_parts;
 pub use parts::Parts;

@@ -1,6 +1,7 @@
 //! All partitions of a load, of which one at a time is lent.
 
 use hy_partition::{Loaded, Partition};
+use std::sync::MutexGuard;
 
 /// The partitions of a load's warehouses, in order. One is lent at a time, and the others stay.
 pub trait Parts {
@@ -40,6 +41,27 @@ impl<const N: usize, K: Loaded> Parts for Vec<Partition<N, K>> {
     ghost put = { λ parts place p. with_item parts place p };
 
     ghost states_put = { λ parts place p within. refl };
+
+    fn len(&self) -> usize {
+        Vec::len(self)
+    }
+
+    fn part(&mut self, place: usize) -> &mut Partition<N, K> {
+        &mut self[place]
+    }
+}
+
+// Partitions behind locks, all of which are held.
+impl<'a, const N: usize, K: Loaded> Parts for Vec<MutexGuard<'a, Partition<N, K>>> {
+    ghost use Rattle.hy_crossing.specs.inside.Guards.{values-put, values_of, with_value_at};
+
+    type Part = Partition<N, K>;
+
+    ghost states = { λ parts. values_of parts.items };
+
+    ghost put = { λ parts place p. with_value_at parts place p };
+
+    ghost states_put = { λ parts place p within. values-put parts place p within };
 
     fn len(&self) -> usize {
         Vec::len(self)

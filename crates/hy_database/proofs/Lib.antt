@@ -1,6 +1,7 @@
 pub mod PartLaws
 pub mod EachLaws
 pub mod KeptLaws
+pub mod PayerLaws
 pub mod Replays
 pub mod NumberedLaws
 pub mod DoesLaws

@@ -108,7 +108,7 @@ act-elsewhere items number command tables other = by (refusal_of items number co
 -- ---- the customer who pays, by number
 
 -- rows in order are rows
-All-sorted : {Row : Type 0} (P : Row → Type 0) (less : Row → Row → Bool) (rows : List Row) → All P rows
+pub All-sorted : {Row : Type 0} (P : Row → Type 0) (less : Row → Row → Bool) (rows : List Row) → All P rows
     → All P (sorted less rows)
 All-sorted P less [] all = All-nil P
 All-sorted {Row = Row} P less (row ∷ rows) all =
@@ -124,7 +124,7 @@ All-sorted {Row = Row} P less (row ∷ rows) all =
         ]
 
 -- what holds of all rows holds of one that is there
-All-some : {Row : Type 0} (P : Row → Type 0) (rows : List Row) (place : ℕ) → All P rows
+pub All-some : {Row : Type 0} (P : Row → Type 0) (rows : List Row) (place : ℕ) → All P rows
     → IfSome (slice_get rows place) P
 All-some P [] place all = tt
 All-some P (row ∷ rows) zero all = All-head P row rows all
@@ -142,7 +142,7 @@ own-any same (first ∷ rows) =
     (λ row found passes. or_right (same row first) (list_any (same row) rows) (found passes)) rows
     (own-any same rows))
 
-some-value : {Row : Type 0} (P : Row → Type 0) (none : Row) (found : Option Row) → IfSome found P → is_some found ≡ true
+pub some-value : {Row : Type 0} (P : Row → Type 0) (none : Row) (found : Option Row) → IfSome found P → is_some found ≡ true
     → P (unwrap_or found none)
 some-value P none None holds is = absurd (cc)
 some-value P none (Some row) holds is = holds
@@ -155,7 +155,7 @@ module _ (warehouse district : ℕ) (rows : List Customer) where
   IsThere number = list_any (is_customer warehouse district number) rows ≡ true
 
   -- who is found by number has it
-  number-chosen : (number : ℕ) → is_some (customer_meant warehouse district (who.Number number) rows) ≡ true
+  pub number-chosen : (number : ℕ) → is_some (customer_meant warehouse district (who.Number number) rows) ≡ true
       → (chosen (who.Number number)).id ≡ number
   number-chosen number is = by (find (is_customer warehouse district number) rows) refl is
     where

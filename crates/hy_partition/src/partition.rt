@@ -6,6 +6,7 @@ ghost use Rattle.hy_worlds.specs.Origins.{desk_of};
 ghost use Rattle.hy_rows.specs.Spelling.{Spells};
 ghost use Rattle.hy_ledger.specs.Books.{with_book};
 ghost use Rattle.hy_frames.specs.FrameTable.{free_of, shared_of, IsLimitFor, IsPageSize, max_frames as most_frames};
+ghost use Rattle.hy_schema.specs.Loads.{IsLoad};
 ghost use Rattle.hy_schema.specs.declared.refusal.Refusal.{Refusal};
 ghost use Rattle.hy_commands.specs.declared.command.Commit.TheVariants as commits;
 ghost use Rattle.hy_commands.specs.Commands.{is_reader};
@@ -132,13 +133,18 @@ impl<const N: usize, K: Loaded> Partition<N, K> {
         self.space.sound();
     }
 
-    /// That the load is the one that the world names, that no more was drained than is kept, and that the book has what
-    /// was taken in.
+    /// That the load is a load, and the one that the world names, and the warehouse one of the kit; that no more was
+    /// drained than is kept, and no more is kept than may be; and that the book has what was taken in.
     pub fn ties(&self)
         ensures load { self.now.load ≡ K.load }
+        ensures sound { IsLoad self.now.load }
+        ensures range { (1 ≤ self.now.warehouse) × (self.now.warehouse ≤ K.passes.partitions) }
         ensures drained { self.now.drained ≤ length self.now.kept }
+        ensures few { length self.now.kept ≤ self.now.max_kept }
+        ensures limit { self.now.max_kept ≤ most_kept }
         ensures book { IsBookOf self.now.load self.now.warehouse self.now.kept self.now.book }
     {
+        let _number = self.kept.warehouse();
         let _drained = self.drained;
     }
 
@@ -324,6 +330,13 @@ impl<const N: usize, K: Loaded> Partition<N, K> {
         self.space.close(child);
         self.snapshots[child as usize] = None;
         Ok(())
+    }
+
+    /// Whether a snapshot says that it is one of this partition: by its warehouse and the name of its kit.
+    pub fn is_mine(&self, snapshot: &Snapshot<N>) -> bool
+        ensures { result ≡ is_from snapshot.now self.now.warehouse K.passes }
+    {
+        self.desk.is_from_here(snapshot.ticket())
     }
 
     /// Whether as many commits are kept as may be.

@@ -1,0 +1,37 @@
+use Rattle.std.proofs.Common.{◌≡◌, List, Some, inr, sym, ◌∙◌, subst}
+use Rattle.hy_commands.specs.declared.command.Command.{Command}
+use Rattle.hy_partition.specs.Partition.{PartitionState}
+use Rattle.hy_crossing.specs.Crossings.{AreIdle, Informs, RefusesAll, loaded_refusal}
+use Rattle.hy_crossing.proofs.InformLaws.{all-idle, still-partitions}
+use Rattle.hy_crossing.proofs.WholeLaws.{refuses-first}
+use Rattle.hy_crossing.proofs.crossing.cross.Goals as goal
+
+pub prepare-requires-clause-parts : goal.prepare-requires-clause-parts
+prepare-requires-clause-parts g c =
+    still-partitions g.K.Loaded.load c.command.result.now c.inform.new.journal.list.log
+    (g.P.Parts.states c.inform.new.parts) c.inform.ensures.informed
+
+pub prepare-requires-clause-idle : goal.prepare-requires-clause-idle
+prepare-requires-clause-idle g c =
+    subst (λ (command : Command). AreIdle command (g.P.Parts.states c.inform.new.parts))
+    (c.command.ensures ∙ sym c.command-2.ensures)
+    (all-idle g.K.Loaded.load c.command.result.now c.inform.new.journal.list.log (g.P.Parts.states c.inform.new.parts)
+    c.inform.ensures.informed)
+
+pub returns-in-Err-clause-crosses : goal.returns-in-Err-clause-crosses
+returns-in-Err-clause-crosses g c =
+    let log = c.inform.new.journal.list.log in
+    let olds = g.P.Parts.states c.args.parts.now in
+    let middles = g.P.Parts.states c.inform.new.parts in
+    let lists = g.K.Loaded.load in record {
+      log = log;
+      middle = middles;
+      informs = subst (λ (command : Command). Informs command c.args.journal.now.list.log log olds middles)
+          c.command.ensures c.inform.ensures.informs;
+      does = inr (subst (λ (news : List PartitionState). RefusesAll lists c.args.job log log middles news c.refuse.result)
+          (sym c.in-Err.ensures.same)
+          (refuses-first lists c.args.job log middles c.refuse.result c.in-Err.refusal
+          (subst (λ (command : Command). loaded_refusal lists command middles ≡ Some c.in-Err.refusal)
+          c.command-2.ensures c.in-Err.ensures.refused)
+          c.refuse.ensures));
+    }

@@ -1,0 +1,233 @@
+use Rattle.std.proofs.Common.{◌≡◌, true, List, Some, length, sym, ap, ◌∙◌, subst, inl, inr}
+use Rattle.std.specs.List.{list_all}
+use Rattle.hy_rows.specs.Ranges.{IsBetween, is_between}
+use Rattle.hy_commands.specs.declared.command.Command.{Command}
+use Rattle.hy_commands.specs.Commands.{warehouses_of}
+use Rattle.hy_commands.specs.Parts.{customer_home_of, with_number}
+use Rattle.hy_partition.specs.Jobs.{JobState, refused_answer}
+use Rattle.hy_partition.specs.Partition.{PartitionState}
+use Rattle.hy_crossing.specs.Crossings.{AreKnown, CanDoParts, DoesIfNamed, IsWhyNotDone, LeavesIfNamed, RepliesFrom}
+use Rattle.hy_crossing.specs.Lists.{Pairwise}
+use Rattle.hy_crossing.proofs.InformLaws.{pairs-count}
+use Rattle.hy_crossing.proofs.WholeLaws.{accepts-all, can-all, done-all, named-all, no-part-whole, partitions-here, partitions-whole, refuses-late, several-all, there-all}
+use Rattle.hy_crossing.proofs.crossing.do_all.Goals as goal
+
+pub do_parts-requires-clause-can : goal.do_parts-requires-clause-can
+do_parts-requires-clause-can g c =
+    let rows = g.P.Parts.states c.args.parts.now in
+    let log = c.args.journal.now.list.log in
+    let numbered = c.with_number-numbered.result in
+    let is : numbered ≡ with_number c.args.number c.args.job.command =
+    c.with_number-numbered.ensures ∙ ap (with_number c.args.number) c.open-command.ensures.0 in
+    let known : AreKnown c.args.job.command g.K.World.passes.partitions rows =
+    subst (λ (command : Command). AreKnown command g.K.World.passes.partitions rows) c.command.ensures
+    c.know_named.ensures.known in
+    subst (λ (rows : List PartitionState). CanDoParts numbered rows) (sym c.know_named.ensures.same)
+    (can-all g.K.Loaded.load c.args.job log rows c.requires.informed c.requires.accepted g.K.World.passes.partitions known
+    c.args.number c.requires.payer numbered is c.requires.several)
+
+pub do_parts-requires-clause-there : goal.do_parts-requires-clause-there
+do_parts-requires-clause-there g c =
+    let rows = g.P.Parts.states c.args.parts.now in
+    let log = c.args.journal.now.list.log in
+    let numbered = c.with_number-numbered.result in
+    let is : numbered ≡ with_number c.args.number c.args.job.command =
+    c.with_number-numbered.ensures ∙ ap (with_number c.args.number) c.open-command.ensures.0 in
+    let known : AreKnown c.args.job.command g.K.World.passes.partitions rows =
+    subst (λ (command : Command). AreKnown command g.K.World.passes.partitions rows) c.command.ensures
+    c.know_named.ensures.known in
+    subst (λ (rows : List PartitionState). IsBetween 1 (length rows) (customer_home_of numbered))
+    (sym c.know_named.ensures.same)
+    (there-all g.K.Loaded.load c.args.job log rows c.requires.informed c.requires.accepted g.K.World.passes.partitions known
+    c.args.number c.requires.payer numbered is)
+
+pub keep_all-requires-clause-parts : goal.keep_all-requires-clause-parts
+keep_all-requires-clause-parts g c =
+    let rows = g.P.Parts.states c.args.parts.now in
+    let log = c.args.journal.now.list.log in
+    let numbered = c.with_number-numbered.result in
+    let is : numbered ≡ with_number c.args.number c.args.job.command =
+    c.with_number-numbered.ensures ∙ ap (with_number c.args.number) c.open-command.ensures.0 in
+    let known : AreKnown c.args.job.command g.K.World.passes.partitions rows =
+    subst (λ (command : Command). AreKnown command g.K.World.passes.partitions rows) c.command.ensures
+    c.know_named.ensures.known in
+    let does : Pairwise (DoesIfNamed numbered) 1 rows (g.P.Parts.states c.do_parts.new.parts) =
+    subst (λ (olds : List PartitionState). Pairwise (DoesIfNamed numbered) 1 olds (g.P.Parts.states c.do_parts.new.parts))
+    c.know_named.ensures.same c.in-Ok.ensures.done in
+    partitions-here g.K.Loaded.load c.args.job log rows c.requires.informed c.requires.accepted g.K.World.passes.partitions known
+    c.args.number c.requires.payer numbered is (g.P.Parts.states c.do_parts.new.parts) does c.requires.several
+
+pub keep_all-requires-clause-there : goal.keep_all-requires-clause-there
+keep_all-requires-clause-there g c =
+    let rows = g.P.Parts.states c.args.parts.now in
+    let log = c.args.journal.now.list.log in
+    let numbered = c.with_number-numbered.result in
+    let is : numbered ≡ with_number c.args.number c.args.job.command =
+    c.with_number-numbered.ensures ∙ ap (with_number c.args.number) c.open-command.ensures.0 in
+    let known : AreKnown c.args.job.command g.K.World.passes.partitions rows =
+    subst (λ (command : Command). AreKnown command g.K.World.passes.partitions rows) c.command.ensures
+    c.know_named.ensures.known in
+    let does : Pairwise (DoesIfNamed numbered) 1 rows (g.P.Parts.states c.do_parts.new.parts) =
+    subst (λ (olds : List PartitionState). Pairwise (DoesIfNamed numbered) 1 olds (g.P.Parts.states c.do_parts.new.parts))
+    c.know_named.ensures.same c.in-Ok.ensures.done in
+    subst (λ n. list_all (is_between 1 n) (warehouses_of numbered) ≡ true)
+    (sym (pairs-count (DoesIfNamed numbered) 1 rows (g.P.Parts.states c.do_parts.new.parts) does))
+    (named-all g.K.Loaded.load c.args.job log rows c.requires.informed c.requires.accepted g.K.World.passes.partitions known
+    c.args.number c.requires.payer numbered is)
+
+pub keep_all-requires-clause-several : goal.keep_all-requires-clause-several
+keep_all-requires-clause-several g c =
+    let rows = g.P.Parts.states c.args.parts.now in
+    let log = c.args.journal.now.list.log in
+    let numbered = c.with_number-numbered.result in
+    let is : numbered ≡ with_number c.args.number c.args.job.command =
+    c.with_number-numbered.ensures ∙ ap (with_number c.args.number) c.open-command.ensures.0 in
+    let known : AreKnown c.args.job.command g.K.World.passes.partitions rows =
+    subst (λ (command : Command). AreKnown command g.K.World.passes.partitions rows) c.command.ensures
+    c.know_named.ensures.known in
+    several-all g.K.Loaded.load c.args.job log rows c.requires.informed c.requires.accepted g.K.World.passes.partitions known
+    c.args.number c.requires.payer numbered is c.requires.several
+
+pub keep_all-requires-clause-done : goal.keep_all-requires-clause-done
+keep_all-requires-clause-done g c =
+    let rows = g.P.Parts.states c.args.parts.now in
+    let log = c.args.journal.now.list.log in
+    let numbered = c.with_number-numbered.result in
+    let is : numbered ≡ with_number c.args.number c.args.job.command =
+    c.with_number-numbered.ensures ∙ ap (with_number c.args.number) c.open-command.ensures.0 in
+    let known : AreKnown c.args.job.command g.K.World.passes.partitions rows =
+    subst (λ (command : Command). AreKnown command g.K.World.passes.partitions rows) c.command.ensures
+    c.know_named.ensures.known in
+    let does : Pairwise (DoesIfNamed numbered) 1 rows (g.P.Parts.states c.do_parts.new.parts) =
+    subst (λ (olds : List PartitionState). Pairwise (DoesIfNamed numbered) 1 olds (g.P.Parts.states c.do_parts.new.parts))
+    c.know_named.ensures.same c.in-Ok.ensures.done in
+    done-all g.K.Loaded.load c.args.job log rows c.requires.informed c.requires.accepted g.K.World.passes.partitions known
+    c.args.number c.requires.payer numbered is (g.P.Parts.states c.do_parts.new.parts) does c.requires.several
+
+pub returns-in-Ok-clause-does : goal.returns-in-Ok-clause-does
+returns-in-Ok-clause-does g c =
+    let rows = g.P.Parts.states c.args.parts.now in
+    let log = c.args.journal.now.list.log in
+    let numbered = c.with_number-numbered.result in
+    let is : numbered ≡ with_number c.args.number c.args.job.command =
+    c.with_number-numbered.ensures ∙ ap (with_number c.args.number) c.open-command.ensures.0 in
+    let known : AreKnown c.args.job.command g.K.World.passes.partitions rows =
+    subst (λ (command : Command). AreKnown command g.K.World.passes.partitions rows) c.command.ensures
+    c.know_named.ensures.known in
+    let does : Pairwise (DoesIfNamed numbered) 1 rows (g.P.Parts.states c.do_parts.new.parts) =
+    subst (λ (olds : List PartitionState). Pairwise (DoesIfNamed numbered) 1 olds (g.P.Parts.states c.do_parts.new.parts))
+    c.know_named.ensures.same c.in-Ok.ensures.done in
+    inl (accepts-all g.K.Loaded.load c.args.job log rows c.requires.informed c.requires.accepted g.K.World.passes.partitions known
+    c.args.number c.requires.payer numbered is (g.P.Parts.states c.do_parts.new.parts)
+    (g.P.Parts.states c.keep_all.new.parts) c.keep_all.new.journal.list.log c.in-Ok.reply c.keep_all.result
+    c.open-command.result.1 c.open-command.ensures.1 does c.keep_all.ensures.kept
+    (subst (λ (olds : List PartitionState). RepliesFrom numbered olds (Some c.in-Ok.reply)) c.know_named.ensures.same
+    c.in-Ok.ensures.reply)
+    c.keep_all.ensures.client c.keep_all.ensures.log c.keep_all.ensures.answer)
+
+pub returns-in-Ok-clause-parts : goal.returns-in-Ok-clause-parts
+returns-in-Ok-clause-parts g c =
+    let rows = g.P.Parts.states c.args.parts.now in
+    let log = c.args.journal.now.list.log in
+    let numbered = c.with_number-numbered.result in
+    let is : numbered ≡ with_number c.args.number c.args.job.command =
+    c.with_number-numbered.ensures ∙ ap (with_number c.args.number) c.open-command.ensures.0 in
+    let known : AreKnown c.args.job.command g.K.World.passes.partitions rows =
+    subst (λ (command : Command). AreKnown command g.K.World.passes.partitions rows) c.command.ensures
+    c.know_named.ensures.known in
+    let does : Pairwise (DoesIfNamed numbered) 1 rows (g.P.Parts.states c.do_parts.new.parts) =
+    subst (λ (olds : List PartitionState). Pairwise (DoesIfNamed numbered) 1 olds (g.P.Parts.states c.do_parts.new.parts))
+    c.know_named.ensures.same c.in-Ok.ensures.done in
+    partitions-whole g.K.Loaded.load c.args.job log c.keep_all.new.journal.list.log rows (g.P.Parts.states c.keep_all.new.parts)
+    c.keep_all.result c.requires.informed
+    (inl (accepts-all g.K.Loaded.load c.args.job log rows c.requires.informed c.requires.accepted g.K.World.passes.partitions known
+    c.args.number c.requires.payer numbered is (g.P.Parts.states c.do_parts.new.parts)
+    (g.P.Parts.states c.keep_all.new.parts) c.keep_all.new.journal.list.log c.in-Ok.reply c.keep_all.result
+    c.open-command.result.1 c.open-command.ensures.1 does c.keep_all.ensures.kept
+    (subst (λ (olds : List PartitionState). RepliesFrom numbered olds (Some c.in-Ok.reply)) c.know_named.ensures.same
+    c.in-Ok.ensures.reply)
+    c.keep_all.ensures.client c.keep_all.ensures.log c.keep_all.ensures.answer))
+
+pub returns-in-Ok-clause-whole : goal.returns-in-Ok-clause-whole
+returns-in-Ok-clause-whole g c =
+    let rows = g.P.Parts.states c.args.parts.now in
+    let log = c.args.journal.now.list.log in
+    let numbered = c.with_number-numbered.result in
+    let is : numbered ≡ with_number c.args.number c.args.job.command =
+    c.with_number-numbered.ensures ∙ ap (with_number c.args.number) c.open-command.ensures.0 in
+    let known : AreKnown c.args.job.command g.K.World.passes.partitions rows =
+    subst (λ (command : Command). AreKnown command g.K.World.passes.partitions rows) c.command.ensures
+    c.know_named.ensures.known in
+    let does : Pairwise (DoesIfNamed numbered) 1 rows (g.P.Parts.states c.do_parts.new.parts) =
+    subst (λ (olds : List PartitionState). Pairwise (DoesIfNamed numbered) 1 olds (g.P.Parts.states c.do_parts.new.parts))
+    c.know_named.ensures.same c.in-Ok.ensures.done in
+    no-part-whole g.K.Loaded.load c.args.job log c.keep_all.new.journal.list.log rows (g.P.Parts.states c.keep_all.new.parts)
+    c.keep_all.result c.requires.informed
+    (inl (accepts-all g.K.Loaded.load c.args.job log rows c.requires.informed c.requires.accepted g.K.World.passes.partitions known
+    c.args.number c.requires.payer numbered is (g.P.Parts.states c.do_parts.new.parts)
+    (g.P.Parts.states c.keep_all.new.parts) c.keep_all.new.journal.list.log c.in-Ok.reply c.keep_all.result
+    c.open-command.result.1 c.open-command.ensures.1 does c.keep_all.ensures.kept
+    (subst (λ (olds : List PartitionState). RepliesFrom numbered olds (Some c.in-Ok.reply)) c.know_named.ensures.same
+    c.in-Ok.ensures.reply)
+    c.keep_all.ensures.client c.keep_all.ensures.log c.keep_all.ensures.answer))
+
+pub returns-in-Err-clause-does : goal.returns-in-Err-clause-does
+returns-in-Err-clause-does g c =
+    let rows = g.P.Parts.states c.args.parts.now in
+    let log = c.args.journal.now.list.log in
+    let numbered = c.with_number-numbered.result in
+    let is : numbered ≡ with_number c.args.number c.args.job.command =
+    c.with_number-numbered.ensures ∙ ap (with_number c.args.number) c.open-command.ensures.0 in
+    let known : AreKnown c.args.job.command g.K.World.passes.partitions rows =
+    subst (λ (command : Command). AreKnown command g.K.World.passes.partitions rows) c.command.ensures
+    c.know_named.ensures.known in
+    inr (refuses-late g.K.Loaded.load c.args.job log rows c.requires.informed c.requires.accepted g.K.World.passes.partitions known
+    c.args.number c.requires.payer numbered is (g.P.Parts.states c.do_parts.new.parts)
+    c.refuse.result c.open-command.result.1 c.in-Err.refusal c.open-command.ensures.1
+    (subst (λ (olds : List PartitionState). Pairwise (LeavesIfNamed numbered) 1 olds
+    (g.P.Parts.states c.do_parts.new.parts)) c.know_named.ensures.same c.in-Err.ensures.left)
+    (subst (λ (olds : List PartitionState). IsWhyNotDone olds (g.P.Parts.states c.do_parts.new.parts) c.in-Err.refusal)
+    c.know_named.ensures.same c.in-Err.ensures.refused)
+    (c.refuse.ensures ∙ ap (λ (job : JobState). refused_answer job.pass c.in-Err.refusal) c.new.ensures))
+
+pub returns-in-Err-clause-parts : goal.returns-in-Err-clause-parts
+returns-in-Err-clause-parts g c =
+    let rows = g.P.Parts.states c.args.parts.now in
+    let log = c.args.journal.now.list.log in
+    let numbered = c.with_number-numbered.result in
+    let is : numbered ≡ with_number c.args.number c.args.job.command =
+    c.with_number-numbered.ensures ∙ ap (with_number c.args.number) c.open-command.ensures.0 in
+    let known : AreKnown c.args.job.command g.K.World.passes.partitions rows =
+    subst (λ (command : Command). AreKnown command g.K.World.passes.partitions rows) c.command.ensures
+    c.know_named.ensures.known in
+    partitions-whole g.K.Loaded.load c.args.job log log rows (g.P.Parts.states c.do_parts.new.parts) c.refuse.result
+    c.requires.informed
+    (inr (refuses-late g.K.Loaded.load c.args.job log rows c.requires.informed c.requires.accepted g.K.World.passes.partitions known
+    c.args.number c.requires.payer numbered is (g.P.Parts.states c.do_parts.new.parts)
+    c.refuse.result c.open-command.result.1 c.in-Err.refusal c.open-command.ensures.1
+    (subst (λ (olds : List PartitionState). Pairwise (LeavesIfNamed numbered) 1 olds
+    (g.P.Parts.states c.do_parts.new.parts)) c.know_named.ensures.same c.in-Err.ensures.left)
+    (subst (λ (olds : List PartitionState). IsWhyNotDone olds (g.P.Parts.states c.do_parts.new.parts) c.in-Err.refusal)
+    c.know_named.ensures.same c.in-Err.ensures.refused)
+    (c.refuse.ensures ∙ ap (λ (job : JobState). refused_answer job.pass c.in-Err.refusal) c.new.ensures)))
+
+pub returns-in-Err-clause-whole : goal.returns-in-Err-clause-whole
+returns-in-Err-clause-whole g c =
+    let rows = g.P.Parts.states c.args.parts.now in
+    let log = c.args.journal.now.list.log in
+    let numbered = c.with_number-numbered.result in
+    let is : numbered ≡ with_number c.args.number c.args.job.command =
+    c.with_number-numbered.ensures ∙ ap (with_number c.args.number) c.open-command.ensures.0 in
+    let known : AreKnown c.args.job.command g.K.World.passes.partitions rows =
+    subst (λ (command : Command). AreKnown command g.K.World.passes.partitions rows) c.command.ensures
+    c.know_named.ensures.known in
+    no-part-whole g.K.Loaded.load c.args.job log log rows (g.P.Parts.states c.do_parts.new.parts) c.refuse.result
+    c.requires.informed
+    (inr (refuses-late g.K.Loaded.load c.args.job log rows c.requires.informed c.requires.accepted g.K.World.passes.partitions known
+    c.args.number c.requires.payer numbered is (g.P.Parts.states c.do_parts.new.parts)
+    c.refuse.result c.open-command.result.1 c.in-Err.refusal c.open-command.ensures.1
+    (subst (λ (olds : List PartitionState). Pairwise (LeavesIfNamed numbered) 1 olds
+    (g.P.Parts.states c.do_parts.new.parts)) c.know_named.ensures.same c.in-Err.ensures.left)
+    (subst (λ (olds : List PartitionState). IsWhyNotDone olds (g.P.Parts.states c.do_parts.new.parts) c.in-Err.refusal)
+    c.know_named.ensures.same c.in-Err.ensures.refused)
+    (c.refuse.ensures ∙ ap (λ (job : JobState). refused_answer job.pass c.in-Err.refusal) c.new.ensures)))

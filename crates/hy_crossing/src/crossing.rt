@@ -1,0 +1,79 @@
+//! A whole command over several warehouses.
+
+ghost use Rattle.std.specs.Prelude.{◌≡◌, ◌⊎◌, None, length, nat_lt, true};
+ghost use Rattle.hy_commands.specs.Commands.{warehouses_of};
+ghost use Rattle.hy_crossing.specs.Crossings.{AcceptsAll, AreInformed, ArePartitions, Crosses, HaveNoPart, Informs, IsPayerIn, RefusesAll, loaded_refusal};
+
+use crate::before::{end_jobs, prepare, tell_named};
+use crate::doing::do_parts;
+use crate::entering::{keep_all, know_named};
+use crate::parts::Parts;
+use hy_commands::{Command, Commit};
+use hy_partition::{Done, Job, Loaded, Partition};
+use hy_passes::Journal;
+
+/// Ends what runs in the warehouses that a command names, and tells their partitions of the whole serial list.
+fn inform<const N: usize, K: Loaded, P: Parts<Part = Partition<N, K>>>(
+    parts: &mut P,
+    journal: &mut Journal<Commit, K>,
+    command: &Command,
+)
+    requires parts { ArePartitions K.load (P.states parts.old) }
+    requires whole { HaveNoPart (P.states parts.old) }
+    ensures informs { Informs command.now journal.old.list.log journal.new.list.log (P.states parts.old)
+        (P.states parts.new) }
+    ensures informed { AreInformed K.load command.now journal.new.list.log (P.states parts.new) }
+{
+    end_jobs(parts, journal, command);
+    tell_named(parts, journal, command);
+}
+
+/// Does the parts of a command that nothing refuses so far, and keeps them; or undoes them all where one is refused.
+fn do_all<const N: usize, K: Loaded, P: Parts<Part = Partition<N, K>>>(
+    parts: &mut P,
+    journal: &mut Journal<Commit, K>,
+    job: Job<K>,
+    number: u64,
+) -> Done<K>
+    requires informed { AreInformed K.load job.command journal.old.list.log (P.states parts.old) }
+    requires accepted { loaded_refusal K.load job.command (P.states parts.old) ≡ None }
+    requires payer { IsPayerIn (P.states parts.old) job.command number }
+    requires several { nat_lt 1 (length (warehouses_of job.command)) ≡ true }
+    ensures does { AcceptsAll K.load job journal.old.list.log journal.new.list.log (P.states parts.old)
+        (P.states parts.new) result
+        ⊎ RefusesAll K.load job journal.old.list.log journal.new.list.log (P.states parts.old) (P.states parts.new)
+        result }
+    ensures parts { ArePartitions K.load (P.states parts.new) }
+    ensures whole { HaveNoPart (P.states parts.new) }
+{
+    know_named(parts, job.command());
+    let (command, pass) = job.open();
+    let numbered = command.with_number(number);
+    match do_parts(parts, &numbered) {
+        Ok(reply) => keep_all(parts, journal, numbered, pass, reply),
+        Err(refusal) => Job::new(numbered, pass).refuse(refusal),
+    }
+}
+
+/// Runs a command over several warehouses. What runs in those that it names is ended first; what runs elsewhere stays as
+/// it is. Then the whole of it is done, or none of it, and the refusal is the reply: the first of E8, E4, E5, E6, E3, E7,
+/// E2, E1.
+pub fn cross<const N: usize, K: Loaded, P: Parts<Part = Partition<N, K>>>(
+    parts: &mut P,
+    journal: &mut Journal<Commit, K>,
+    job: Job<K>,
+) -> Done<K>
+    requires parts { ArePartitions K.load (P.states parts.old) }
+    requires whole { HaveNoPart (P.states parts.old) }
+    requires several { nat_lt 1 (length (warehouses_of job.command)) ≡ true }
+    ensures crosses { Crosses K.load job journal.old.list.log journal.new.list.log (P.states parts.old)
+        (P.states parts.new) result }
+    ensures parts { ArePartitions K.load (P.states parts.new) }
+    ensures whole { HaveNoPart (P.states parts.new) }
+{
+    inform(parts, journal, job.command());
+    match prepare(parts, job.command()) {
+        Ok(number) => do_all(parts, journal, job, number),
+        Err(refusal) => job.refuse(refusal),
+    }
+}

@@ -1,0 +1,71 @@
+//! A command whose parts are done enters the serial list.
+
+ghost use Rattle.std.specs.Prelude.{◌≡◌, ◌∷◌, ◌++◌, [], length, nat_lt, true};
+ghost use Rattle.std.specs.List.{list_all};
+ghost use mathlib.Core.List.{IsPrefix};
+ghost use Rattle.hy_rows.specs.Ranges.{is_between};
+ghost use Rattle.hy_commands.specs.Commands.{home_of, warehouses_of};
+ghost use Rattle.hy_partition.specs.Jobs.{share_of, told};
+ghost use Rattle.hy_crossing.specs.Crossings.{AreDone, AreKnown, ArePartitions, KeepsPartIfNamed, crossing_entry, next_number};
+ghost use Rattle.hy_crossing.specs.Lists.{Pairwise};
+
+use crate::keeping::keep_parts;
+use crate::parts::Parts;
+use hy_commands::{Command, Commit, Reply};
+use hy_partition::{Done, Loaded, Partition};
+use hy_passes::{Entry, Journal, Pass};
+
+/// What is known of the partitions of the warehouses that a command names. Changes nothing.
+pub(crate) fn know_named<const N: usize, K: Loaded, P: Parts<Part = Partition<N, K>>>(
+    parts: &mut P,
+    command: &Command,
+)
+    ensures known { AreKnown command.now K.passes.partitions (P.states parts.old) }
+    ensures same { P.states parts.new ≡ P.states parts.old }
+{
+    for place in 0..parts.len() {
+        if command.names(place as u64 + 1) {
+            let part = parts.part(place);
+            part.headline();
+            part.ties();
+        }
+    }
+}
+
+/// Lets a command whose parts are done enter the serial list, with the next number among those of several warehouses, and
+/// keeps its parts. The client is told the whole list. Takes no memory.
+pub fn keep_all<const N: usize, K: Loaded, P: Parts<Part = Partition<N, K>>>(
+    parts: &mut P,
+    journal: &mut Journal<Commit, K>,
+    command: Command,
+    mut pass: Pass<Commit, K>,
+    reply: Reply,
+) -> Done<K>
+    requires parts { ArePartitions K.load (P.states parts.old) }
+    requires there { list_all (is_between 1 (length (P.states parts.old))) (warehouses_of command) ≡ true }
+    requires several { nat_lt 1 (length (warehouses_of command)) ≡ true }
+    requires done { AreDone command journal.old.list.log (P.states parts.old) }
+    ensures log { journal.new.list.log
+        ≡ journal.old.list.log ++ crossing_entry command (length pass.seen) journal.old.list.log ∷ [] }
+    ensures kept { Pairwise (KeepsPartIfNamed command (next_number journal.old.list.log) journal.new.list.log) 1
+        (P.states parts.old) (P.states parts.new) }
+    ensures client { IsPrefix pass.seen journal.old.list.log }
+    ensures answer { result ≡ record {
+      reply = reply;
+      pass = told pass journal.new.list.log;
+      share = share_of (home_of command) command;
+    } }
+{
+    know_named(parts, &command);
+    let stamp = pass.known();
+    journal.tell_client(&mut pass);
+    let crossing = journal.list.next_crossing();
+    let entry = Entry {
+        commit: Commit::Cross(crossing, command),
+        stamp,
+    };
+    journal.list.append(&entry);
+    let share = keep_parts(parts, &mut journal.list, entry.commit.command(), crossing);
+    journal.list.tell_client(&mut pass);
+    Done::new(reply, pass, share)
+}
