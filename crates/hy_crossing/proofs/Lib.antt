@@ -16,3 +16,4 @@ pub mod AcceptLaws
 pub mod CrossLaws
 pub mod GuardLaws
 pub mod WholeLaws
+pub mod SeatLaws

@@ -1,4 +1,5 @@
 pub mod Lists
 pub mod Crossings
 pub mod Pairs
+pub mod Making
 pub mod inside

@@ -10,6 +10,7 @@ mod crossing;
 mod doing;
 mod entering;
 mod keeping;
+mod making;
 mod parts;
 mod undoing;
 
@@ -18,4 +19,5 @@ pub use crossing::cross;
 pub use doing::do_parts;
 pub use entering::keep_all;
 pub use keeping::keep_parts;
+pub use making::partitions_of;
 pub use parts::Parts;

@@ -1,12 +1,11 @@
 pub mod ResultLaws
 pub mod ListLaws
-pub mod StepLaws
+pub mod ServedLaws
+pub mod CrossedLaws
+pub mod DatabaseLaws
 pub mod SnapshotLaws
-pub mod ForkLaws
-pub mod EachLaws
 pub mod NameLaws
 pub mod SeatLaws
-pub mod AskLaws
 pub mod RowLaws
 pub mod HeldLaws
 pub mod RunLaws

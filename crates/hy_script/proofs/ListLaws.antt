@@ -1,5 +1,5 @@
 -- Lists: what stands at a place, and what is left where an item comes or goes.
-use Rattle.std.proofs.Common.{◌≡◌, ◌+◌, ◌<◌, ℕ, zero, suc, List, [], ◌∷◌, Some, All, length, slice_get, slice_index_or, remove, ap, sym, subst, arith, inl, inr}
+use Rattle.std.proofs.Common.{◌≡◌, ◌+◌, ◌<◌, ℕ, zero, suc, List, [], ◌∷◌, ◌++◌, Option, None, Some, All, IfSome, IsSomeAnd, length, slice_get, slice_index_or, remove, ap, refl, sym, subst, arith, inl, inr}
 use Rattle.std.proofs.lemmas.Bool.{cases_lt}
 use Rattle.std.proofs.lemmas.List.Edits.{get_or-remove_above, get_or-remove_below, length-remove}
 
@@ -9,6 +9,35 @@ pub item_at : {X : Type 0} (all : List X) (place : ℕ) (item : X)
 item_at [] place item within is = absurd (omega arith)
 item_at (x ∷ xs) zero item within is = ap Some (sym is)
 item_at (x ∷ xs) (suc place) item within is = item_at xs place item (omega arith) is
+
+-- what follows of a value that may be there, and of one that is there
+pub if_some : {X : Type 0} {P Q : X → Type 0} (value : Option X) → ((x : X) → P x → Q x) → IfSome value P
+    → IfSome value Q
+if_some None leads holds = tt
+if_some (Some x) leads holds = leads x holds
+
+pub some_and : {X : Type 0} {P Q : X → Type 0} (value : Option X) → ((x : X) → P x → Q x) → IsSomeAnd value P
+    → IsSomeAnd value Q
+some_and None leads holds = absurd holds
+some_and (Some x) leads holds = leads x holds
+
+pub from_some : {X : Type 0} {P : X → Type 0} {Q : Type 0} (value : Option X) → ((x : X) → P x → Q) → IsSomeAnd value P
+    → Q
+from_some None leads holds = absurd holds
+from_some (Some x) leads holds = leads x holds
+
+-- what holds of each item at its place holds with one more behind
+pub each_push : {X : Type 0} (P : ℕ → X → Type 0) (all : List X) (last : X)
+    → ((place : ℕ) → IfSome (slice_get all place) (P place)) → P (length all) last
+    → (place : ℕ) → IfSome (slice_get (all ++ last ∷ []) place) (P place)
+each_push P [] last each it zero = it
+each_push P [] last each it (suc place) = tt
+each_push P (x ∷ xs) last each it zero = each zero
+each_push P (x ∷ xs) last each it (suc place) = each_push (λ n. P (suc n)) xs last (λ n. each (suc n)) it place
+
+pub length-push : {X : Type 0} (all : List X) (last : X) → length (all ++ last ∷ []) ≡ length all + 1
+length-push [] last = refl
+length-push (x ∷ xs) last = omega (arith, length-push xs last)
 
 -- what holds of each item holds of each that is left
 pub All-remove : {X : Type 0} (P : X → Type 0) (all : List X) (place : ℕ) → place < length all → All P all

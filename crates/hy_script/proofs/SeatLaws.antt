@@ -1,5 +1,5 @@
 -- The seats and the passes of a kit, in order.
-use Rattle.std.proofs.Common.{◌≡◌, ◌+◌, ℕ, zero, suc, List, ◌∷◌, length, map, ap, refl, subst, arith}
+use Rattle.std.proofs.Common.{◌≡◌, ◌+◌, ℕ, suc, List, ◌∷◌, length, map, subst, arith}
 use Rattle.std.specs.List.{range_with_len}
 use Rattle.hy_passes.specs.Worlds.{SeatState, new_partition}
 use Rattle.hy_commands.specs.declared.command.Commit.{Commit}

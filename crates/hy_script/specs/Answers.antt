@@ -1,10 +1,11 @@
 -- The text that answers an event, and what the event does.
-use Rattle.std.specs.Prelude.{◌≡◌, ◌⊎◌, ℕ, List, ◌∷◌, [], ◌++◌, Option, None, Some, MatchOption, codes, decimal, length, remove}
+use Rattle.std.specs.Prelude.{◌≡◌, ◌⊎◌, ℕ, true, false, List, ◌++◌, Option, None, Some, MatchOption, codes, decimal, length}
 use Rattle.std.specs.List.{flat_map}
 use Rattle.hy_schema.specs.declared.refusal.Refusal.{Refusal}
 use Rattle.hy_schema.specs.declared.refusal.Refusal.TheVariants as refusals
 use Rattle.hy_schema.specs.Refusals.{refusal_text}
 use Rattle.hy_commands.specs.Commands.{home_of}
+use Rattle.hy_commands.specs.declared.command.Command.{Command}
 use Rattle.hy_commands.specs.declared.reply.Reply.{Reply}
 use Rattle.hy_events.specs.declared.event.Event.{Event}
 use Rattle.hy_events.specs.declared.event.Event.TheVariants as events
@@ -14,11 +15,14 @@ use Rattle.hy_undo.specs.Touched.{touched}
 use Rattle.hy_partition.specs.declared.job.Progress.{Progress}
 use Rattle.hy_partition.specs.declared.job.Progress.TheVariants as progress
 use Rattle.hy_partition.specs.Jobs.{Log}
-use Rattle.hy_partition.specs.Steps.{IsUnbegun}
+use Rattle.hy_partition.specs.Partition.{PartitionState}
+use Rattle.hy_partition.specs.Steps.{IsUnbegun, StepsTo}
+use Rattle.hy_crossing.specs.Lists.{Pairwise}
+use Rattle.hy_forks.specs.Forks.{IsUnforked, IsWhyUnforked}
 use Rattle.hy_script.specs.declared.answer.Request.{Request}
 use Rattle.hy_script.specs.declared.answer.Request.TheVariants as requests
-use Rattle.hy_script.specs.Databases.{DatabaseState, Each, HasName, IsNameAt, WarehouseState, warehouse_at, with_warehouse}
-use Rattle.hy_script.specs.Steps.{Advances, Gains, IsBegun, IsLimited, IsWhyUnforked, Loses, Runs, StaysAsItWas, limit_for, reply_waiting}
+use Rattle.hy_script.specs.Databases.{DatabaseState, HasName, IsNameAt, part_at, with_part}
+use Rattle.hy_script.specs.Steps.{ClosesAt, IsBegun, IsLimited, Opens, Runs, RunsAcross, is_crossing, limit_for, reply_waiting}
 
 -- ---- texts
 
@@ -41,13 +45,12 @@ waiting_text (Some reply) = reply_text reply
 abbrev pub count_text : List ℕ → ℕ → List ℕ
 count_text word number = word ++ codes " " ++ decimal number ++ codes "\n"
 
--- how many commits a warehouse has kept
-abbrev pub commits_text : WarehouseState → List ℕ
-commits_text warehouse = codes " " ++ decimal (length warehouse.partition.kept)
+-- how many commits a partition has kept
+abbrev pub commits_text : PartitionState → List ℕ
+commits_text p = codes " " ++ decimal (length p.kept)
 
-abbrev pub snapshot_text : List ℕ → List WarehouseState → List ℕ
-snapshot_text name warehouses =
-    codes "snapshot " ++ name ++ codes " commits" ++ flat_map commits_text warehouses ++ codes "\n"
+abbrev pub snapshot_text : List ℕ → List PartitionState → List ℕ
+snapshot_text name parts = codes "snapshot " ++ name ++ codes " commits" ++ flat_map commits_text parts ++ codes "\n"
 
 abbrev pub closed_text : List ℕ → List ℕ
 closed_text name = codes "closed " ++ name ++ codes "\n"
@@ -55,71 +58,76 @@ closed_text name = codes "closed " ++ name ++ codes "\n"
 -- ---- what is asked of one warehouse
 
 -- the reply that waits was taken
-abbrev pub with_reply_taken : WarehouseState → WarehouseState
-with_reply_taken warehouse = record warehouse { partition = record warehouse.partition { finished = None } }
+abbrev pub with_reply_taken : PartitionState → PartitionState
+with_reply_taken p = record p { finished = None }
 
--- a request was granted: what it did to the serial list and to the warehouse, and what answers it
-abbrev pub Grants : Request → Log → Log → WarehouseState → WarehouseState → List ℕ → Type 0
+-- a request was granted: what it did to the serial list and to the partition, and what answers it
+abbrev pub Grants : Request → Log → Log → PartitionState → PartitionState → List ℕ → Type 0
 Grants (requests.Run command) before after old new text =
     (reply : Reply) × Runs command before after old new reply × (text ≡ reply_text reply)
 Grants (requests.Begin command) before after old new text =
     (after ≡ before) × ((IsBegun command old new × (text ≡ begun_text))
-    ⊎ ((why : Refusal) × IsUnbegun old.partition command why × (new ≡ old) × (text ≡ refused_text why)))
+    ⊎ ((why : Refusal) × IsUnbegun old command why × (new ≡ old) × (text ≡ refused_text why)))
 Grants requests.Step before after old new text =
-    MatchOption old.partition.running ((after ≡ before) × (new ≡ old) × (text ≡ refused_text refusals.NotRunning)) (λ job.
-    (progress : Progress) × Advances job before after old new progress × (text ≡ progress_text progress))
+    MatchOption old.running ((after ≡ before) × (new ≡ old) × (text ≡ refused_text refusals.NotRunning)) (λ job.
+    (progress : Progress) × StepsTo job (Some before) (Some after) old new progress × (text ≡ progress_text progress))
 Grants requests.Done before after old new text =
-    (after ≡ before) × (new ≡ with_reply_taken old) × (text ≡ waiting_text (reply_waiting old.partition.finished))
+    (after ≡ before) × (new ≡ with_reply_taken old) × (text ≡ waiting_text (reply_waiting old.finished))
 Grants requests.Touched before after old new text =
-    (after ≡ before) × (new ≡ old) × (text ≡ count_text (codes "touched") (touched old.partition.undo))
+    (after ≡ before) × (new ≡ old) × (text ≡ count_text (codes "touched") (touched old.undo))
 Grants requests.Free before after old new text =
-    (after ≡ before) × (new ≡ old) × (text ≡ count_text (codes "free") (free_of old.partition.space.frames))
+    (after ≡ before) × (new ≡ old) × (text ≡ count_text (codes "free") (free_of old.space.frames))
 Grants requests.Shared before after old new text =
-    (after ≡ before) × (new ≡ old) × (text ≡ count_text (codes "shared") (shared_of old.partition.space.frames))
+    (after ≡ before) × (new ≡ old) × (text ≡ count_text (codes "shared") (shared_of old.space.frames))
 Grants (requests.Limit more) before after old new text =
     (after ≡ before) × ((IsLimited more old new × (text ≡ count_text (codes "free") more))
-    ⊎ ((¬ IsLimitFor old.partition.space.frames (limit_for old.partition.space.frames more)) × (new ≡ old)
+    ⊎ ((¬ IsLimitFor old.space.frames (limit_for old.space.frames more)) × (new ≡ old)
     × (text ≡ refused_text refusals.OutOfRange)))
 
 -- a request to the warehouse of a number, which may not be there
 abbrev pub Asks : ℕ → Request → DatabaseState → DatabaseState → List ℕ → Type 0
 Asks number request old new text =
-    MatchOption (warehouse_at old number) ((new ≡ old) × (text ≡ refused_text refusals.NoSuchWarehouse)) (λ warehouse.
-    (next : WarehouseState) × Grants request old.log new.log warehouse next text
-    × (new ≡ record (with_warehouse old number next) { log = new.log }))
+    MatchOption (part_at old number) ((new ≡ old) × (text ≡ refused_text refusals.NoSuchWarehouse)) (λ p.
+    (next : PartitionState) × Grants request old.log new.log p next text
+    × (new ≡ record (with_part old number next) { log = new.log }))
+
+-- ---- commands
+
+-- a command was run, and its reply printed: over several warehouses where it names several, else by its home
+abbrev pub RunsWhole : Command → DatabaseState → DatabaseState → List ℕ → Type 0
+RunsWhole command old new text =
+    ((is_crossing command ≡ true) × (reply : Reply) × RunsAcross command old new reply × (text ≡ reply_text reply))
+    ⊎ ((is_crossing command ≡ false) × Asks (home_of command) (requests.Run command) old new text)
 
 -- ---- snapshots of all warehouses
 
--- each warehouse was forked under a name that wasn't open
+-- each partition was forked, and the snapshot has the name, which wasn't open
 pub record OpensName (page_size : ℕ) (name : List ℕ) (old new : DatabaseState) (text : List ℕ) : Type 0 where
-  pub forks : Each (Gains page_size old.log) old.warehouses new.warehouses
-  pub names : new.names ≡ old.names ++ name ∷ []
+  pub opens : Opens page_size name old new
   pub log : new.log ≡ old.log
-  pub prints : text ≡ snapshot_text name new.warehouses
+  pub prints : text ≡ snapshot_text name new.parts
 
 -- for want of frames or of memory no name was opened, and no snapshot is left of it
 pub record OpensNone (old new : DatabaseState) (text : List ℕ) : Type 0 where
   pub why : Refusal
-  pub reason : IsWhyUnforked old.warehouses why
-  pub stays : Each StaysAsItWas old.warehouses new.warehouses
-  pub names : new.names ≡ old.names
+  pub reason : IsWhyUnforked old.parts why
+  pub stays : Pairwise (λ number. IsUnforked old.log) 1 old.parts new.parts
+  pub snapshots : new.snapshots ≡ old.snapshots
   pub log : new.log ≡ old.log
   pub prints : text ≡ refused_text why
 
--- the snapshot of a name was closed in each warehouse
+-- the snapshot of a name was closed
 pub record ClosesName (name : List ℕ) (old new : DatabaseState) (text : List ℕ) : Type 0 where
   pub place : ℕ
-  pub there : IsNameAt old.names name place
-  pub closes : Each (Loses place) old.warehouses new.warehouses
-  pub names : new.names ≡ remove old.names place
-  pub log : new.log ≡ old.log
+  pub there : IsNameAt old.snapshots name place
+  pub closes : ClosesAt place old new
   pub prints : text ≡ closed_text name
 
 -- ---- events
 
 -- an event was done, and this is what it printed
 abbrev pub Answers : ℕ → Event → DatabaseState → DatabaseState → List ℕ → Type 0
-Answers page_size (events.Run command) old new text = Asks (home_of command) (requests.Run command) old new text
+Answers page_size (events.Run command) old new text = RunsWhole command old new text
 Answers page_size (events.Begin command) old new text = Asks (home_of command) (requests.Begin command) old new text
 Answers page_size (events.Step number) old new text = Asks number requests.Step old new text
 Answers page_size (events.Done number) old new text = Asks number requests.Done old new text
@@ -128,11 +136,11 @@ Answers page_size (events.Free number) old new text = Asks number requests.Free 
 Answers page_size (events.Shared number) old new text = Asks number requests.Shared old new text
 Answers page_size (events.Limit number more) old new text = Asks number (requests.Limit more) old new text
 Answers page_size (events.Fork name) old new text =
-    (¬ HasName old.names name) × (OpensName page_size name old new text ⊎ OpensNone old new text)
+    (¬ HasName old.snapshots name) × (OpensName page_size name old new text ⊎ OpensNone old new text)
 Answers page_size (events.Close name) old new text = ClosesName name old new text
 
 -- an event that names a snapshot that isn't open, or opens one of an open name
 abbrev pub IsMisnamed : DatabaseState → Event → Type 0
-IsMisnamed database (events.Fork name) = HasName database.names name
-IsMisnamed database (events.Close name) = ¬ HasName database.names name
+IsMisnamed database (events.Fork name) = HasName database.snapshots name
+IsMisnamed database (events.Close name) = ¬ HasName database.snapshots name
 IsMisnamed database other = ⊥

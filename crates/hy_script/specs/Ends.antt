@@ -32,7 +32,7 @@ IsRunFault page_size lines first before after unprinted failed (faults.Output er
 IsRunFault page_size lines first before after unprinted failed (faults.Refused refusal) =
     (refusal ≡ refusals.NoMemory) × unprinted
 
--- the warehouses can't be made, before anything was written; or there is a bad event, behind the answers to the events
+-- the partitions can't be made, before anything was written; or there is a bad event, behind the answers to the events
 -- before it; or the output failed
 abbrev pub IsScriptFault : ℕ → Lists → ℕ → ℕ → List ℕ → Option (List ℕ) → Option (List ℕ) → Type 0 → Type 0
     → ScriptFault → Type 0

@@ -3,15 +3,16 @@ use Rattle.std.specs.Prelude.{ℕ, List, Option}
 use Rattle.std.specs.Io.KnownBytes.{Appends}
 use Rattle.hy_events.specs.declared.event.Event.{Event}
 use Rattle.hy_partition.specs.Jobs.{Log}
+use Rattle.hy_partition.specs.Partition.{PartitionState}
 use Rattle.hy_script.specs.declared.answer.Request.{Request}
 use Rattle.hy_script.specs.Answers.{Answers, Asks, Grants, IsMisnamed}
 use Rattle.hy_script.specs.declared.event.Unanswered.{Unanswered}
 use Rattle.hy_script.specs.declared.event.Unanswered.TheVariants as unanswered
-use Rattle.hy_script.specs.Databases.{DatabaseState, WarehouseState}
+use Rattle.hy_script.specs.Databases.{DatabaseState}
 use Rattle.hy_script.specs.Scripts.{AnswersLine, Prints}
 
 -- a request was granted, with the serial list before and after, and its answer stands behind the bytes that were there
-abbrev pub IsGranted : Request → Log → Log → WarehouseState → WarehouseState → Option (List ℕ) → Option (List ℕ) → Type 0
+abbrev pub IsGranted : Request → Log → Log → PartitionState → PartitionState → Option (List ℕ) → Option (List ℕ) → Type 0
 IsGranted request log longer old new before after =
     (text : List ℕ) × Grants request log longer old new text × Appends before after text
 

@@ -6,9 +6,9 @@ use Rattle.hy_rows.specs.Tables.{Lists}
 use Rattle.hy_events.specs.declared.event.Event.{Event}
 use Rattle.hy_events.specs.Events.{TakesMemory, event_of}
 use Rattle.hy_events.specs.Lines.{lines, numbered}
+use Rattle.hy_partition.specs.Steps.{Begins}
 use Rattle.hy_script.specs.Answers.{Answers, IsMisnamed, refused_text}
 use Rattle.hy_script.specs.Databases.{DatabaseState}
-use Rattle.hy_script.specs.Steps.{Starts}
 
 -- a line that isn't empty is a bad event: it says none, or it misnames a snapshot
 abbrev pub IsBad : DatabaseState → List ℕ → Type 0
@@ -31,11 +31,11 @@ Prints page_size (line ∷ later) database text bad =
     ⊎ ((next : DatabaseState) × (answer : List ℕ) × (rest : List ℕ) × AnswersLine page_size line.1 database next answer
     × (text ≡ answer ++ rest) × Prints page_size later next rest bad)
 
--- a database as the load has it: one warehouse for each of its rows of WAREHOUSE, no snapshot, and no commit
+-- a database as the load has it: one partition for each of its rows of WAREHOUSE, no snapshot, and no commit
 pub record StartsFrom (lists : Lists) (frames commits : ℕ) (database : DatabaseState) : Type 0 where
-  pub count : length database.warehouses ≡ length lists.tables.warehouses
-  pub each : (place : ℕ) → IfSome (slice_get database.warehouses place) (Starts lists (place + 1) frames commits)
-  pub names : database.names ≡ []
+  pub count : length database.parts ≡ length lists.tables.warehouses
+  pub each : (place : ℕ) → IfSome (slice_get database.parts place) (Begins lists (place + 1) frames commits)
+  pub snapshots : database.snapshots ≡ []
   pub log : database.log ≡ []
 
 -- what the script prints from the load stands behind the bytes that were there

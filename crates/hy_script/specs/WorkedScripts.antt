@@ -1,12 +1,15 @@
 -- What is printed for some events; the checker computes each row.
-use Rattle.std.specs.Prelude.{◌≡◌, [], ◌∷◌, None, Some, codes, refl}
+use Rattle.std.specs.Prelude.{◌≡◌, [], ◌∷◌, ℕ, None, Some, codes, false, refl, true}
 use Rattle.std.specs.Fmt.{digits}
 use Rattle.hy_schema.specs.declared.refusal.Refusal.TheVariants as refusals
+use Rattle.hy_commands.specs.declared.command.Command.{Command}
+use Rattle.hy_commands.specs.declared.command.Command.TheVariants as commands
+use Rattle.hy_commands.specs.declared.command.Who.TheVariants as who
 use Rattle.hy_commands.specs.declared.reply.Reply.TheVariants as replies
 use Rattle.hy_frames.specs.FrameTable.{empty_frame}
 use Rattle.hy_partition.specs.declared.job.Progress.TheVariants as progress
 use Rattle.hy_script.specs.Answers.{closed_text, count_text, progress_text, refused_text, snapshot_text, waiting_text}
-use Rattle.hy_script.specs.Steps.{limit_for}
+use Rattle.hy_script.specs.Steps.{is_crossing, limit_for}
 
 -- ---- texts
 
@@ -35,6 +38,26 @@ closed = refl
 
 snapshot_of_nothing : snapshot_text (codes "A") [] ≡ codes "snapshot A commits\n"
 snapshot_of_nothing = refl
+
+-- ---- commands over several warehouses
+
+-- warehouse 1 takes a payment of a customer of a warehouse
+abbrev pub payment_of : ℕ → Command
+payment_of warehouse = commands.Payment (record {
+  warehouse = 1;
+  district = 1;
+  customer_warehouse = warehouse;
+  customer_district = 1;
+  who = who.Number 1;
+  amount = 100;
+  at = 3;
+})
+
+payment_of_its_own_customer : is_crossing (payment_of 1) ≡ false
+payment_of_its_own_customer = refl
+
+payment_of_another_customer : is_crossing (payment_of 2) ≡ true
+payment_of_another_customer = refl
 
 -- ---- limits
 

@@ -5,12 +5,13 @@ ghost use Rattle.std.specs.Io.KnownBytes.{Appends};
 ghost use Rattle.hy_partition.specs.Jobs.{Log};
 ghost use Rattle.hy_script.specs.Answers.{Grants, begun_text, count_text, progress_text, refused_text, waiting_text};
 ghost use Rattle.hy_script.specs.Printed.{IsGranted};
+ghost use Rattle.hy_script.specs.inside.Invariants.{IsServed, KeepsPlace, KeepsServed, StaysServed};
 
-use crate::forked_partition::ForkedPartition;
+use crate::terminal::Terminal;
 use hy_commands::{Command, Commit, Reply};
 use hy_events::write_reply;
 use hy_output::Output;
-use hy_partition::{Loaded, Progress};
+use hy_partition::{Loaded, Partition, Progress};
 use hy_passes::Journal;
 use hy_schema::Refusal;
 use std::io;
@@ -36,58 +37,64 @@ pub enum Request {
     Limit(u64),
 }
 
-/// Does what is asked of a warehouse, and writes the answer.
+/// Does what is asked of a warehouse, by its partition and its terminal, and writes the answer.
 pub fn grant<const N: usize, K: Loaded, O: Output>(
-    warehouse: &mut ForkedPartition<N, K>,
+    part: &mut Partition<N, K>,
+    terminal: &mut Terminal<K>,
     journal: &mut Journal<Commit, K>,
     request: Request,
     out: &mut O,
 ) -> io::Result<()>
+    requires served { IsServed part.old terminal.old }
     ensures granted { OnOk result (IsGranted request journal.old.list.log journal.new.list.log
-        warehouse.old warehouse.new (O.contents out.old) (O.contents out.new)) }
+        part.old part.new (O.contents out.old) (O.contents out.new)) }
     ensures failed { OnErr result (IsTrue (O.has_failed out.new)) }
-    ensures keeps { warehouse.new.snapshots ≡ warehouse.old.snapshots }
+    ensures stays { StaysServed part.old part.new terminal.new }
 {
     match request {
-        Request::Run(command) => run(warehouse, journal, command, out),
-        Request::Begin(command) => begin(warehouse, command, out),
-        Request::Step => step(warehouse, journal, out),
-        Request::Done => write_waiting(out, warehouse.take_reply()),
-        Request::Touched => write_count(out, "touched", warehouse.touched()),
-        Request::Free => write_count(out, "free", warehouse.free()),
-        Request::Shared => write_count(out, "shared", warehouse.shared()),
-        Request::Limit(more) => limit(warehouse, more, out),
+        Request::Run(command) => run(part, terminal, journal, command, out),
+        Request::Begin(command) => begin(part, terminal, command, out),
+        Request::Step => step(part, journal, out),
+        Request::Done => write_waiting(out, terminal.take_reply(part)),
+        Request::Touched => write_count(out, "touched", part.touched()),
+        Request::Free => write_count(out, "free", part.free()),
+        Request::Shared => write_count(out, "shared", part.shared()),
+        Request::Limit(more) => limit(part, terminal, more, out),
     }
 }
 
 /// Runs a command as a whole, and writes its reply.
 fn run<const N: usize, K: Loaded, O: Output>(
-    warehouse: &mut ForkedPartition<N, K>,
+    part: &mut Partition<N, K>,
+    terminal: &mut Terminal<K>,
     journal: &mut Journal<Commit, K>,
     command: Command,
     out: &mut O,
 ) -> io::Result<()>
+    requires served { IsServed part.old terminal.old }
     ensures granted { OnOk result (IsGranted (Request.Run command) journal.old.list.log journal.new.list.log
-        warehouse.old warehouse.new (O.contents out.old) (O.contents out.new)) }
+        part.old part.new (O.contents out.old) (O.contents out.new)) }
     ensures failed { OnErr result (IsTrue (O.has_failed out.new)) }
-    ensures keeps { warehouse.new.snapshots ≡ warehouse.old.snapshots }
+    ensures stays { StaysServed part.old part.new terminal.new }
 {
-    let reply = warehouse.run(journal, command);
+    let reply = terminal.run(part, journal, command);
     write_reply(out, &reply)
 }
 
 /// Begins a command, and writes that it did or why not.
 fn begin<const N: usize, K: Loaded, O: Output>(
-    warehouse: &mut ForkedPartition<N, K>,
+    part: &mut Partition<N, K>,
+    terminal: &mut Terminal<K>,
     command: Command,
     out: &mut O,
 ) -> io::Result<()>
+    requires served { IsServed part.old terminal.old }
     ensures granted { (log : Log) → OnOk result (IsGranted (Request.Begin command) log log
-        warehouse.old warehouse.new (O.contents out.old) (O.contents out.new)) }
+        part.old part.new (O.contents out.old) (O.contents out.new)) }
     ensures failed { OnErr result (IsTrue (O.has_failed out.new)) }
-    ensures keeps { warehouse.new.snapshots ≡ warehouse.old.snapshots }
+    ensures stays { StaysServed part.old part.new terminal.new }
 {
-    match warehouse.begin(command) {
+    match terminal.begin(part, command) {
         Ok(()) => writeln!(out, "begun"),
         Err(refusal) => write_refused(out, refusal),
     }
@@ -95,16 +102,17 @@ fn begin<const N: usize, K: Loaded, O: Output>(
 
 /// Does a slice of what runs, and writes whether more are to come.
 fn step<const N: usize, K: Loaded, O: Output>(
-    warehouse: &mut ForkedPartition<N, K>,
+    part: &mut Partition<N, K>,
     journal: &mut Journal<Commit, K>,
     out: &mut O,
 ) -> io::Result<()>
     ensures granted { OnOk result (IsGranted Request.Step journal.old.list.log journal.new.list.log
-        warehouse.old warehouse.new (O.contents out.old) (O.contents out.new)) }
+        part.old part.new (O.contents out.old) (O.contents out.new)) }
     ensures failed { OnErr result (IsTrue (O.has_failed out.new)) }
-    ensures keeps { warehouse.new.snapshots ≡ warehouse.old.snapshots }
+    ensures keeps { KeepsServed part.old part.new }
+    ensures place { KeepsPlace part.old part.new }
 {
-    match warehouse.step(journal) {
+    match part.step(journal) {
         Ok(progress) => write_progress(out, progress),
         Err(refusal) => write_refused(out, refusal),
     }
@@ -112,16 +120,18 @@ fn step<const N: usize, K: Loaded, O: Output>(
 
 /// Sets the limit on frames, and writes how many more there may be.
 fn limit<const N: usize, K: Loaded, O: Output>(
-    warehouse: &mut ForkedPartition<N, K>,
+    part: &mut Partition<N, K>,
+    terminal: &mut Terminal<K>,
     more: u64,
     out: &mut O,
 ) -> io::Result<()>
+    requires served { IsServed part.old terminal.old }
     ensures granted { (log : Log) → OnOk result (IsGranted (Request.Limit more) log log
-        warehouse.old warehouse.new (O.contents out.old) (O.contents out.new)) }
+        part.old part.new (O.contents out.old) (O.contents out.new)) }
     ensures failed { OnErr result (IsTrue (O.has_failed out.new)) }
-    ensures keeps { warehouse.new.snapshots ≡ warehouse.old.snapshots }
+    ensures stays { StaysServed part.old part.new terminal.new }
 {
-    match warehouse.limit(more) {
+    match terminal.limit(part, more) {
         Ok(()) => write_count(out, "free", more),
         Err(refusal) => write_refused(out, refusal),
     }

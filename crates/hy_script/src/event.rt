@@ -9,7 +9,8 @@ ghost use Rattle.hy_script.specs.Printed.{IsAnswered, IsUnanswered};
 
 use crate::answer::{Request, write_refused};
 use crate::database::Database;
-use hy_events::{Event, SnapshotName};
+use hy_commands::Command;
+use hy_events::{Event, SnapshotName, write_reply};
 use hy_output::Output;
 use hy_partition::Loaded;
 use std::io;
@@ -44,10 +45,7 @@ pub fn answer<'a, const N: usize, K: Loaded, O: Output>(
         (IsTrue (O.has_failed out.new))) }
 {
     match event {
-        Event::Run(command) => {
-            let home = command.home();
-            database.ask(home, Request::Run(command), out)?;
-        }
+        Event::Run(command) => run(database, command, out)?,
         Event::Begin(command) => {
             let home = command.home();
             database.ask(home, Request::Begin(command), out)?;
@@ -64,6 +62,24 @@ pub fn answer<'a, const N: usize, K: Loaded, O: Output>(
         Event::Close(name) => return close(database, name, out),
     }
     Ok(())
+}
+
+/// Runs a command as a whole, over several warehouses where it names several, else in its home, and writes its reply.
+fn run<const N: usize, K: Loaded, O: Output>(
+    database: &mut Database<'_, N, K>,
+    command: Command,
+    out: &mut O,
+) -> io::Result<()>
+    ensures answered { OnOk result
+        (IsAnswered N (events.Run command) database.old database.new (O.contents out.old) (O.contents out.new)) }
+    ensures failed { OnErr result (IsTrue (O.has_failed out.new)) }
+{
+    if command.is_crossing() {
+        let reply = database.cross(command);
+        return write_reply(out, &reply);
+    }
+    let home = command.home();
+    database.ask(home, Request::Run(command), out)
 }
 
 /// Opens a snapshot of a name, and writes how many commits each warehouse has. Where that is refused, no snapshot is

@@ -4,10 +4,10 @@
 mod answer;
 mod database;
 mod event;
-mod forked_partition;
 mod held;
 mod kit;
-mod names;
+mod named;
 mod script;
+mod terminal;
 
 pub use script::{ScriptFault, run_script};

@@ -1,26 +1,85 @@
-use Rattle.std.proofs.Common.{◌≡◌, ◌+◌, length, rules}
-use Rattle.hy_script.specs.Steps.{Gains, StaysAsItWas}
-use Rattle.hy_script.proofs.EachLaws.{gained, length-each, stayed, written}
-use Rattle.hy_script.proofs.ForkLaws.{Each-stays, length-push}
+use Rattle.std.proofs.Common.{◌≡◌, ◌++◌, ◌∷◌, [], length, refl, subst}
+use Rattle.std.proofs.lemmas.List.Elements.{All-push}
+use Rattle.hy_crossing.specs.Lists.{Pairwise}
+use Rattle.hy_forks.specs.Forks.{IsUnforked}
+use Rattle.hy_script.specs.Databases.{DatabaseState, OpenSnapshot}
+use Rattle.hy_script.specs.Steps.{Opens}
+use Rattle.hy_script.specs.inside.Invariants.{IsOfAll}
+use Rattle.hy_script.proofs.DatabaseLaws.{served-pairs}
+use Rattle.hy_script.proofs.ResultLaws.{on_err}
+use Rattle.hy_script.proofs.SnapshotLaws.{all-unforked, forked-own, keeps-forked, keeps-unforked}
 use Rattle.hy_script.proofs.database.Database.fork.Goals as goal
 
 pub returns-in_err-reserve-clause-stays : goal.returns-in_err-reserve-clause-stays
-returns-in_err-reserve-clause-stays g c = search (rules, Each-stays c.self.inside.warehouses.items)
+returns-in_err-reserve-clause-stays g c =
+    let parts = c.self.inside.parts.items in
+    on_err c.from_residual.result
+    (subst (λ (now : DatabaseState). Pairwise (λ number. IsUnforked now.log) 1 now.parts parts) c.self.view_is
+    (all-unforked c.self.inside.journal.list.log parts))
 
-pub invariant_of-self-in_err-fork_each : goal.invariant_of-self-in_err-fork_each
-invariant_of-self-in_err-fork_each g c =
-    let old = c.self.inside.warehouses.items in
-    let new = c.fork_each.new.warehouses in
-    let each = rw c.deref_mut.ensures.value at c.in_err-fork_each.ensures.stays in
-    rw (written c.self.inside.warehouses.len old new (search rules) (length-each StaysAsItWas old new each))
-    (rw c.reserve.ensures.items (stayed (length c.self.inside.names.items) old new each c.self.invariant))
+pub invariant_of-self-in_err-snapshot : goal.invariant_of-self-in_err-snapshot
+invariant_of-self-in_err-snapshot g c =
+    let olds = c.self.inside.parts.items in
+    let news = c.fork_all.new.parts.items in
+    record {
+      load = c.fork_all.ensures.parts;
+      whole = c.fork_all.ensures.whole;
+      served = served-pairs 1 olds news c.self.inside.terminals.items
+          (keeps-unforked c.self.inside.journal.list.log olds news c.in_err-snapshot.ensures.err)
+          c.self.invariant.served;
+      taken = rw c.reserve.ensures.items (c.self.invariant.taken);
+      pass_is = refl;
+    }
+
+pub returns-in_err-snapshot-clause-stays : goal.returns-in_err-snapshot-clause-stays
+returns-in_err-snapshot-clause-stays g c =
+    let news = c.fork_all.new.parts.items in
+    on_err c.from_residual-in_err-snapshot.result
+    (subst (λ (now : DatabaseState). Pairwise (λ number. IsUnforked now.log) 1 now.parts news) c.self.view_is
+    c.in_err-snapshot.ensures.err)
 
 pub invariant_of-self-2 : goal.invariant_of-self-2
 invariant_of-self-2 g c =
-    let old = c.self.inside.warehouses.items in
-    let new = c.fork_each.new.warehouses in
-    let each = rw c.deref_mut.ensures.value at c.in_ok-fork_each.ensures.forks in
-    let more : length c.push_reserved.new.self.items ≡ length c.self.inside.names.items + 1 =
-    search (rules, c.push_reserved.ensures.items, c.reserve.ensures.items, length-push c.self.inside.names.items) in
-    rw (written c.self.inside.warehouses.len old new (search rules) (length-each (Gains g.row.N c.self.inside.journal.list.log) old new each), more)
-    (gained g.row.N (length c.self.inside.names.items) c.self.inside.journal.list.log old new each c.self.invariant)
+    let kit = g.K.World.passes in
+    let lists = g.K.Loaded.load in
+    let log = c.self.inside.journal.list.log in
+    let known = c.in-Some.pass.seen in
+    let olds = c.self.inside.parts.items in
+    let news = c.fork_all.new.parts.items in
+    let snapshot = c.in_ok-snapshot.snapshot in
+    let forks = c.in_ok-snapshot.ensures.forks in
+    let own = forked-own g.row.N kit log known olds news snapshot forks lists c.args.name c.self.invariant.load
+    c.fork_all.ensures.parts in
+    record {
+      load = c.fork_all.ensures.parts;
+      whole = c.fork_all.ensures.whole;
+      served = served-pairs 1 olds news c.self.inside.terminals.items
+          (keeps-forked g.row.N kit log known olds news snapshot forks) c.self.invariant.served;
+      taken = rw (c.push_reserved.ensures.items, c.new.ensures, c.reserve.ensures.items)
+          (All-push (IsOfAll kit (length lists.tables.warehouses)) c.self.inside.snapshots.items
+          (record { name = c.args.name; parts = snapshot }) c.self.invariant.taken own);
+      pass_is = refl;
+    }
+
+pub returns-clause-opens : goal.returns-clause-opens
+returns-clause-opens g c =
+    let held = c.self.inside.snapshots.items in
+    let snapshot = c.in_ok-snapshot.snapshot in
+    let opened : OpenSnapshot = record { name = c.args.name; parts = snapshot } in
+    let new : DatabaseState = record {
+      parts = c.fork_all.new.parts.items;
+      snapshots = c.push_reserved.new.self.items;
+      log = c.fork_all.new.journal.list.log;
+    } in
+    let more : c.push_reserved.new.self.items ≡ held ++ opened ∷ [] =
+    rw (c.new.ensures, c.reserve.ensures.items) at c.push_reserved.ensures.items in
+    subst (λ (now : DatabaseState). Opens g.row.N c.args.name now new) c.self.view_is (record {
+      kit = g.K.World.passes;
+      known = c.in-Some.pass.seen;
+      parts = snapshot;
+      forks = c.in_ok-snapshot.ensures.forks;
+      lists = g.K.Loaded.load;
+      load = c.self.invariant.load;
+      spells = c.in_ok-snapshot.ensures.database;
+      snapshots = more;
+    })

@@ -1,0 +1,11 @@
+pub mod RelationLaws
+pub mod PlaceLaws
+pub mod ForkLaws
+pub mod KnownLaws
+pub mod PartsLaws
+pub mod HistoryLaws
+pub mod DatabaseLaws
+pub mod AllLaws
+pub mod CloseLaws
+pub mod TellLaws
+pub mod ResultLaws

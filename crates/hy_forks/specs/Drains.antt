@@ -1,0 +1,16 @@
+-- What was committed since the last drain.
+use Rattle.std.specs.Prelude.{◌≡◌, ℕ, length}
+use mathlib.Core.List.{IsPrefix}
+use Rattle.hy_partition.specs.Jobs.{Log}
+use Rattle.hy_partition.specs.Partition.{PartitionState, projection_of}
+
+-- a partition was told the whole serial list, of which it has kept all that names it
+abbrev pub TellsHere : Log → ℕ → PartitionState → PartitionState → Type 0
+TellsHere log number old new =
+    (new ≡ record old { seen = log }) × (old.kept ≡ projection_of old.warehouse log) × IsPrefix old.seen log
+
+-- the same, and all its commits count as drained
+abbrev pub DrainsHere : Log → ℕ → PartitionState → PartitionState → Type 0
+DrainsHere log number old new =
+    (new ≡ record old { seen = log; drained = length old.kept }) × (old.kept ≡ projection_of old.warehouse log)
+    × IsPrefix old.seen log

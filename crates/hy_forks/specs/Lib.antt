@@ -1,0 +1,4 @@
+pub mod Forks
+pub mod Drains
+pub mod Histories
+pub mod inside

@@ -1,0 +1,117 @@
+//! Forks of all warehouses at one moment.
+
+ghost use Rattle.std.specs.Prelude.{◌≡◌, ◌⊎◌, ◌↔◌, ◌<◌, IsTrue, None, IfErr, IfOk, IsOk, OnErr, OnOk, length};
+ghost use mathlib.Core.List.{IsPrefix};
+ghost use Rattle.hy_schema.specs.Conditions.{first_broken};
+ghost use Rattle.hy_schema.specs.declared.refusal.Refusal.{Refusal};
+ghost use Rattle.hy_database.specs.Database.{all_rows};
+ghost use Rattle.hy_partition.specs.Jobs.{told};
+ghost use Rattle.hy_crossing.specs.Crossings.{ArePartitions, HaveNoPart, database_behind};
+ghost use Rattle.hy_crossing.specs.Lists.{ChangesAt, Pairwise};
+ghost use Rattle.hy_forks.specs.Forks.{AreOfKit, ClosesHere, ForksAll, IsUnforked, IsWhyUnforked, SpellsDatabase, are_from};
+ghost use Rattle.hy_forks.specs.Histories.{IsOneHistory};
+ghost use Rattle.hy_forks.specs.inside.Places.{ForksExactly, RefusesFork};
+
+use crate::closing::{are_mine, close_each};
+use crate::knowing::{know_list, know_load};
+use crate::snapshot::SnapshotAll;
+use hy_commands::Commit;
+use hy_crossing::Parts;
+use hy_partition::{Loaded, Partition, Snapshot};
+use hy_passes::{Journal, Pass};
+use hy_schema::Refusal;
+use std::alloc::Global;
+
+/// A snapshot of the partition at a place.
+fn fork_here<const N: usize, K: Loaded, P: Parts<Part = Partition<N, K>>>(
+    parts: &mut P,
+    journal: &mut Journal<Commit, K>,
+    pass: &mut Pass<Commit, K>,
+    place: usize,
+) -> Result<Snapshot<N>, Refusal>
+    requires there { place < length (P.states parts.old) }
+    ensures forks { IfOk result (λ snapshot. ChangesAt
+        (ForksExactly N K.passes journal.old.list.log pass.old.seen snapshot) place (P.states parts.old)
+        (P.states parts.new)) }
+    ensures told { OnOk result (pass.new ≡ told pass.old journal.old.list.log) }
+    ensures log { journal.new.list.log ≡ journal.old.list.log }
+    ensures refused { IfErr result
+        (λ why. ChangesAt (RefusesFork why) place (P.states parts.old) (P.states parts.new)) }
+    ensures untold { OnErr result (pass.new ≡ pass.old) }
+{
+    let part = parts.part(place);
+    part.headline();
+    part.fork(journal, pass)
+}
+
+/// A snapshot of the whole database behind the serial list: each warehouse is forked, in rising order, with what runs
+/// undone in the snapshot. Partitions and client are told the whole list. Refused with E2 only where one of them has
+/// fewer frames free than its job has touched pages, else with E1; then what was forked is closed again, and nothing is
+/// forked.
+pub fn fork_all<const N: usize, K: Loaded, P: Parts<Part = Partition<N, K>>>(
+    alloc: Global,
+    parts: &mut P,
+    journal: &mut Journal<Commit, K>,
+    pass: &mut Pass<Commit, K>,
+) -> Result<SnapshotAll<N>, Refusal>
+    requires parts { ArePartitions K.load (P.states parts.old) }
+    requires whole { HaveNoPart (P.states parts.old) }
+    ensures forks { IfOk result (ForksAll N K.passes journal.old.list.log pass.old.seen (P.states parts.old)
+        (P.states parts.new)) }
+    ensures database { IfOk result (SpellsDatabase N (database_behind K.load journal.old.list.log)) }
+    ensures consistent { OnOk result
+        (first_broken (all_rows (database_behind K.load journal.old.list.log)) ≡ None) }
+    ensures history { OnOk result
+        (IsOneHistory K.passes.partitions journal.old.list.log (P.states parts.new)) }
+    ensures kit { IfOk result (AreOfKit K.passes) }
+    ensures told { OnOk result (pass.new ≡ told pass.old journal.old.list.log) }
+    ensures log { journal.new.list.log ≡ journal.old.list.log }
+    ensures refused { IfErr result (IsWhyUnforked (P.states parts.old)) }
+    ensures err { OnErr result (Pairwise (λ number. IsUnforked journal.old.list.log) 1 (P.states parts.old)
+        (P.states parts.new)) }
+    ensures untold { OnErr result ((pass.new ≡ pass.old)
+        ⊎ ((pass.new ≡ told pass.old journal.old.list.log) × IsPrefix pass.old.seen journal.old.list.log)) }
+    ensures parts { ArePartitions K.load (P.states parts.new) }
+    ensures whole { HaveNoPart (P.states parts.new) }
+{
+    let mut snapshots = Vec::with_capacity(alloc, parts.len())?;
+    know_load(parts);
+    know_list(journal);
+    for place in 0..parts.len() {
+        match fork_here(parts, journal, pass, place) {
+            Ok(snapshot) => snapshots.push_reserved(snapshot),
+            Err(refusal) => {
+                close_each(parts, snapshots);
+                return Err(refusal);
+            }
+        }
+    }
+    // Each fork has told the client, where a warehouse is there.
+    journal.tell_client(pass);
+    Ok(SnapshotAll::new(snapshots))
+}
+
+/// Closes a snapshot of these partitions, warehouse by warehouse: the frames that only it had are free again. E11 where
+/// one of its snapshots is another warehouse's or one of a kit with another name; it comes back, and nothing is closed.
+/// A snapshot with the kit's name has to be one of that kit. Takes no memory.
+pub fn close_all<const N: usize, K: Loaded, P: Parts<Part = Partition<N, K>>>(
+    parts: &mut P,
+    all: SnapshotAll<N>,
+) -> Result<(), (SnapshotAll<N>, Refusal)>
+    requires parts { ArePartitions K.load (P.states parts.old) }
+    requires whole { HaveNoPart (P.states parts.old) }
+    requires kit { AreOfKit K.passes all }
+    ensures mine { IsOk result ↔ IsTrue (are_from K.passes all.entry (P.states parts.old)) }
+    ensures closes { OnOk result (Pairwise (ClosesHere all.entry) 1 (P.states parts.old) (P.states parts.new)) }
+    ensures refused { IfErr result
+        (λ refused. (refused.0 ≡ all.entry) × (refused.1 ≡ Refusal.NotMine)) }
+    ensures err { OnErr result (P.states parts.new ≡ P.states parts.old) }
+    ensures parts { ArePartitions K.load (P.states parts.new) }
+    ensures whole { HaveNoPart (P.states parts.new) }
+{
+    if !are_mine(parts, &all) {
+        return Err((all, Refusal::NotMine));
+    }
+    close_each(parts, all.take_apart());
+    Ok(())
+}

@@ -1,0 +1,14 @@
+//! Snapshots of the whole database, and what was committed since the last drain.
+#![tactic(auto)]
+
+mod closing;
+mod drains;
+mod forks;
+mod history;
+mod knowing;
+mod snapshot;
+
+pub use drains::{Batch, drain};
+pub use forks::{close_all, fork_all};
+pub use history::find_history;
+pub use snapshot::SnapshotAll;

@@ -1,0 +1,53 @@
+//! A snapshot of the whole database.
+
+ghost use Rattle.std.specs.Prelude.{◌≡◌, ◌<◌, length, slice_index_or};
+
+use hy_partition::Snapshot;
+use std::marker::Model;
+
+/// A snapshot of each warehouse in order, all of one moment. It must be given back by `close_all`.
+pub struct SnapshotAll<const N: usize> {
+    parts: Vec<Snapshot<N>>,
+}
+
+// Clauses see the snapshots.
+impl<const N: usize> Model for SnapshotAll<N> {
+    ghost use Rattle.std.specs.Prelude.{List};
+    ghost use Rattle.hy_partition.specs.Snapshots.{SnapshotState};
+
+    ghost Value = { List SnapshotState };
+
+    ghost view = { λ all. all.parts.items };
+}
+
+impl<const N: usize> SnapshotAll<N> {
+    /// These snapshots.
+    pub(crate) fn new(parts: Vec<Snapshot<N>>) -> SnapshotAll<N>
+        ensures { result ≡ parts.entry.items }
+    {
+        SnapshotAll { parts }
+    }
+
+    /// The snapshots, which are to be closed.
+    pub(crate) fn take_apart(self) -> Vec<Snapshot<N>>
+        ensures { result.items ≡ self.entry }
+    {
+        let SnapshotAll { parts } = self;
+        parts
+    }
+
+    /// How many warehouses there are.
+    pub fn len(&self) -> usize
+        ensures { result ≡ length self.now }
+    {
+        self.parts.len()
+    }
+
+    /// The snapshot of the warehouse at a place, from 0.
+    pub fn part(&self, place: usize) -> &Snapshot<N>
+        requires { place < length self.now }
+        ensures { result.now ≡ slice_index_or self.now place result.now }
+    {
+        &self.parts[place]
+    }
+}

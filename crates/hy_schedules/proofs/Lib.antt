@@ -1,0 +1,5 @@
+pub mod PlaceLaws
+pub mod StepLaws
+pub mod OrderLaws
+pub mod CallLaws
+pub mod CrossLaws

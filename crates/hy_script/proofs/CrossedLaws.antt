@@ -1,0 +1,88 @@
+-- Where the clients' passes are behind a command over several warehouses.
+use Rattle.std.proofs.Common.{ℕ, suc, List, [], ◌∷◌, inl, inr, refl, ap}
+use Rattle.hy_rows.specs.Tables.{Lists}
+use Rattle.hy_commands.specs.declared.command.Command.{Command}
+use Rattle.hy_commands.specs.declared.command.Commit.{Commit}
+use Rattle.hy_partition.specs.Jobs.{DoneState, JobState, Log}
+use Rattle.hy_partition.specs.Partition.{PartitionState}
+use Rattle.hy_crossing.specs.Crossings.{Crosses, EndsIfNamed, Informs, KeepsIfNamed, LeavesIfNamed, TellsIfNamed, entry_of}
+use Rattle.hy_crossing.specs.Lists.{InTurn, Pairwise}
+use Rattle.hy_crossing.proofs.PairLaws.{pairs-then}
+use Rattle.hy_forks.proofs.RelationLaws.{pairs-map}
+use Rattle.hy_script.specs.inside.Invariants.{KeepsServed}
+use Rattle.hy_script.proofs.ServedLaws.{keeps-beside, keeps-finished, keeps-same, keeps-then}
+
+abbrev pub Keeps : ℕ → PartitionState → PartitionState → Type 0
+Keeps number old new = KeepsServed old new
+
+-- a relation that a step implies, where a state is led along
+pairs-turned : {State Row : Type 0} (step : ℕ → State → State → Row → Row → Type 0) (relation : ℕ → Row → Row → Type 0)
+    → ((number : ℕ) (before after : State) (old new : Row) → step number before after old new → relation number old new)
+    → (number : ℕ) (before after : State) (olds news : List Row) → InTurn step number before after olds news
+    → Pairwise relation number olds news
+pairs-turned step relation leads number before after [] [] turn = tt
+pairs-turned step relation leads number before after [] (new ∷ news) turn = absurd turn
+pairs-turned step relation leads number before after (old ∷ olds) [] turn = absurd turn
+pairs-turned step relation leads number before after (old ∷ olds) (new ∷ news) turn = (
+  leads number before turn.0 old new turn.1,
+  pairs-turned step relation leads (suc number) turn.0 after olds news turn.2,
+)
+
+module _ (command : Command) where
+  keeps-ended : (number : ℕ) (before after : Log) (old new : PartitionState)
+      → EndsIfNamed command number before after old new → KeepsServed old new
+  keeps-ended number before after old new ends = elim ends [
+    | inl named ↦ (keeps-finished old new before after old.running refl named.1).0
+    | inr unnamed ↦ keeps-same old new unnamed.1.0
+  ]
+
+  keeps-told : (log : Log) (number : ℕ) (old new : PartitionState) → TellsIfNamed command log number old new
+      → KeepsServed old new
+  keeps-told log number old new tells = elim tells [
+    | inl named ↦ record {
+      max_frames = ap (λ (p : PartitionState). p.space.frames.max) named.1.0;
+      passes = λ few. rw (named.1.0) refl;
+    }
+    | inr unnamed ↦ keeps-same old new unnamed.1
+  ]
+
+  keeps-kept : (commit : Commit) (log : Log) (number : ℕ) (old new : PartitionState)
+      → KeepsIfNamed command commit log number old new → KeepsServed old new
+  keeps-kept commit log number old new keeps = elim keeps [
+    | inl named ↦ keeps-beside old new named.1.beside
+    | inr unnamed ↦ keeps-same old new unnamed.1
+  ]
+
+  keeps-left : (number : ℕ) (old new : PartitionState) → LeavesIfNamed command number old new → KeepsServed old new
+  keeps-left number old new leaves = elim leaves [
+    | inl named ↦ elim (named.1) [
+      | inl same ↦ keeps-same old new same
+      | inr before ↦ keeps-beside old new before.beside
+    ]
+    | inr unnamed ↦ keeps-same old new unnamed.1
+  ]
+
+pub keeps-crossed : (lists : Lists) (job : JobState) (before after : Log) (olds news : List PartitionState)
+    (answer : DoneState) → Crosses lists job before after olds news answer → Pairwise Keeps 1 olds news
+keeps-crossed lists job before after olds news answer crosses =
+    pairs-then Keeps Keeps Keeps both 1 olds informs.ended news
+    (pairs-turned (EndsIfNamed job.command) Keeps (keeps-ended job.command) 1 before crosses.log olds informs.ended
+    informs.ends)
+    (pairs-then Keeps Keeps Keeps both 1 informs.ended crosses.middle news
+    (pairs-map (TellsIfNamed job.command crosses.log) Keeps (keeps-told job.command crosses.log) 1 informs.ended
+    crosses.middle informs.tells) last)
+  where
+    informs : Informs job.command before crosses.log olds crosses.middle
+    informs = crosses.informs
+
+    both : (number : ℕ) (old middle new : PartitionState) → Keeps number old middle → Keeps number middle new
+        → Keeps number old new
+    both number old middle new first next = keeps-then old middle new first next
+
+    last : Pairwise Keeps 1 crosses.middle news
+    last = elim crosses.does [
+      | inl accepts ↦ pairs-map (KeepsIfNamed job.command (entry_of lists job crosses.log).commit after) Keeps
+          (keeps-kept job.command (entry_of lists job crosses.log).commit after) 1 crosses.middle news accepts.parts
+      | inr refuses ↦ pairs-map (LeavesIfNamed job.command) Keeps (keeps-left job.command) 1 crosses.middle news
+          refuses.parts
+    ]

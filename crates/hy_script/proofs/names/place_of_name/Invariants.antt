@@ -1,6 +1,0 @@
-use Rattle.std.proofs.Common.{◌<◌, ℕ}
-use Rattle.hy_script.specs.Databases.{IsNameAt}
-use Rattle.hy_script.proofs.names.place_of_name.Given as goal
-
-abbrev pub invariant-loop-place : goal.invariant-loop-place
-invariant-loop-place l = (before : ℕ) → before < l.place → ¬ IsNameAt l.names l.name before

@@ -1,0 +1,214 @@
+//! For tests: the partitions of all warehouses of a load, with their journal and a client.
+
+ghost use Rattle.std.specs.Prelude.{◌≡◌, ◌≤◌, length};
+ghost use Rattle.std.proofs.Props.{props};
+ghost use Rattle.hy_partition.specs.Partition.{terms_of};
+ghost use Rattle.hy_crossing.specs.Crossings.{ArePartitions, HaveNoPart};
+ghost use Rattle.hy_forks.specs.Forks.{AreOfKit};
+
+use hy_commands::{Command, Commit, Reply};
+use hy_crossing::{cross, partitions_of};
+use hy_forks::{Batch, SnapshotAll, close_all, drain, find_history, fork_all};
+use hy_loads::Load;
+use hy_partition::{Job, Loaded, Partition};
+use hy_passes::{Journal, Kit, Pass};
+use hy_schema::Refusal;
+use std::alloc::Global;
+use std::marker::PhantomData;
+use std::process::Abort;
+
+/// What a test asks of one partition.
+#[derive(Drop)]
+pub enum Request {
+    Begin(Command),
+    Step,
+    Finish,
+    Take,
+    /// So many frames may be in use.
+    Frames(u64),
+}
+
+/// Asks it of a partition. What is taken is the reply that waits.
+fn grant<K: Loaded>(
+    rt: &impl Abort,
+    part: &mut Partition<4096, K>,
+    journal: &mut Journal<Commit, K>,
+    clients: &mut Vec<Pass<Commit, K>>,
+    asked: Request,
+) -> Result<Option<Reply>, Refusal>
+    ensures terms { terms_of part.new ≡ terms_of part.old }
+    ensures part { part.new.part ≡ part.old.part }
+{
+    match asked {
+        Request::Begin(command) => begin(rt, part, clients, command)?,
+        Request::Step => {
+            part.step(journal)?;
+        }
+        Request::Finish => part.finish_running(journal),
+        Request::Take => return Ok(take(rt, part, clients)),
+        Request::Frames(max) => part.set_max(max)?,
+    }
+    Ok(None)
+}
+
+/// Begins a command for the client.
+fn begin<K: Loaded>(
+    rt: &impl Abort,
+    part: &mut Partition<4096, K>,
+    clients: &mut Vec<Pass<Commit, K>>,
+    command: Command,
+) -> Result<(), Refusal>
+    ensures terms { terms_of part.new ≡ terms_of part.old }
+    ensures part { part.new.part ≡ part.old.part }
+{
+    let Some(pass) = clients.pop() else {
+        panic!(rt; "a client")
+    };
+    match part.begin(Job::new(command, pass)) {
+        Ok(()) => Ok(()),
+        Err((job, refusal)) => {
+            let (_command, pass) = job.open();
+            clients.push(pass).expect(rt, "a place");
+            Err(refusal)
+        }
+    }
+}
+
+/// Takes the reply that waits, if one does.
+fn take<K: Loaded>(
+    rt: &impl Abort,
+    part: &mut Partition<4096, K>,
+    clients: &mut Vec<Pass<Commit, K>>,
+) -> Option<Reply>
+    ensures terms { terms_of part.new ≡ terms_of part.old }
+    ensures part { part.new.part ≡ part.old.part }
+{
+    let (reply, pass, _share) = part.take_done()?.open();
+    clients.push(pass).expect(rt, "a place");
+    Some(reply)
+}
+
+/// A snapshot of all warehouses of this world.
+pub struct TakenAll<K: Loaded> {
+    pub all: SnapshotAll<4096>,
+    pub of: PhantomData<K>,
+    ghost own: { AreOfKit K.passes all } by { Prim.hlevel props },
+}
+
+/// The partitions of all warehouses, their journal, and the clients who are at home.
+#[derive(Drop)]
+pub struct Hall<K: Loaded> {
+    parts: Vec<Partition<4096, K>>,
+    journal: Journal<Commit, K>,
+    clients: Vec<Pass<Commit, K>>,
+    ghost partitions: { ArePartitions K.load parts.items } by { Prim.hlevel props },
+    ghost whole: { HaveNoPart parts.items } by { Prim.hlevel props },
+}
+
+impl<K: Loaded> Hall<K> {
+    /// All partitions of a load.
+    pub fn new<R: Abort + AllocGlobal>(rt: &R, load: &Load, kit: Kit<Commit>, kept: u64) -> Hall<K>
+        requires kept { (1 ≤ kept) × (kept ≤ 10000) }
+        requires load { load.now ≡ K.load }
+        requires kit { kit ≡ K.passes }
+        requires partitions { kit.partitions ≡ length load.now.tables.warehouses }
+    {
+        let (_passes, journal, seats, clients) = kit.open::<K>().expect(rt, "passes");
+        let parts = partitions_of(rt.alloc(), load, seats, 2000, kept).expect(rt, "partitions");
+        Hall {
+            parts,
+            journal,
+            clients,
+        }
+    }
+
+    /// Asks something of the partition of a warehouse.
+    pub fn ask(
+        &mut self,
+        rt: &impl Abort,
+        warehouse: u64,
+        asked: Request,
+    ) -> Result<Option<Reply>, Refusal> {
+        let place = (warehouse as usize).wrapping_sub(1);
+        assert!(rt; place < self.parts.len());
+        let part = &mut self.parts[place];
+        grant(rt, part, &mut self.journal, &mut self.clients, asked)
+    }
+
+    /// Runs a command, of one warehouse or of several. A refusal is the reply.
+    pub fn run(&mut self, rt: &impl Abort, command: Command) -> Reply {
+        if command.is_crossing() {
+            return self.cross(rt, command);
+        }
+        let home = command.home();
+        if let Err(refusal) = self.ask(rt, home, Request::Begin(command)) {
+            return Reply::Refused(refusal);
+        }
+        assert!(rt; self.ask(rt, home, Request::Finish).is_ok());
+        match self.ask(rt, home, Request::Take) {
+            Ok(Some(reply)) => reply,
+            _ => panic!(rt; "a reply"),
+        }
+    }
+
+    /// Runs a command over several warehouses.
+    fn cross(&mut self, rt: &impl Abort, command: Command) -> Reply {
+        let Some(pass) = self.clients.pop() else {
+            panic!(rt; "a client")
+        };
+        assert!(rt; command.is_crossing());
+        let done = cross(&mut self.parts, &mut self.journal, Job::new(command, pass));
+        let (reply, pass, share) = done.open();
+        assert!(rt; share.is_none() == matches!(reply, Reply::Refused(_)));
+        self.clients.push(pass).expect(rt, "a place");
+        reply
+    }
+
+    /// Takes a snapshot of all warehouses.
+    pub fn fork(&mut self, rt: &impl Abort, alloc: Global) -> Result<TakenAll<K>, Refusal> {
+        let Some(client) = self.clients.last_mut() else {
+            panic!(rt; "a client")
+        };
+        let all = fork_all(alloc, &mut self.parts, &mut self.journal, client)?;
+        Ok(TakenAll {
+            all,
+            of: PhantomData,
+        })
+    }
+
+    /// Closes a snapshot of all warehouses.
+    pub fn close(&mut self, rt: &impl Abort, taken: TakenAll<K>) {
+        let TakenAll { all, of: _ } = taken;
+        match close_all(&mut self.parts, all) {
+            Ok(()) => {}
+            Err(_) => panic!(rt; "a snapshot of other partitions"),
+        }
+    }
+
+    /// The commits since the last drain.
+    pub fn drain(&mut self, alloc: Global) -> Result<Batch, Refusal> {
+        drain(alloc, &mut self.parts, &mut self.journal)
+    }
+
+    /// Finds that the lists are those of one history.
+    pub fn agree(&mut self) {
+        find_history(&mut self.parts, &mut self.journal);
+    }
+
+    /// What the partition of a warehouse has kept.
+    pub fn kept(&self, rt: &impl Abort, warehouse: u64) -> &[Commit] {
+        self.part(rt, warehouse).kept()
+    }
+
+    /// The partition of a warehouse.
+    pub fn part(&self, rt: &impl Abort, warehouse: u64) -> &Partition<4096, K> {
+        self.parts
+            .get((warehouse as usize).wrapping_sub(1))
+            .expect(rt, "a partition")
+    }
+
+    /// How many commits the serial list has, and which number the next one of several warehouses gets.
+    pub fn numbers(&self) -> (u64, u64) {
+        (self.journal.list.len(), self.journal.list.next_crossing())
+    }
+}

@@ -1,0 +1,9 @@
+//! Tests of what is done with the partitions of all warehouses.
+#![tactic(auto)]
+
+#[cfg(test)]
+mod crossing_tests;
+#[cfg(test)]
+mod halls;
+#[cfg(test)]
+mod model;
