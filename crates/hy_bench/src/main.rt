@@ -2,6 +2,7 @@
 //! work, how many rounds of it, and up to two sizes.
 #![tactic(auto)]
 
+mod drain_rounds;
 mod index_rounds;
 mod payment_rounds;
 mod space_rounds;
@@ -33,6 +34,7 @@ fn run(rt: &HostRuntime) -> Option<u64> {
     let writes = number(&words, 3);
     match work {
         "pay" => payment_rounds::run(alloc, rounds, size),
+        "drain" => drain_rounds::run(alloc, rounds, size),
         "commit" | "rollback" | "fork" | "snapshot" => {
             space_rounds::run(alloc, work, rounds, size, writes)
         }

@@ -1,7 +1,8 @@
 //! Rounds over a partition of one warehouse.
 
-ghost use Rattle.std.specs.Prelude.{◌≡◌, ◌≤◌, length};
+ghost use Rattle.std.specs.Prelude.{◌≡◌, ◌≤◌, IfSome, length};
 ghost use Rattle.hy_passes.specs.Worlds.{new_partition};
+ghost use Rattle.hy_partition.specs.Partition.{terms_of};
 
 use hy_commands::{Command, Commit, Payment, Reply, Who};
 use hy_loads::Load;
@@ -14,18 +15,26 @@ use std::alloc::Global;
 use std::marker::Brand;
 
 /// The bytes of a page.
-const SIZE: usize = 4096;
+pub(crate) const SIZE: usize = 4096;
 
 /// Payments of the first customer of the first district, in a generated warehouse with so many customers in each
 /// district and one item.
 pub fn run(alloc: Global, rounds: u64, customers: u64) -> Option<u64> {
-    let lists = generated(alloc, 1, customers % 3001, 1).ok()?;
-    let load = Load::of(alloc, lists).ok()?;
-    if load.list::<Warehouse>().is_empty() {
-        return None;
-    }
+    let load = generated_load(alloc, customers)?;
     let kit = make::<Commit>(alloc, 1, 1, 1).ok()?;
     payments::<Brand>(alloc, &load, kit, rounds).ok()
+}
+
+/// A generated warehouse with so many customers in each district and one item.
+pub(crate) fn generated_load(alloc: Global, customers: u64) -> Option<Load>
+    ensures { IfSome result (λ load. length load.tables.warehouses ≡ 1) }
+{
+    let lists = generated(alloc, 1, customers % 3001, 1).ok()?;
+    let load = Load::of(alloc, lists).ok()?;
+    if load.list::<Warehouse>().len() != 1 {
+        return None;
+    }
+    Some(load)
 }
 
 /// The same in the world of the load and the kit. Answers how many commits are kept.
@@ -68,11 +77,14 @@ fn on_pages<K: Loaded>(
 }
 
 /// One payment, from its begin to its answer.
-fn pay<K: Loaded>(
+pub(crate) fn pay<K: Loaded>(
     partition: &mut Partition<SIZE, K>,
     journal: &mut Journal<Commit, K>,
     pass: Pass<Commit, K>,
-) -> Result<Pass<Commit, K>, Refusal> {
+) -> Result<Pass<Commit, K>, Refusal>
+    ensures terms { terms_of partition.new ≡ terms_of partition.old }
+    ensures part { partition.new.part ≡ partition.old.part }
+{
     let payment = Command::Payment(Payment {
         warehouse: 1,
         district: 1,

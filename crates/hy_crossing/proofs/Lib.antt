@@ -17,3 +17,4 @@ pub mod CrossLaws
 pub mod GuardLaws
 pub mod WholeLaws
 pub mod SeatLaws
+pub mod LookingLaws

@@ -233,6 +233,10 @@ crossing_entry command stamp log = record { commit = commits.Cross (next_number 
 abbrev pub HaveNoPart : List PartitionState → Type 0
 HaveNoPart parts = (place : ℕ) → IfSome (slice_get parts place) (λ p. p.part ≡ None)
 
+-- a partition is that of the warehouse with a number of a load, and no part of a command is done there
+abbrev pub IsWhole : Lists → ℕ → PartitionState → Type 0
+IsWhole lists number p = IsPartition lists number p × (p.part ≡ None)
+
 -- what is known of a partition before the parts of a command are tried: it is one of the load and has no part done; where
 -- the command names its warehouse, nothing runs there, and it was told the serial list, of which it has kept all
 pub record IsInformed (lists : Lists) (command : Command) (log : Log) (number : ℕ) (p : PartitionState) : Type 0 where

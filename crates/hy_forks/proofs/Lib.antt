@@ -9,3 +9,4 @@ pub mod AllLaws
 pub mod CloseLaws
 pub mod TellLaws
 pub mod ResultLaws
+pub mod LackLaws

@@ -1,6 +1,6 @@
 //! Forks of all warehouses at one moment.
 
-ghost use Rattle.std.specs.Prelude.{◌≡◌, ◌⊎◌, ◌↔◌, ◌<◌, IsTrue, None, IfErr, IfOk, IsOk, OnErr, OnOk, length};
+ghost use Rattle.std.specs.Prelude.{◌≡◌, ◌⊎◌, ◌↔◌, ◌<◌, Err, IsTrue, None, IfErr, IfOk, IsOk, OnErr, OnOk, length};
 ghost use mathlib.Core.List.{IsPrefix};
 ghost use Rattle.hy_schema.specs.Conditions.{first_broken};
 ghost use Rattle.hy_schema.specs.declared.refusal.Refusal.{Refusal};
@@ -8,7 +8,7 @@ ghost use Rattle.hy_database.specs.Database.{all_rows};
 ghost use Rattle.hy_partition.specs.Jobs.{told};
 ghost use Rattle.hy_crossing.specs.Crossings.{ArePartitions, HaveNoPart, database_behind};
 ghost use Rattle.hy_crossing.specs.Lists.{ChangesAt, Pairwise};
-ghost use Rattle.hy_forks.specs.Forks.{AreOfKit, ClosesHere, ForksAll, IsUnforked, IsWhyUnforked, SpellsDatabase, are_from};
+ghost use Rattle.hy_forks.specs.Forks.{AreOfKit, ClosesHere, ForksAll, IsUnforked, IsWhyUnforked, SomeLacks, SpellsDatabase, are_from};
 ghost use Rattle.hy_forks.specs.Histories.{IsOneHistory};
 ghost use Rattle.hy_forks.specs.inside.Places.{ForksExactly, RefusesFork};
 
@@ -21,6 +21,22 @@ use hy_partition::{Loaded, Partition, Snapshot};
 use hy_passes::{Journal, Pass};
 use hy_schema::Refusal;
 use std::alloc::Global;
+
+/// Whether one of the partitions has fewer frames free than its job has touched pages. Changes nothing.
+fn is_some_lacking<const N: usize, K: Loaded, P: Parts<Part = Partition<N, K>>>(
+    parts: &mut P,
+) -> bool
+    ensures lacks { IsTrue result ↔ SomeLacks (P.states parts.old) }
+    ensures same { P.states parts.new ≡ P.states parts.old }
+{
+    for place in 0..parts.len() {
+        let part = parts.part(place);
+        if part.free() < part.touched() {
+            return true;
+        }
+    }
+    false
+}
 
 /// A snapshot of the partition at a place.
 fn fork_here<const N: usize, K: Loaded, P: Parts<Part = Partition<N, K>>>(
@@ -45,7 +61,7 @@ fn fork_here<const N: usize, K: Loaded, P: Parts<Part = Partition<N, K>>>(
 }
 
 /// A snapshot of the whole database behind the serial list: each warehouse is forked, in rising order, with what runs
-/// undone in the snapshot. Partitions and client are told the whole list. Refused with E2 only where one of them has
+/// undone in the snapshot. Partitions and client are told the whole list. Refused with E2 exactly where one of them has
 /// fewer frames free than its job has touched pages, else with E1; then what was forked is closed again, and nothing is
 /// forked.
 pub fn fork_all<const N: usize, K: Loaded, P: Parts<Part = Partition<N, K>>>(
@@ -66,6 +82,7 @@ pub fn fork_all<const N: usize, K: Loaded, P: Parts<Part = Partition<N, K>>>(
     ensures kit { IfOk result (AreOfKit K.passes) }
     ensures told { OnOk result (pass.new ≡ told pass.old journal.old.list.log) }
     ensures log { journal.new.list.log ≡ journal.old.list.log }
+    ensures lacking { SomeLacks (P.states parts.old) → result ≡ Err Refusal.NoFrame }
     ensures refused { IfErr result (IsWhyUnforked (P.states parts.old)) }
     ensures err { OnErr result (Pairwise (λ number. IsUnforked journal.old.list.log) 1 (P.states parts.old)
         (P.states parts.new)) }
@@ -74,6 +91,9 @@ pub fn fork_all<const N: usize, K: Loaded, P: Parts<Part = Partition<N, K>>>(
     ensures parts { ArePartitions K.load (P.states parts.new) }
     ensures whole { HaveNoPart (P.states parts.new) }
 {
+    if is_some_lacking(parts) {
+        return Err(Refusal::NoFrame);
+    }
     let mut snapshots = Vec::with_capacity(alloc, parts.len())?;
     know_load(parts);
     know_list(journal);

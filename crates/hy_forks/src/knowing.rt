@@ -13,16 +13,20 @@ use hy_crossing::Parts;
 use hy_partition::{Loaded, Partition};
 use hy_passes::{Journal, projections_agree};
 
-/// That the load is a load, where a warehouse is there, and that the kit has a place for each. Changes nothing.
+/// That the load is a load, where a warehouse is there, and that the kit has a place for each, of which a byte counts all.
+/// Changes nothing.
 pub(crate) fn know_load<const N: usize, K: Loaded, P: Parts<Part = Partition<N, K>>>(parts: &mut P)
     requires parts { ArePartitions K.load (P.states parts.old) }
     ensures load { 1 ≤ length (P.states parts.old) → IsLoad K.load }
     ensures range { length (P.states parts.old) ≤ K.passes.partitions }
+    ensures few { length (P.states parts.old) ≤ 255 }
     ensures same { P.states parts.new ≡ P.states parts.old }
 {
     let count = parts.len();
     if count > 0 {
-        parts.part(count - 1).ties();
+        let last = parts.part(count - 1);
+        last.ties();
+        let _number = last.warehouse();
     }
 }
 

@@ -1,6 +1,6 @@
 //! A snapshot of the whole database.
 
-ghost use Rattle.std.specs.Prelude.{◌≡◌, ◌<◌, length, slice_index_or};
+ghost use Rattle.std.specs.Prelude.{◌≡◌, ◌<◌, ◌≤◌, length, slice_index_or};
 
 use hy_partition::Snapshot;
 use std::marker::Model;
@@ -12,17 +12,20 @@ pub struct SnapshotAll<const N: usize> {
 
 // Clauses see the snapshots.
 impl<const N: usize> Model for SnapshotAll<N> {
-    ghost use Rattle.std.specs.Prelude.{List};
+    ghost use Rattle.std.specs.Prelude.{◌≤◌, List, length};
     ghost use Rattle.hy_partition.specs.Snapshots.{SnapshotState};
 
     ghost Value = { List SnapshotState };
 
     ghost view = { λ all. all.parts.items };
+
+    ghost invariant = { λ all. length all.parts.items ≤ 255 };
 }
 
 impl<const N: usize> SnapshotAll<N> {
     /// These snapshots.
     pub(crate) fn new(parts: Vec<Snapshot<N>>) -> SnapshotAll<N>
+        requires { length parts.items ≤ 255 }
         ensures { result ≡ parts.entry.items }
     {
         SnapshotAll { parts }
@@ -41,6 +44,13 @@ impl<const N: usize> SnapshotAll<N> {
         ensures { result ≡ length self.now }
     {
         self.parts.len()
+    }
+
+    /// That there are few: a warehouse has a number of one byte.
+    pub fn few(&self)
+        ensures { length self.now ≤ 255 }
+    {
+        let _parts = &self.parts;
     }
 
     /// The snapshot of the warehouse at a place, from 0.

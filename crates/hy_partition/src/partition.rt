@@ -443,11 +443,25 @@ impl<const N: usize, K: Loaded> Partition<N, K> {
         }
     }
 
+    /// The load that the warehouse began from.
+    pub fn load(&self) -> &Load
+        ensures { result.now ≡ self.now.load }
+    {
+        self.executor.layout().load()
+    }
+
     /// The number of the warehouse.
     pub fn warehouse(&self) -> u8
         ensures { result ≡ self.now.warehouse }
     {
         self.executor.layout().warehouse()
+    }
+
+    /// Whether the part of a command over several warehouses is done, and neither kept nor undone so far.
+    pub fn has_part(&self) -> bool
+        ensures { IsTrue result ↔ IsSome self.now.part }
+    {
+        matches!(self.part, Some(_))
     }
 
     /// The commits that are kept, in order.

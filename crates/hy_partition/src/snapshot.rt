@@ -122,8 +122,15 @@ impl<const N: usize> Snapshot<N> {
         R::copy_from(self)
     }
 
-    /// The pages of a segment.
-    fn segment(&self, number: u32) -> &[Hold<N>]
+    /// The rows of ITEM, which no pages hold.
+    pub fn items(&self) -> &[Item]
+        ensures { result.now ≡ self.now.load.items }
+    {
+        self.load.list()
+    }
+
+    /// The pages of a segment, of which the first eight hold a table each (`Row::SEGMENT`).
+    pub fn segment(&self, number: u32) -> &[Hold<N>]
         requires { number < segments }
         ensures pages { result.now ≡ list_at self.now.bytes number }
         ensures whole { IsWhole N self.now.bytes }

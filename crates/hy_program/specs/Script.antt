@@ -7,7 +7,7 @@ use Rattle.hy_files.specs.Directory.{AreFiles, IsFirstMissing, tables}
 use Rattle.hy_files.specs.Files.{FilesByPath, HasFile, IsMissing, IsOutOfMemory}
 use Rattle.hy_files.specs.Loads.{AreRefused, HaveTexts}
 use Rattle.hy_script.specs.Scripts.{IsPrinted}
-use Rattle.hy_script.specs.Steps.{SomeIsShort}
+use Rattle.hy_crossing.specs.Making.{SomeIsShort}
 use Rattle.hy_program.specs.declared.fault.RunFault.{RunFault}
 use Rattle.hy_program.specs.declared.fault.RunFault.TheVariants as fault
 use Rattle.hy_program.specs.declared.script.Limits.{Limits}

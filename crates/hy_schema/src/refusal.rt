@@ -97,15 +97,15 @@ pub enum Refusal {
     NotMine,
     /// Lists of rows are no load.
     BadLoad(LoadFault),
-    /// A text is no query. The number is the place of the byte at which it fails. For queries, which aren't there yet.
+    /// A text is no query. The number is the place of the byte at which it fails.
     BadQuery(u64),
-    /// The log's writer failed in this call or in an earlier one. For the redo log, which isn't there yet.
+    /// The redo log's writer failed in this call or in an earlier one.
     LogFailed,
-    /// Bytes are no log. The number is the place of the first byte of the batch at fault. For recovery from the redo log.
+    /// Bytes are no redo log. The number is the place of the first byte of the batch at fault.
     LogMalformed(u64),
-    /// The engine takes no more jobs. For the engine of worker threads, which isn't there yet.
+    /// The engine takes no more jobs.
     Closed,
-    /// The warehouse's queue is full. For the engine, too.
+    /// The warehouse's queue is full.
     QueueFull,
 }
 

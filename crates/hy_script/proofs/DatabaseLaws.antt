@@ -1,20 +1,22 @@
 -- Partitions with their terminals, one at each place.
-use Rattle.std.proofs.Common.{◌≡◌, ◌∙◌, ◌+◌, ◌<◌, ℕ, zero, suc, List, [], ◌∷◌, ◌++◌, Option, None, IfSome, IsSome, length, slice_get, slice_index_or, slice_set, ap, arith, inl, inr, refl, subst, sym}
+use Rattle.std.proofs.Common.{◌≡◌, ◌∙◌, ◌+◌, ◌<◌, ℕ, zero, suc, List, [], ◌∷◌, Option, None, All, IfSome, length, slice_get, slice_index_or, slice_set, ap, arith, inl, inr, refl, subst, sym}
 use Rattle.std.proofs.lemmas.List.{length-set}
+use Rattle.std.proofs.lemmas.List.Elements.{All-head, All-tail}
 use Rattle.hy_rows.specs.Tables.{Lists}
 use Rattle.hy_partition.specs.Partition.{PartitionState}
 use Rattle.hy_partition.specs.Steps.{Begins}
 use Rattle.hy_crossing.specs.Crossings.{ArePartitions, HaveNoPart, IsPartition}
 use Rattle.hy_crossing.specs.Lists.{Pairwise}
+use Rattle.hy_crossing.specs.Making.{AllBegin}
 use Rattle.hy_crossing.specs.Pairs.{At}
 use Rattle.hy_crossing.proofs.PairLaws.{pairs-hold, pairs-replaced}
 use Rattle.hy_script.specs.declared.answer.Request.{Request}
 use Rattle.hy_script.specs.declared.terminal.Terminal.{Terminal}
 use Rattle.hy_script.specs.Databases.{DatabaseState, with_part}
 use Rattle.hy_script.specs.Printed.{IsAsked, IsGranted}
-use Rattle.hy_script.specs.inside.Invariants.{AllStart, AreServed, IsServed, StaysServed}
+use Rattle.hy_script.specs.inside.Invariants.{AreServed, IsReady, IsServed, StaysServed}
 use Rattle.hy_script.proofs.CrossedLaws.{Keeps}
-use Rattle.hy_script.proofs.ListLaws.{if_some, item_at}
+use Rattle.hy_script.proofs.ListLaws.{item_at}
 use Rattle.hy_script.proofs.ServedLaws.{held-some, served-kept}
 
 module _ {K : Type 0} where
@@ -46,15 +48,6 @@ module _ {K : Type 0} where
       (served.0, served-set parts terminals place p terminal served.1 one)
 
   -- one more of each
-  pub served-push : (parts : List PartitionState) (terminals : List (Terminal K)) (p : PartitionState)
-      (terminal : Terminal K) → AreServed parts terminals → IsServed p terminal
-      → AreServed (parts ++ p ∷ []) (terminals ++ terminal ∷ [])
-  served-push [] [] p terminal served one = (one, tt)
-  served-push [] (t ∷ terminals) p terminal served one = absurd served
-  served-push (x ∷ parts) [] p terminal served one = absurd served
-  served-push (x ∷ parts) (t ∷ terminals) p terminal served one =
-      (served.0, served-push parts terminals p terminal served.1 one)
-
   -- where no step takes a pass away
   pub served-pairs : (number : ℕ) (olds news : List PartitionState) (terminals : List (Terminal K))
       → Pairwise Keeps number olds news → AreServed olds terminals → AreServed news terminals
@@ -107,31 +100,32 @@ module _ {K : Type 0} (lists : Lists) (parts : List PartitionState) (place : ℕ
         (λ one. subst (λ n. IfSome (slice_get parts one) (IsPartition lists n)) (omega arith) (are.each one)) other);
   }
 
--- as the load has them
-module _ (lists : Lists) (frames commits : ℕ) (parts : List PartitionState)
-    (start : AllStart lists frames commits parts) where
-  pub partitions-start : length parts ≡ length lists.tables.warehouses → ArePartitions lists parts
-  partitions-start count = record {
-    count = count;
-    each = λ place.
-        if_some (slice_get parts place) (λ (p : PartitionState) (begins : Begins lists (place + 1) frames commits p). (
-          ap (λ terms. terms.load) begins.terms,
-          ap (λ terms. terms.warehouse) begins.terms ∙ omega arith,
-        )) (start place);
-  }
-
-  pub no_part-start : HaveNoPart parts
-  no_part-start place =
-      if_some (slice_get parts place)
-      (λ (p : PartitionState) (begins : Begins lists (place + 1) frames commits p). begins.part) (start place)
-
 -- a new partition, with a terminal that has the pass
-pub served-start : {K : Type 0} (lists : Lists) (number frames commits : ℕ) (p : PartitionState) (terminal : Terminal K)
-    → Begins lists number frames commits p → terminal.max_frames ≡ frames → IsSome terminal.pass → IsServed p terminal
-served-start lists number frames commits p terminal begins max pass = record {
-  max_frames = begins.max_frames ∙ sym max;
-  one_pass = rw (begins.running, begins.finished) (held-some terminal.pass pass);
+served-start : {K : Type 0} (lists : Lists) (number frames commits : ℕ) (p : PartitionState) (terminal : Terminal K)
+    → Begins lists number frames commits p → IsReady frames terminal → IsServed p terminal
+served-start lists number frames commits p terminal begins ready = record {
+  max_frames = begins.max_frames ∙ sym ready.max_frames;
+  one_pass = rw (begins.running, begins.finished) (held-some terminal.pass ready.pass);
 }
+
+-- and each of them
+served-begun : {K : Type 0} (lists : Lists) (frames commits : ℕ) (number : ℕ → ℕ) (parts : List PartitionState)
+    (terminals : List (Terminal K)) → ((place : ℕ) → IfSome (slice_get parts place) (Begins lists (number place) frames commits))
+    → length terminals ≡ length parts → All (IsReady frames) terminals → AreServed parts terminals
+served-begun lists frames commits number [] [] begins count ready = tt
+served-begun lists frames commits number [] (terminal ∷ terminals) begins count ready = absurd (omega (arith, count))
+served-begun lists frames commits number (p ∷ parts) [] begins count ready = absurd (omega (arith, count))
+served-begun lists frames commits number (p ∷ parts) (terminal ∷ terminals) begins count ready = (
+  served-start lists (number 0) frames commits p terminal (begins 0) (All-head (IsReady frames) terminal terminals ready),
+  served-begun lists frames commits (λ place. number (suc place)) parts terminals (λ place. begins (suc place))
+      (omega (arith, count)) (All-tail (IsReady frames) terminal terminals ready),
+)
+
+pub served-all : {K : Type 0} (lists : Lists) (frames commits : ℕ) (parts : List PartitionState)
+    (terminals : List (Terminal K)) → AllBegin lists frames commits parts → length terminals ≡ length parts
+    → All (IsReady frames) terminals → AreServed parts terminals
+served-all lists frames commits parts terminals begin count ready =
+    served-begun lists frames commits suc parts terminals begin.each count ready
 
 -- ---- what was asked of the partition at a place was asked of that of its number
 

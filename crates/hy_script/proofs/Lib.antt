@@ -5,8 +5,6 @@ pub mod CrossedLaws
 pub mod DatabaseLaws
 pub mod SnapshotLaws
 pub mod NameLaws
-pub mod SeatLaws
-pub mod RowLaws
 pub mod HeldLaws
 pub mod RunLaws
 pub mod WorkedScripts

@@ -2,6 +2,7 @@
 use Rattle.std.specs.Prelude.{◌≡◌, ℕ, List, Option, Some}
 use Rattle.hy_schema.specs.declared.refusal.Refusal.TheVariants as refusals
 use Rattle.hy_rows.specs.Tables.{Lists}
+use Rattle.hy_crossing.specs.Making.{IsWhyNoneMade}
 use Rattle.hy_script.specs.declared.event.Unanswered.{Unanswered}
 use Rattle.hy_script.specs.declared.event.Unanswered.TheVariants as unanswered
 use Rattle.hy_script.specs.declared.script.ScriptFault.{ScriptFault}
@@ -9,7 +10,6 @@ use Rattle.hy_script.specs.declared.script.ScriptFault.TheVariants as faults
 use Rattle.hy_script.specs.Databases.{DatabaseState}
 use Rattle.hy_script.specs.Printed.{ArePrinted}
 use Rattle.hy_script.specs.Scripts.{IsBad, IsPrinted}
-use Rattle.hy_script.specs.Steps.{IsWhyUnstarted}
 
 -- a line is a bad event, and nothing was written for it, or the output failed
 abbrev pub IsLineFault : DatabaseState → List ℕ → Type 0 → Type 0 → Unanswered → Type 0
@@ -37,7 +37,7 @@ IsRunFault page_size lines first before after unprinted failed (faults.Refused r
 abbrev pub IsScriptFault : ℕ → Lists → ℕ → ℕ → List ℕ → Option (List ℕ) → Option (List ℕ) → Type 0 → Type 0
     → ScriptFault → Type 0
 IsScriptFault page_size lists frames commits script before after unprinted failed (faults.Refused refusal) =
-    IsWhyUnstarted page_size lists frames refusal × unprinted
+    IsWhyNoneMade page_size lists frames refusal × unprinted
 IsScriptFault page_size lists frames commits script before after unprinted failed (faults.BadEvent number) =
     IsPrinted page_size lists frames commits script before after (Some number)
 IsScriptFault page_size lists frames commits script before after unprinted failed (faults.Output error) = failed

@@ -1,12 +1,12 @@
 -- What a script prints, line by line, and the databases that it goes through.
-use Rattle.std.specs.Prelude.{◌≡◌, ◌≢◌, ◌⊎◌, ◌+◌, ℕ, List, [], ◌∷◌, ◌++◌, Option, None, Some, IsSomeAnd, MatchOption, ⊤, IfSome, length, slice_get}
+use Rattle.std.specs.Prelude.{◌≡◌, ◌≢◌, ◌⊎◌, ℕ, List, [], ◌∷◌, ◌++◌, Option, None, Some, IsSomeAnd, MatchOption, ⊤}
 use Rattle.std.specs.Io.KnownBytes.{Appends}
 use Rattle.hy_schema.specs.declared.refusal.Refusal.TheVariants as refusals
 use Rattle.hy_rows.specs.Tables.{Lists}
 use Rattle.hy_events.specs.declared.event.Event.{Event}
 use Rattle.hy_events.specs.Events.{TakesMemory, event_of}
 use Rattle.hy_events.specs.Lines.{lines, numbered}
-use Rattle.hy_partition.specs.Steps.{Begins}
+use Rattle.hy_crossing.specs.Making.{AllBegin}
 use Rattle.hy_script.specs.Answers.{Answers, IsMisnamed, refused_text}
 use Rattle.hy_script.specs.Databases.{DatabaseState}
 
@@ -33,8 +33,7 @@ Prints page_size (line ∷ later) database text bad =
 
 -- a database as the load has it: one partition for each of its rows of WAREHOUSE, no snapshot, and no commit
 pub record StartsFrom (lists : Lists) (frames commits : ℕ) (database : DatabaseState) : Type 0 where
-  pub count : length database.parts ≡ length lists.tables.warehouses
-  pub each : (place : ℕ) → IfSome (slice_get database.parts place) (Begins lists (place + 1) frames commits)
+  pub parts : AllBegin lists frames commits database.parts
   pub snapshots : database.snapshots ≡ []
   pub log : database.log ≡ []
 

@@ -1,16 +1,14 @@
 -- What an event does to one warehouse, or to all of them.
-use Rattle.std.specs.Prelude.{◌≡◌, ◌⊎◌, ◌≤◌, ℕ, Bool, nat_lt, List, ◌+◌, ◌-◌, [], ◌∷◌, ◌++◌, Option, None, Some, length, remove, slice_get}
+use Rattle.std.specs.Prelude.{◌≡◌, ◌⊎◌, ℕ, Bool, nat_lt, List, ◌+◌, ◌-◌, [], ◌∷◌, ◌++◌, Option, None, Some, length, remove, slice_get}
 use Rattle.hy_worlds.specs.Origins.{Origin}
 use Rattle.hy_schema.specs.declared.refusal.Refusal.{Refusal}
-use Rattle.hy_schema.specs.declared.refusal.Refusal.TheVariants as refusals
 use Rattle.hy_commands.specs.declared.command.Command.{Command}
 use Rattle.hy_commands.specs.declared.reply.Reply.{Reply}
 use Rattle.hy_commands.specs.declared.reply.Reply.TheVariants as replies
 use Rattle.hy_commands.specs.Commands.{warehouses_of}
 use Rattle.hy_frames.specs.FrameTable.{FrameTable, IsLimitFor, free_of}
-use Rattle.hy_rows.specs.Tables.{Lists, of_warehouse}
+use Rattle.hy_rows.specs.Tables.{Lists}
 use Rattle.hy_space.specs.Space.{SameForChildren}
-use Rattle.hy_fill.specs.Frames.{frames_for}
 use Rattle.hy_partition.specs.Jobs.{DoneState, JobState, Log, RunningJob, begun}
 use Rattle.hy_partition.specs.Partition.{PartitionState}
 use Rattle.hy_partition.specs.Snapshots.{SnapshotState}
@@ -19,18 +17,6 @@ use Rattle.hy_crossing.specs.Crossings.{ArePartitions, Crosses, database_behind}
 use Rattle.hy_crossing.specs.Lists.{Pairwise}
 use Rattle.hy_forks.specs.Forks.{ClosesHere, ForksAll, SpellsDatabase}
 use Rattle.hy_script.specs.Databases.{DatabaseState, OpenSnapshot}
-
--- the rows of some warehouse of the load and their entries take at most as many frames as there may be, or more
-pub record SomeIsShort (page_size : ℕ) (lists : Lists) (frames : ℕ) : Type 0 where
-  pub number : ℕ
-  pub first : 1 ≤ number
-  pub last : number ≤ length lists.tables.warehouses
-  pub short : frames ≤ frames_for page_size (of_warehouse number lists.tables)
-
--- why the partitions of a load aren't made: one of them isn't for want of frames, or memory is refused
-abbrev pub IsWhyUnstarted : ℕ → Lists → ℕ → Refusal → Type 0
-IsWhyUnstarted page_size lists frames why =
-    ((why ≡ refusals.NoFrame) × SomeIsShort page_size lists frames) ⊎ (why ≡ refusals.NoMemory)
 
 -- ---- commands of one warehouse
 

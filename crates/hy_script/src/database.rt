@@ -8,19 +8,19 @@ ghost use Rattle.hy_schema.specs.declared.refusal.Refusal.{Refusal};
 ghost use Rattle.hy_frames.specs.FrameTable.{IsPageSize, max_frames as most_frames};
 ghost use Rattle.hy_partition.specs.Limits.{most_kept};
 ghost use Rattle.hy_crossing.specs.Lists.{Pairwise};
+ghost use Rattle.hy_crossing.specs.Making.{IsWhyNoneMade};
 ghost use Rattle.hy_forks.specs.Forks.{IsUnforked, IsWhyUnforked};
 ghost use Rattle.hy_script.specs.Answers.{commits_text, snapshot_text};
 ghost use Rattle.hy_script.specs.Databases.{HasName, IsNameAt, part_at};
 ghost use Rattle.hy_script.specs.Printed.{IsAsked};
 ghost use Rattle.hy_script.specs.Scripts.{StartsFrom};
-ghost use Rattle.hy_script.specs.Steps.{ClosesAt, IsWhyUnstarted, Opens, RunsAcross, is_crossing};
-ghost use Rattle.hy_script.specs.inside.Invariants.{AllStart, AreServed};
+ghost use Rattle.hy_script.specs.Steps.{ClosesAt, Opens, RunsAcross, is_crossing};
 
 use crate::answer::{Request, grant, write_refused};
 use crate::named::{Named, place_of_name};
-use crate::terminal::Terminal;
+use crate::terminal::{Terminal, terminals_of};
 use hy_commands::{Command, Commit, Reply};
-use hy_crossing::cross;
+use hy_crossing::{cross, partitions_of};
 use hy_events::SnapshotName;
 use hy_forks::{close_all, fork_all};
 use hy_loads::Load;
@@ -83,9 +83,10 @@ impl<'a, const N: usize, K: Loaded> Database<'a, N, K> {
         requires seats { seats.items ≡ map new_partition (range_with_len 1 (length load.now.tables.warehouses)) }
         requires passes { length passes.items ≡ length load.now.tables.warehouses + 1 }
         ensures starts { IfOk result (StartsFrom load.now max_frames max_kept) }
-        ensures refused { IfErr result (IsWhyUnstarted N load.now max_frames) }
+        ensures refused { IfErr result (IsWhyNoneMade N load.now max_frames) }
     {
-        let (parts, terminals) = parts_of(alloc, load, seats, &mut passes, max_frames, max_kept)?;
+        let parts = partitions_of(alloc, load, seats, max_frames, max_kept)?;
+        let terminals = terminals_of(alloc, &mut passes, parts.len(), max_frames)?;
         Ok(Database {
             parts,
             terminals,
@@ -206,45 +207,6 @@ impl<'a, const N: usize, K: Loaded> Database<'a, N, K> {
         } = self;
         snapshots.destroy_empty();
     }
-}
-
-/// A partition for each seat, and a terminal with one of the passes.
-fn parts_of<const N: usize, K: Loaded>(
-    alloc: Global,
-    load: &Load,
-    seats: Vec<PartitionSeat<Commit, K>>,
-    passes: &mut Vec<Pass<Commit, K>>,
-    max_frames: u64,
-    max_kept: u64,
-) -> Result<(Vec<Partition<N, K>>, Vec<Terminal<K>>), Refusal>
-    requires size { IsPageSize N }
-    requires some_frames { 1 ≤ max_frames }
-    requires frames { max_frames ≤ most_frames }
-    requires some_kept { 1 ≤ max_kept }
-    requires kept { max_kept ≤ most_kept }
-    requires load { load.now ≡ K.load }
-    requires seats { seats.items ≡ map new_partition (range_with_len 1 (length load.now.tables.warehouses)) }
-    requires passes { length passes.old.items ≡ length load.now.tables.warehouses + 1 }
-    ensures starts { IfOk result (λ made. AllStart load.now max_frames max_kept made.0.items) }
-    ensures count { IfOk result (λ made. length made.0.items ≡ length load.now.tables.warehouses) }
-    ensures served { IfOk result (λ made. AreServed made.0.items made.1.items) }
-    ensures passes { IfOk result (λ made. length passes.new.items ≡ 1) }
-    ensures refused { IfErr result (IsWhyUnstarted N load.now max_frames) }
-{
-    let mut parts = Vec::with_capacity(alloc, seats.len())?;
-    let mut terminals = Vec::with_capacity(alloc, seats.len())?;
-    for seat in seats {
-        let pass = Some(passes.take_last());
-        let number = seat.warehouse();
-        match Partition::new(alloc, load, number, seat, max_frames, max_kept) {
-            Ok(part) => {
-                parts.push_reserved(part);
-                terminals.push_reserved(Terminal { pass, max_frames });
-            }
-            Err((_seat, refusal)) => return Err(refusal),
-        }
-    }
-    Ok((parts, terminals))
 }
 
 /// Writes how many commits each warehouse has.

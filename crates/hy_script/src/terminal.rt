@@ -1,16 +1,17 @@
 //! The terminal of a warehouse: where its client's commands come in.
 
-ghost use Rattle.std.specs.Prelude.{◌≡◌, IfErr, IsErr, None, OnErr, OnOk};
+ghost use Rattle.std.specs.Prelude.{◌≡◌, ◌+◌, All, IfErr, IfOk, IsErr, None, OnErr, OnOk, length};
 ghost use Rattle.std.specs.Option.{option_map};
 ghost use Rattle.hy_frames.specs.FrameTable.{IsLimitFor};
 ghost use Rattle.hy_partition.specs.Steps.{IsUnbegun};
 ghost use Rattle.hy_script.specs.Steps.{IsBegun, IsLimited, Runs, limit_for};
-ghost use Rattle.hy_script.specs.inside.Invariants.{IsServed, StaysServed};
+ghost use Rattle.hy_script.specs.inside.Invariants.{IsReady, IsServed, StaysServed};
 
 use hy_commands::{Command, Commit, Reply};
 use hy_partition::{Job, Loaded, Partition};
 use hy_passes::{Journal, Pass};
 use hy_schema::Refusal;
+use std::alloc::{AllocError, Global};
 
 /// What the script knows of a warehouse beside its partition.
 #[derive(Drop)]
@@ -19,6 +20,26 @@ pub struct Terminal<K: Loaded> {
     pub pass: Option<Pass<Commit, K>>,
     /// How many frames there may be.
     pub max_frames: u64,
+}
+
+/// A terminal for each of so many warehouses, with a pass each, the last one first.
+pub(crate) fn terminals_of<K: Loaded>(
+    alloc: Global,
+    passes: &mut Vec<Pass<Commit, K>>,
+    count: usize,
+    max_frames: u64,
+) -> Result<Vec<Terminal<K>>, AllocError>
+    requires passes { length passes.old.items ≡ count + 1 }
+    ensures count { IfOk result (λ made. length made.items ≡ count) }
+    ensures ready { IfOk result (λ made. All (IsReady max_frames) made.items) }
+    ensures passes { OnOk result (length passes.new.items ≡ 1) }
+{
+    let mut terminals = Vec::with_capacity(alloc, count)?;
+    for _ in 0..count {
+        let pass = Some(passes.take_last());
+        terminals.push_reserved(Terminal { pass, max_frames });
+    }
+    Ok(terminals)
 }
 
 impl<K: Loaded> Terminal<K> {

@@ -6,4 +6,6 @@ mod crossing_tests;
 #[cfg(test)]
 mod halls;
 #[cfg(test)]
+mod lock_tests;
+#[cfg(test)]
 mod model;

@@ -5,7 +5,6 @@ use Rattle.hy_passes.specs.Worlds.{PassState}
 use Rattle.hy_commands.specs.declared.command.Commit.{Commit}
 use Rattle.hy_partition.specs.Partition.{PartitionState, terms_of}
 use Rattle.hy_partition.specs.Snapshots.{SnapshotState}
-use Rattle.hy_partition.specs.Steps.{Begins}
 use Rattle.hy_rows.specs.Tables.{Lists}
 use Rattle.hy_crossing.specs.Crossings.{ArePartitions, HaveNoPart}
 use Rattle.hy_script.specs.declared.terminal.Terminal.{Terminal}
@@ -23,6 +22,11 @@ held (Some value) = 1
 pub record IsServed {K : Type 0} (p : PartitionState) (terminal : Terminal K) : Type 0 where
   pub max_frames : p.space.frames.max ≡ terminal.max_frames
   pub one_pass : held p.running + held p.finished + held terminal.pass ≡ 1
+
+-- a terminal of a client whose pass is here, under a limit on frames
+pub record IsReady {K : Type 0} (frames : ℕ) (terminal : Terminal K) : Type 0 where
+  pub max_frames : terminal.max_frames ≡ frames
+  pub pass : IsSome terminal.pass
 
 -- the limit on frames stays, and the client's pass is with the job or the answer where it was before
 pub record KeepsServed (old new : PartitionState) : Type 0 where
@@ -73,8 +77,3 @@ pub record IsDatabase {K : Type 0} (kit : Origin) (lists : Lists) (parts : List 
   pub served : AreServed parts terminals
   pub taken : All (IsOfAll kit (length lists.tables.warehouses)) snapshots
   pub pass_is : IsSome pass
-
--- each partition is as the load has it
-abbrev pub AllStart : Lists → ℕ → ℕ → List PartitionState → Type 0
-AllStart lists frames commits parts =
-    (place : ℕ) → IfSome (slice_get parts place) (Begins lists (place + 1) frames commits)

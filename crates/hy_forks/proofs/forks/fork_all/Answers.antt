@@ -22,7 +22,17 @@ pub returns-in_err-snapshots-clause-err : goal.returns-in_err-snapshots-clause-e
 returns-in_err-snapshots-clause-err g c =
     let log : Log = c.args.journal.now.list.log in
     let olds = g.P.Parts.states c.args.parts.now in
-    err-holds (Pairwise (λ number. IsUnforked log) 1 olds olds) c.from_residual.result (unforked-all-same log olds)
+    let looked = g.P.Parts.states c.is_some_lacking.new.parts in
+    err-holds (Pairwise (λ number. IsUnforked log) 1 olds looked) c.from_residual.result
+    (subst (λ (rows : List PartitionState). Pairwise (λ number. IsUnforked log) 1 olds rows)
+    (sym c.is_some_lacking.ensures.same) (unforked-all-same log olds))
+
+pub returns-then-is_some_lacking-clause-err : goal.returns-then-is_some_lacking-clause-err
+returns-then-is_some_lacking-clause-err g c =
+    let log : Log = c.args.journal.now.list.log in
+    let olds = g.P.Parts.states c.args.parts.now in
+    subst (λ (rows : List PartitionState). Pairwise (λ number. IsUnforked log) 1 olds rows)
+    (sym c.is_some_lacking.ensures.same) (unforked-all-same log olds)
 
 pub loop-place-init : goal.loop-place-init
 loop-place-init g c =
@@ -30,14 +40,15 @@ loop-place-init g c =
     let olds = g.P.Parts.states c.args.parts.now in
     let before = Before 1 (ForksExactlyHere g.row.N g.K.World.passes log c.args.pass.now.seen
     c.in_ok-snapshots.snapshots.items) in (
-      subst (λ (rows : List PartitionState). Pairwise before 1 olds rows) (sym c.know_load.ensures.same)
+      subst (λ (rows : List PartitionState). Pairwise before 1 olds rows)
+          (sym (c.know_load.ensures.same ∙ c.is_some_lacking.ensures.same))
           (before-start (ForksExactlyHere g.row.N g.K.World.passes log c.args.pass.now.seen
           c.in_ok-snapshots.snapshots.items) olds),
       ap length c.in_ok-snapshots.ensures.items,
-      omega (arith, c.in_ok-snapshots.ensures.capacity, c.len.ensures),
+      omega (arith, c.in_ok-snapshots.ensures.capacity, c.len.ensures, ap length c.is_some_lacking.ensures.same),
       refl,
       inl refl,
-      c.len-place-end.ensures ∙ ap length c.know_load.ensures.same,
+      c.len-place-end.ensures ∙ ap length (c.know_load.ensures.same ∙ c.is_some_lacking.ensures.same),
     )
 
 pub fork_here-requires : goal.fork_here-requires
@@ -180,7 +191,12 @@ returns-clause-kit g c =
 pub returns-clause-consistent : goal.returns-clause-consistent
 returns-clause-consistent g c =
     consistent-behind g.K.Loaded.load c.args.journal.now.list.log
-    (λ some. c.know_load.ensures.load (omega (arith, some, c.requires.parts.count)))
+    (λ some. c.know_load.ensures.load (omega (
+      arith,
+      some,
+      c.requires.parts.count,
+      ap length c.is_some_lacking.ensures.same,
+    )))
 
 pub returns-clause-history : goal.returns-clause-history
 returns-clause-history g c =
@@ -193,7 +209,7 @@ returns-clause-history g c =
     let counted = pairs-length (Before (place + 1) (ForksExactlyHere g.row.N g.K.World.passes log c.args.pass.now.seen
     c.loop-place.snapshots.items)) 1 olds news c.loop-place.invariant.0 in
     one-history g.K.World.passes.partitions log news c.know_list.ensures.serial c.know_list.ensures.agree
-    (omega (arith, counted, c.know_load.ensures.range))
+    (omega (arith, counted, c.know_load.ensures.range, ap length c.is_some_lacking.ensures.same))
     (forked-kept g.row.N g.K.World.passes log c.args.pass.now.seen c.loop-place.snapshots.items place
     c.loop-place.invariant.1 olds (g.P.Parts.states c.loop-place.parts) ends c.loop-place.invariant.0
     g.K.Loaded.load c.requires.parts)

@@ -1,0 +1,7 @@
+pub mod ColumnSetLaws
+pub mod DraftLaws
+pub mod ListLaws
+pub mod OutlineLaws
+pub mod ReachedLaws
+pub mod TokenLaws
+pub mod WordLaws

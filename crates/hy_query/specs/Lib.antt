@@ -1,0 +1,11 @@
+pub mod Values
+pub mod Columns
+pub mod Queries
+pub mod Tokens
+pub mod Language
+pub mod Rows
+pub mod Sorting
+pub mod Meaning
+pub mod inside
+pub mod WorkedTexts
+pub mod WorkedAnswers

@@ -1,0 +1,20 @@
+//! The query language: which texts are queries, and which queries they are.
+#![tactic(auto)]
+
+mod column;
+mod column_set;
+mod draft;
+mod lists;
+mod names;
+mod outline;
+mod parse;
+mod query;
+mod tables;
+mod tokens;
+mod value;
+mod words;
+
+pub use column::{Column, Kind};
+pub use parse::parse_query;
+pub use query::{Comparison, Condition, Operand, Query, SelectItem, SortKey};
+pub use value::{Letters, Value};

@@ -1,0 +1,147 @@
+//! What is done with all partitions by who holds all of their locks.
+
+ghost use Rattle.std.specs.Prelude.{◌≡◌, length};
+
+use crate::halls::TakenAll;
+use hy_commands::{Command, Commit, Payment, Reply, Who};
+use hy_crossing::{are_partitions, cross, partitions_of};
+use hy_forks::{close_all, drain, find_history, fork_all};
+use hy_loads::Load;
+use hy_partition::{Job, Loaded, Partition};
+use hy_passes::{Journal, Kit, Pass, make};
+use hy_tables::generate;
+use std::marker::{Brand, PhantomData};
+use std::process::Abort;
+use std::sync::{Mutex, MutexGuard, Wait};
+
+type Lock<K> = Mutex<Partition<4096, K>>;
+
+type Held<'a, K> = MutexGuard<'a, Partition<4096, K>>;
+
+/// A lock for each partition.
+fn locks_of<K: Loaded, R: Abort + AllocGlobal>(
+    rt: &R,
+    parts: Vec<Partition<4096, K>>,
+) -> Vec<Lock<K>> {
+    let mut locks = Vec::new(rt.alloc());
+    for part in parts {
+        locks.push(Mutex::new(part)).expect(rt, "a place");
+    }
+    locks
+}
+
+/// All locks, taken in rising order of warehouse.
+fn all_held<'a, K: Loaded, R: Wait + Abort + AllocGlobal>(
+    rt: &R,
+    locks: &'a [Lock<K>],
+) -> Vec<Held<'a, K>> {
+    let mut held = Vec::new(rt.alloc());
+    for lock in locks {
+        held.push(lock.lock(rt)).expect(rt, "a place");
+    }
+    held
+}
+
+/// A payment in warehouse 1 by a customer of warehouse 2.
+fn payment() -> Command {
+    Command::Payment(Payment {
+        warehouse: 1,
+        district: 1,
+        customer_warehouse: 2,
+        customer_district: 1,
+        who: Who::Number(1),
+        amount: 100,
+        at: 1,
+    })
+}
+
+/// Pays across two warehouses, takes a snapshot of all and gives it back, and drains; each time with all locks.
+fn pay_and_look<K: Loaded, R: Wait + Abort + AllocGlobal>(
+    rt: &R,
+    locks: &[Lock<K>],
+    journal: &Mutex<Journal<Commit, K>>,
+    pass: Pass<Commit, K>,
+) {
+    let mut held = all_held(rt, locks);
+    assert!(rt; are_partitions(&mut held));
+    let mut journal = journal.lock(rt);
+    let command = payment();
+    assert!(rt; command.is_crossing());
+    let done = cross(&mut held, &mut journal, Job::new(command, pass));
+    let (reply, mut pass, _share) = done.open();
+    assert!(rt;
+        matches!(
+            reply,
+            Reply::Payment {
+                customer: 1,
+                balance: -1100
+            }
+        )
+    );
+    let all = fork_all(rt.alloc(), &mut held, &mut journal, &mut pass).expect(rt, "a snapshot");
+    let taken = TakenAll::<K> {
+        all,
+        of: PhantomData,
+    };
+    for place in 0..taken.all.len() {
+        let kept = if place < 2 { 1 } else { 0 };
+        assert!(rt; taken.all.part(place).commits() == kept);
+    }
+    let TakenAll { all, of: _ } = taken;
+    match close_all(&mut held, all) {
+        Ok(()) => {}
+        Err(_) => panic!(rt; "a snapshot of other partitions"),
+    }
+    let batch = drain(rt.alloc(), &mut held, &mut journal).expect(rt, "a batch");
+    assert!(rt; batch.len() == 3 && batch.part(0).len() == 1 && batch.part(2).is_empty());
+    find_history(&mut held, &mut journal);
+}
+
+/// Locks of some of the partitions aren't those of all.
+fn are_told_apart<K: Loaded, R: Wait + Abort + AllocGlobal>(rt: &R, locks: &[Lock<K>]) {
+    assert!(rt; locks.len() == 3);
+    let mut none = all_held(rt, &locks[..0]);
+    assert!(rt; !are_partitions(&mut none));
+    let mut first = all_held(rt, &locks[..2]);
+    assert!(rt; !are_partitions(&mut first));
+    drop(first);
+    let mut last = all_held(rt, &locks[1..]);
+    assert!(rt; !are_partitions(&mut last));
+}
+
+/// Nor are they in another order.
+fn are_in_order<K: Loaded, R: Wait + Abort + AllocGlobal>(rt: &R, locks: &[Lock<K>]) {
+    let mut turned = all_held(rt, locks);
+    assert!(rt; turned.len() == 3);
+    turned.swap(0, 1);
+    assert!(rt; !are_partitions(&mut turned));
+    assert!(rt; turned.len() == 3);
+    turned.swap(0, 1);
+    assert!(rt; are_partitions(&mut turned));
+}
+
+/// The same in the world of the load and the kit.
+fn run_behind_locks<K: Loaded, R: Wait + Abort + AllocGlobal>(rt: &R, load: &Load, kit: Kit<Commit>)
+    requires load { load.now ≡ K.load }
+    requires kit { kit ≡ K.passes }
+    requires partitions { kit.partitions ≡ length load.now.tables.warehouses }
+{
+    let (_passes, journal, seats, mut clients) = kit.open::<K>().expect(rt, "passes");
+    let parts = partitions_of(rt.alloc(), load, seats, 2000, 100).expect(rt, "partitions");
+    let locks = locks_of(rt, parts);
+    let journal = Mutex::new(journal);
+    let Some(pass) = clients.pop() else {
+        panic!(rt; "a client")
+    };
+    are_told_apart(rt, &locks);
+    are_in_order(rt, &locks);
+    pay_and_look(rt, &locks, &journal, pass);
+}
+
+#[test]
+fn whoever_holds_all_locks(rt: HostRuntime) {
+    let load = generate(rt.alloc(), 3, 3, 20).expect(&rt, "a load");
+    assert!(&rt; load.tables().warehouses.len() == 3);
+    let kit = make::<Commit>(rt.alloc(), 3, 1, 1).expect(&rt, "a kit");
+    run_behind_locks::<Brand, HostRuntime>(&rt, &load, kit);
+}
