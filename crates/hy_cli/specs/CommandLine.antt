@@ -79,6 +79,10 @@ abbrev pub script_parameters : List Parameter
 script_parameters = required_text (codes "directory") ∷ required_text (codes "file")
     ∷ bounded_number 1 most_frames (codes "frames") ∷ bounded_number 1 most_kept (codes "kept") ∷ []
 
+-- `query DIR TEXT`
+abbrev pub query_parameters : List Parameter
+query_parameters = required_text (codes "directory") ∷ required_text (codes "text") ∷ []
+
 -- what the parser knows of a command
 abbrev pub command_of : Text → List Parameter → Shape
 command_of name parameters = record (new_shape name) { rules = map rule_for parameters }
@@ -86,7 +90,7 @@ command_of name parameters = record (new_shape name) { rules = map rule_for para
 -- the commands with their parameters
 abbrev pub commands : List (Text × List Parameter)
 commands = (codes "first", first_parameters) ∷ (codes "gen", generate_parameters) ∷ (codes "check", check_parameters)
-    ∷ (codes "script", script_parameters) ∷ []
+    ∷ (codes "script", script_parameters) ∷ (codes "query", query_parameters) ∷ []
 
 -- the program, which wants one of its commands
 abbrev pub program_app : App
@@ -146,6 +150,9 @@ SaysLine command (line.Script directory file frames kept) = (command.0 ≡ codes
     × SaysText (codes "file") command.1 file.now
     × SaysNumberOr 100_000 (codes "frames") command.1 frames
     × SaysNumberOr 1_000_000 (codes "kept") command.1 kept
+SaysLine command (line.Query directory text) = (command.0 ≡ codes "query")
+    × SaysText (codes "directory") command.1 directory.now
+    × SaysText (codes "text") command.1 text.now
 
 -- a number is at least one and at most another
 abbrev pub IsIn : ℕ → ℕ → ℕ → Type 0

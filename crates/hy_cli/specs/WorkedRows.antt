@@ -150,3 +150,26 @@ pub kept-refused : fault_of program_app (codes "script" ∷ codes "d" ∷ codes 
     ≡ kind.ValueValidation ∷ []
 unfolding clap_on_literals
 kept-refused = refl
+
+-- a folder and a query, which is one word
+abbrev pub query_given : List Text
+query_given = codes "query" ∷ codes "d" ∷ codes "from item select count" ∷ []
+
+pub query-taken : fault_of program_app query_given ≡ []
+unfolding clap_on_literals
+query-taken = refl
+
+-- the texts of the folder and of the query
+abbrev pub query_texts : List Text → Option (Option Text × Option Text)
+query_texts words = option_map (λ command. (first_of (codes "directory") command.1, first_of (codes "text") command.1))
+    (subcommand_of program_app words)
+
+pub query-text : query_texts query_given ≡ Some (Some (codes "d"), Some (codes "from item select count"))
+unfolding clap_on_literals
+query-text = refl
+
+-- a query of several words
+pub words-refused : fault_of program_app (codes "query" ∷ codes "d" ∷ codes "from" ∷ codes "item" ∷ [])
+    ≡ kind.UnknownArgument ∷ []
+unfolding clap_on_literals
+words-refused = refl

@@ -3,7 +3,7 @@
 ghost use Rattle.std.specs.Prelude.{◌≡◌, IfOk, codes, false, true};
 ghost use Rattle.clap.specs.Words.{app_of, rule_of, shape_of};
 ghost use Rattle.clap.specs.declared.builder.command.Command.TheViews.{out-Command as fields_of};
-ghost use Rattle.hy_cli.specs.CommandLine.{bounded_number, check_parameters, command_of, first_parameters, generate_parameters, optional_number, program_app, required_number, required_text, rule_for, script_parameters};
+ghost use Rattle.hy_cli.specs.CommandLine.{bounded_number, check_parameters, command_of, first_parameters, generate_parameters, optional_number, program_app, query_parameters, required_number, required_text, rule_for, script_parameters};
 
 use clap::builder::ValueParser;
 use clap::{Arg, Command, value_parser};
@@ -29,7 +29,8 @@ pub fn program<'a>(alloc: Global) -> Result<Command<'a>, AllocError>
         .subcommand(first(alloc)?)?
         .subcommand(generate(alloc)?)?
         .subcommand(check(alloc)?)?
-        .subcommand(script(alloc)?)
+        .subcommand(script(alloc)?)?
+        .subcommand(query(alloc)?)
 }
 
 /// `first [--amount CENTS]`.
@@ -98,6 +99,17 @@ fn script<'a>(alloc: Global) -> Result<Command<'a>, AllocError>
             "How many commits each warehouse may keep: 1,000,000 if it isn't given",
             MAX_KEPT,
         ))
+}
+
+/// `query DIR TEXT`.
+fn query<'a>(alloc: Global) -> Result<Command<'a>, AllocError>
+    ensures { IfOk result (λ command. (shape_of command ≡ command_of (codes "query") query_parameters)
+        × ((fields_of command).has_globals ≡ false)) }
+{
+    Command::new(alloc, "query")
+        .about("Prints the answer to a query on the database in nine files")
+        .arg(positional(alloc, "directory", "DIR", "The folder of the files"))?
+        .arg(positional(alloc, "text", "TEXT", "The query, as one word"))
 }
 
 /// A word at its place, which has to be given; help calls it `value`.

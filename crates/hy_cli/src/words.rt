@@ -3,7 +3,7 @@
 ghost use Rattle.std.specs.Prelude.{◌≡◌, IfErr, IfOk, IfSome, MatchResult, codes, true};
 ghost use Rattle.clap.specs.Faults.{fault_of};
 ghost use Rattle.clap.specs.Words.{HasKind, found_of, has_subcommand, rows_of, subcommand_of, subcommand_rows_of};
-ghost use Rattle.hy_cli.specs.CommandLine.{AreTaken, HasFault, HasLimits, IsBehind, Says, SaysLine, check_parameters, first_parameters, generate_parameters, program_app, script_parameters, texts_of};
+ghost use Rattle.hy_cli.specs.CommandLine.{AreTaken, HasFault, HasLimits, IsBehind, Says, SaysLine, check_parameters, first_parameters, generate_parameters, program_app, query_parameters, script_parameters, texts_of};
 ghost use Rattle.hy_cli.specs.inside.Given.{AreGiven, IsKnown};
 
 use crate::given::{number_given, number_or, text_given};
@@ -57,6 +57,13 @@ pub enum Line<'a> {
         /// How many commits each partition may keep, from 1 to 100,000,000.
         kept: u64,
     },
+    /// A query is answered over the database in files.
+    Query {
+        /// The folder of the files.
+        directory: &'a str,
+        /// The text of the query.
+        text: &'a str,
+    },
 }
 
 /// Why no command line was read.
@@ -100,6 +107,7 @@ pub fn read_words<'a>(alloc: Global, words: &'a [&'a str]) -> Result<Line<'a>, L
         "gen" => Ok(read_generate(given)),
         "check" => Ok(read_check(given)),
         "script" => Ok(read_script(given)),
+        "query" => Ok(read_query(given)),
         _ => unreachable!(),
     }
 }
@@ -159,5 +167,16 @@ fn read_script<'a>(given: &ArgMatches<'a>) -> Line<'a>
         file: text_given(given, "file"),
         frames: number_or(given, "frames", DEFAULT_FRAMES),
         kept: number_or(given, "kept", DEFAULT_KEPT),
+    }
+}
+
+/// The line that what is given to `query` says.
+fn read_query<'a>(given: &ArgMatches<'a>) -> Line<'a>
+    requires { AreGiven (rows_of (found_of given.now)) query_parameters }
+    ensures { SaysLine (codes "query", rows_of (found_of given.now)) result }
+{
+    Line::Query {
+        directory: text_given(given, "directory"),
+        text: text_given(given, "text"),
     }
 }

@@ -1,5 +1,6 @@
 -- What a line of a script says.
-use Rattle.std.specs.Prelude.{◌≡◌, ◌≢◌, ℕ, ◌==◌, if◌then◌else◌, Bool, true, false, List, [], ◌∷◌, Option, None, Some, IsSomeAnd, option_map, Result, Ok, Err, bytes_eq, codes}
+use Rattle.std.specs.Prelude.{◌≡◌, ◌≢◌, ℕ, ◌+◌, ◌==◌, ◌||◌, if◌then◌else◌, Bool, true, false, List, [], ◌∷◌, Option, None, Some, IsSomeAnd, option_map, Result, Ok, Err, bytes_eq, codes, drop, length, nat_le, take}
+use Rattle.std.specs.List.{position_or_len}
 use Rattle.hy_commands.specs.declared.command.Command.{Command}
 use Rattle.hy_commands.specs.declared.command.Command.TheVariants as commands
 use Rattle.hy_commands.specs.declared.command.Delivery.{Delivery}
@@ -122,6 +123,13 @@ name_of (first ∷ later) = Some (first ∷ later)
 abbrev pub snapshot_of : List (List ℕ) → Option (List ℕ)
 snapshot_of given = word_at 0 given >>= λ word. name_of word >>= λ name. of_words 1 given name
 
+-- NAME TEXT: the name ends at the first space, and the text is all that stands behind it
+abbrev pub query_of : List ℕ → Option Event
+query_of given =
+    let end : ℕ = position_or_len (λ byte. byte == 32) given in
+    if (end == 0) || nat_le (length given) end then None
+    else Some (events.Query (take end given) (drop (end + 1) given))
+
 -- W F
 abbrev pub limit_of : List (List ℕ) → Option Event
 limit_of given =
@@ -141,6 +149,7 @@ event_named name given =
     else if bytes_eq name (codes "done") then option_map events.Done (warehouse_of given)
     else if bytes_eq name (codes "fork") then option_map events.Fork (snapshot_of given)
     else if bytes_eq name (codes "close") then option_map events.Close (snapshot_of given)
+    else if bytes_eq name (codes "check") then option_map events.Check (snapshot_of given)
     else if bytes_eq name (codes "touched") then option_map events.Touched (warehouse_of given)
     else if bytes_eq name (codes "free") then option_map events.Free (warehouse_of given)
     else if bytes_eq name (codes "shared") then option_map events.Shared (warehouse_of given)
@@ -149,7 +158,9 @@ event_named name given =
 
 -- the event that a line says, if it says one
 abbrev pub event_of : List ℕ → Option Event
-event_of line = first_word (words line) >>= λ name. event_named name (later_words (words line))
+event_of line =
+    if bytes_eq (take 6 line) (codes "query ") then query_of (drop 6 line)
+    else first_word (words line) >>= λ name. event_named name (later_words (words line))
 
 -- ---- which events take memory to be read
 

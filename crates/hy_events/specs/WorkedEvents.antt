@@ -115,6 +115,18 @@ abbrev named_events : map event_of (codes "fork a" ∷ codes "fork from" ∷ cod
     ≡ Some (events.Fork (codes "a")) ∷ Some (events.Fork (codes "from")) ∷ Some (events.Close (codes "x=1")) ∷ []
 named_events = refl
 
+-- the text of a query is all that stands behind the name's space, with its spaces; it may be empty, and the name may be any
+abbrev query_events : map event_of
+    (codes "query a from item select i_id" ∷ codes "query from  x " ∷ codes "query a " ∷ codes "check query" ∷ [])
+    ≡ Some (events.Query (codes "a") (codes "from item select i_id")) ∷ Some (events.Query (codes "from") (codes " x "))
+    ∷ Some (events.Query (codes "a") []) ∷ Some (events.Check (codes "query")) ∷ []
+query_events = refl
+
+-- no text, no name
+abbrev no_queries : map event_of (codes "query" ∷ codes "query " ∷ codes "query a" ∷ codes "query  x" ∷ codes "check"
+    ∷ codes "check a b" ∷ []) ≡ replicate 6 None
+no_queries = refl
+
 -- ---- what is no event
 
 -- a space too many, or another than a space

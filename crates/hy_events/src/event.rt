@@ -1,10 +1,10 @@
 //! Events, as a script says them.
 
-ghost use Rattle.std.specs.Prelude.{◌≡◌, IfOk, IsSomeAnd, OnErr, true};
-ghost use Rattle.hy_events.specs.Events.{IsRead, TakesMemory, begun_of, event_named, event_of, limit_of, snapshot_of, takes_memory, warehouse_of};
+ghost use Rattle.std.specs.Prelude.{◌≡◌, ◌≤◌, IfOk, IsSomeAnd, IsTrue, OnErr, bytes_eq, codes, length, take, true};
+ghost use Rattle.hy_events.specs.Events.{IsRead, TakesMemory, begun_of, event_named, event_of, limit_of, query_of, snapshot_of, takes_memory, warehouse_of};
 
 use crate::command::{is, read_command};
-use crate::parts::Parts;
+use crate::parts::{Parts, first_end};
 use hy_commands::Command;
 use std::alloc::{AllocError, Global};
 use std::marker::Model;
@@ -32,6 +32,29 @@ impl<'a> SnapshotName<'a> {
     }
 }
 
+/// The text of a query, as it stands in a script: any bytes.
+#[derive(Debug, Drop)]
+pub struct QueryText<'a> {
+    bytes: &'a [u8],
+}
+
+impl<'a> Model for QueryText<'a> {
+    ghost use Rattle.std.specs.Prelude.{ℕ, List};
+
+    ghost Value = { List ℕ };
+
+    ghost view = { λ text. text.bytes.now };
+}
+
+impl<'a> QueryText<'a> {
+    /// Its bytes.
+    pub fn as_bytes(&self) -> &'a [u8]
+        ensures { result.now ≡ self.now }
+    {
+        self.bytes
+    }
+}
+
 /// What a line of a script asks for. The numbers of warehouses are those that were read: nothing is known of them.
 #[derive(Debug, Drop)]
 pub enum Event<'a> {
@@ -47,6 +70,10 @@ pub enum Event<'a> {
     Fork(SnapshotName<'a>),
     /// Close the snapshot of this name.
     Close(SnapshotName<'a>),
+    /// Ask a query of the snapshot of this name.
+    Query(SnapshotName<'a>, QueryText<'a>),
+    /// Test the consistency conditions in the snapshot of this name.
+    Check(SnapshotName<'a>),
     /// How many pages what runs at this warehouse has written.
     Touched(u64),
     /// How many frames of this warehouse are free.
@@ -101,6 +128,9 @@ fn event_of<'a>(alloc: Global, line: &'a [u8]) -> Result<Option<Event<'a>>, Allo
     ensures read { IfOk result (λ found. found ≡ event_of line.now) }
     ensures refused { OnErr result (IsSomeAnd (event_of line.now) TakesMemory) }
 {
+    if begins_query(line) {
+        return Ok(read_query(&line[QUERY.len()..]));
+    }
     let mut words = Parts::new(b' ', line);
     match words.take_part() {
         Some(name) => event_named(alloc, name, &mut words),
@@ -131,6 +161,9 @@ fn event_named<'a>(
     }
     if is(name, "close") {
         return Ok(read_name(given).map(|name| Event::Close(name)));
+    }
+    if is(name, "check") {
+        return Ok(read_name(given).map(|name| Event::Check(name)));
     }
     if is(name, "touched") {
         return Ok(read_warehouse(given).map(|warehouse| Event::Touched(warehouse)));
@@ -179,6 +212,34 @@ fn read_name<'a>(given: &mut Parts<'a>) -> Option<SnapshotName<'a>>
         return None;
     }
     Some(SnapshotName { bytes })
+}
+
+/// How a line begins that asks a query.
+const QUERY: &str = "query ";
+
+/// Whether a line begins so.
+fn begins_query(line: &[u8]) -> bool
+    ensures begins { result ≡ bytes_eq (take 6 line.now) (codes "query ") }
+    ensures long { IsTrue result → 6 ≤ length line.now }
+{
+    line.len() >= QUERY.len() && is(&line[..QUERY.len()], QUERY)
+}
+
+/// The name of a snapshot, and a query behind a space: all that is left.
+fn read_query<'a>(given: &'a [u8]) -> Option<Event<'a>>
+    ensures { result ≡ query_of given.now }
+{
+    let end = first_end(given, b' ');
+    if end == 0 || end >= given.len() {
+        return None;
+    }
+    let name = SnapshotName {
+        bytes: &given[..end],
+    };
+    let text = QueryText {
+        bytes: &given[end + 1..],
+    };
+    Some(Event::Query(name, text))
 }
 
 /// A limit on frames: `W F`.

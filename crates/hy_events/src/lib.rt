@@ -7,7 +7,7 @@ mod lines;
 mod parts;
 mod reply;
 
-pub use event::{Event, EventFault, SnapshotName, read_event};
+pub use event::{Event, EventFault, QueryText, SnapshotName, read_event};
 pub use lines::{Lines, ScriptLine};
 pub use parts::Parts;
 pub use reply::write_reply;

@@ -67,7 +67,7 @@ impl<'a> Parts<'a> {
 }
 
 /// Where the first part ends: at a separator, or at the end of the line.
-fn first_end(line: &[u8], separator: u8) -> usize
+pub(crate) fn first_end(line: &[u8], separator: u8) -> usize
     ensures { result ≡ position_or_len (λ byte. byte == separator) line.now }
 {
     line.iter()

@@ -1,18 +1,19 @@
 -- A fork: the snapshot that it gives, and what is left where it was refused after its child was opened.
-use Rattle.std.proofs.Common.{◌≡◌, ◌≢◌, ℕ, ◌+◌, inl, inr, List, [], map, filter, length, Option, Some, None, refl, sym, ap, ◌∙◌, subst, arith}
+use Rattle.std.proofs.Common.{◌≡◌, ◌≢◌, ℕ, ◌+◌, ◌≤◌, inl, inr, List, [], map, filter, length, length-take, Option, Some, None, refl, sym, ap, ◌∙◌, subst, arith}
 use Rattle.std.specs.Prelude.{slice_index_or}
 use Rattle.std.specs.Option.{option_map}
-use Rattle.std.proofs.lemmas.Bool.{cases_eq}
+use Rattle.std.proofs.lemmas.Bool.{cases_eq, cases_lt}
 use Rattle.std.proofs.lemmas.List.{append-nil}
-use Rattle.hy_frames.specs.FrameTable.{IsPageSize, count_of, free_of}
-use Rattle.hy_rows.specs.Spelling.{HasTables, Spells}
-use Rattle.hy_space.specs.Space.{SpaceState, SameForOthers, SameForOwner, KeepsOwn, IsLeastFree, IsUnchanged, DropsUsers, child_bytes, child_table, child_times, owner_bytes, table_bytes}
+use Rattle.hy_frames.specs.FrameTable.{count_of, free_of, max_frames}
+use Rattle.hy_rows.specs.Spelling.{HasTables, Spells, list_at}
+use Rattle.hy_space.specs.Space.{IsSound as IsSoundSpace, SpaceState, SameForOthers, SameForOwner, KeepsOwn, IsLeastFree, IsUnchanged, DropsUsers, child_bytes, child_table, child_times, owner_bytes, table_bytes}
 use Rattle.hy_space.proofs.TableLaws.{same_bytes, same_child_bytes}
-use Rattle.hy_undo.specs.UndoLog.{undone}
+use Rattle.hy_undo.specs.UndoLog.{UndoLog, first_pages, undone}
 use Rattle.hy_undo.specs.Touched.{touched}
 use Rattle.hy_undo.specs.PrivatePages.{IsUndoLog}
 use Rattle.hy_undo.specs.Fork.{IsAsBefore}
-use Rattle.hy_undo.proofs.PrivatePageLaws.{IsUndoLog-kept, KeepsPages-unseen}
+use Rattle.hy_undo.proofs.UndoneLaws.{length-segment-restored, segment-first_pages, segment-first_pages_past}
+use Rattle.hy_undo.proofs.PrivatePageLaws.{length-segment-owner_bytes, IsUndoLog-kept, KeepsPages-unseen}
 use Rattle.hy_tpcc.specs.Executor.{ExecutorState}
 use mathlib.Core.List.{IsPrefix}
 use Rattle.std.proofs.lemmas.List.{map-append}
@@ -92,6 +93,17 @@ module _ (n room : ℕ) (executor : ExecutorState) (p : PartitionState) (sound :
     max_frames = limit;
   }
 
+-- no segment has more pages once the first ones are left of each, and images of pages are put back
+few-undone : (pages : List (List (List ℕ))) (undo : UndoLog) (segment : ℕ) → length (list_at (undone pages undo) segment) ≤ length (list_at pages segment)
+few-undone pages undo segment =
+    let same : length (list_at (undone pages undo) segment) ≡ length (list_at (first_pages undo.counts pages) segment) =
+    length-segment-restored (first_pages undo.counts pages) undo.images segment in
+    elim (cases_lt segment (length undo.counts)) [
+      | inl counted ↦
+          omega (arith, same, ap length (segment-first_pages undo.counts pages segment counted), length-take (slice_index_or undo.counts segment 0) (list_at pages segment))
+      | inr past ↦ omega (arith, same, ap length (segment-first_pages_past undo.counts pages segment past))
+    ]
+
 -- with pages of n bytes: the child was opened with the running transaction undone in it, and its pages may have got holds
 module _ (n room : ℕ) (executor : ExecutorState) (p : PartitionState) (sound : IsSound n room executor p) (mid held : SpaceState) (child : ℕ)
     (least : IsLeastFree p.space child) (bytes : child_bytes mid child ≡ Some (undone (owner_bytes p.space) p.undo)) (others : SameForOthers p.space mid child) (owner : SameForOwner p.space mid)
@@ -125,13 +137,23 @@ module _ (n room : ℕ) (executor : ExecutorState) (p : PartitionState) (sound :
       sound-forked n room executor p sound held snapshots child held_owner held_others held_log held_bytes commits others_commits
 
   -- what the snapshot that was taken has
-  pub taken_behind : IsPageSize n → (snapshot : SnapshotState) → snapshot.load ≡ p.load → snapshot.warehouse ≡ p.warehouse
+  pub taken_behind : IsSoundSpace n p.space → (snapshot : SnapshotState) → snapshot.load ≡ p.load → snapshot.warehouse ≡ p.warehouse
       → snapshot.commits ≡ length p.kept → snapshot.kept ≡ p.kept → child_bytes mid child ≡ Some snapshot.bytes
       → IsTakenBehind n snapshot
-  taken_behind size snapshot load warehouse count kept seen =
+  taken_behind space snapshot load warehouse count kept seen =
       let seen_is : snapshot.bytes ≡ undone (owner_bytes p.space) p.undo = some_pages (sym seen ∙ bytes) in
+      let few : (segment : ℕ) → length (list_at snapshot.bytes segment) ≤ max_frames = λ segment.
+      omega (
+        arith,
+        ap (λ (pages : List (List (List ℕ))). length (list_at pages segment)) seen_is,
+        few-undone (owner_bytes p.space) p.undo segment,
+        length-segment-owner_bytes p.space segment,
+        space.page_counts segment,
+        space.within,
+        space.limit,
+      ) in
       record {
-        whole = record { size = size; tables = whole snapshot.bytes seen };
+        whole = record { size = space.size; few = few; tables = whole snapshot.bytes seen };
         commits = count ∙ sym (ap length kept);
         spells = subst (λ lists. Spells n snapshot.bytes (lists_after lists snapshot.warehouse snapshot.kept)) (sym load)
             (subst (λ number. Spells n snapshot.bytes (lists_after p.load number snapshot.kept)) (sym warehouse)

@@ -1,11 +1,11 @@
 -- Snapshots.
-use Rattle.std.specs.Prelude.{◌≡◌, ℕ, List, length}
+use Rattle.std.specs.Prelude.{◌≡◌, ℕ, ◌≤◌, List, length}
 use Rattle.atomic_table.specs.Seated.{TableId}
 use Rattle.hy_tickets.specs.Desks.{TicketState}
 use Rattle.hy_commands.specs.declared.command.Commit.{Commit}
 use Rattle.hy_commands.specs.Replay.{rows_after}
-use Rattle.hy_frames.specs.FrameTable.{IsPageSize}
-use Rattle.hy_rows.specs.Spelling.{HasTables, Spells, tables_of}
+use Rattle.hy_frames.specs.FrameTable.{IsPageSize, max_frames}
+use Rattle.hy_rows.specs.Spelling.{HasTables, Spells, list_at, tables_of}
 use Rattle.hy_rows.specs.Tables.{Lists}
 
 -- the load, the warehouse, the name of the kit and the desk that it comes from, the child of the warehouse's page tables,
@@ -40,9 +40,10 @@ ticket_of s = record { warehouse = s.warehouse; name = s.name; desk = s.desk; nu
 abbrev pub lists_in : ℕ → SnapshotState → Lists
 lists_in n snapshot = record { items = snapshot.load.items; tables = tables_of n snapshot.bytes }
 
--- a snapshot has its tables, on pages of n bytes
+-- a snapshot has its tables, on pages of n bytes; a segment has no more pages than there can be frames
 pub record IsWhole (n : ℕ) (bytes : List (List (List ℕ))) : Type 0 where
   pub size : IsPageSize n
+  pub few : (segment : ℕ) → length (list_at bytes segment) ≤ max_frames
   pub tables : HasTables n bytes
 
 -- and its pages spell the rows after its commits

@@ -3,3 +3,5 @@ pub mod CheckLaws
 pub mod FirstLaws
 pub mod GenerateLaws
 pub mod RunLaws
+pub mod QueryLaws
+pub mod AskLaws

@@ -34,6 +34,12 @@ module _ (files : KnownFiles) (unwritten : BothPaths) (bytes : KnownBytes) (Unpr
   fault_weaker (line.Script directory file frames kept) (fault.CannotWrite path) is = absurd (is.0)
   fault_weaker (line.Script directory file frames kept) (fault.CannotReadFile path) is = (is.0, leads is.1)
   fault_weaker (line.Script directory file frames kept) (fault.BadEvent number) is = is
+  fault_weaker (line.Query directory text) (fault.Refused refusal) is = (is.0, leads is.1)
+  fault_weaker (line.Query directory text) (fault.Writer error) is = is
+  fault_weaker (line.Query directory text) (fault.CannotRead path) is = (is.0, leads is.1)
+  fault_weaker (line.Query directory text) (fault.CannotWrite path) is = (is.0, leads is.1)
+  fault_weaker (line.Query directory text) (fault.CannotReadFile path) is = absurd (is.0)
+  fault_weaker (line.Query directory text) (fault.BadEvent number) is = absurd (is.0)
 
   undone_weaker : (words : List (List ℕ)) (why : RunFault) → AreUndone words files unwritten bytes Unprinted why
       → AreUndone words files unwritten bytes Other why

@@ -4,5 +4,6 @@ pub mod First
 pub mod Generate
 pub mod Generated
 pub mod Script
+pub mod Query
 pub mod Runs
 pub mod WorkedRows

@@ -18,6 +18,7 @@ use Rattle.hy_program.specs.First.{IsFirstFault, IsFirstPrinted}
 use Rattle.hy_program.specs.declared.script.Limits.{Limits}
 use Rattle.hy_program.specs.Script.{IsScriptDone, IsScriptFaultOf}
 use Rattle.hy_program.specs.Generate.{IsGenerateFault, IsGenerated, IsSize}
+use Rattle.hy_program.specs.Query.{IsQueryDone, IsQueryFault}
 
 abbrev pub KnownFiles : Type 0
 KnownFiles = Option FilesByPath × Option FilesByPath
@@ -48,6 +49,7 @@ IsDone (line.Generate directory warehouses customers items) files bytes =
 IsDone (line.Check directory) files bytes = IsChecked directory.now files.0 bytes.0 bytes.1
 IsDone (line.Script directory file frames kept) files bytes =
     IsScriptDone directory.now file.now (limits_of frames kept) files.0 bytes.0 bytes.1
+IsDone (line.Query directory text) files bytes = IsQueryDone directory.now text.now files.0 bytes.0 bytes.1
 
 -- why a command line isn't done; where it is refused, nothing is printed, but for a script's answers to the events
 -- before a bad one
@@ -58,6 +60,8 @@ IsFaultOf (line.Generate directory warehouses customers items) files unwritten b
 IsFaultOf (line.Check directory) files unwritten bytes unprinted why = IsCheckFault directory.now files.0 unprinted why
 IsFaultOf (line.Script directory file frames kept) files unwritten bytes unprinted why =
     IsScriptFaultOf directory.now file.now (limits_of frames kept) files.0 bytes.0 bytes.1 unprinted why
+IsFaultOf (line.Query directory text) files unwritten bytes unprinted why =
+    IsQueryFault directory.now text.now files.0 unprinted why
 
 -- `gen` alone writes files, those of its folder, where there is a database of its size
 abbrev pub MayWrite : Line → KnownFiles → Type 0

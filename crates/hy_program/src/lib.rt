@@ -7,6 +7,7 @@ mod ending;
 mod fault;
 mod first;
 mod generate;
+mod query;
 mod run;
 mod script;
 

@@ -12,6 +12,7 @@ use crate::ending::Ending;
 use crate::fault::RunFault;
 use crate::first::run_first;
 use crate::generate::{Size, run_generate};
+use crate::query::run_query;
 use crate::script::{Limits, run_script_file};
 use hy_cli::{Line, LineFault, read_words};
 use hy_files::FileSystem;
@@ -136,5 +137,6 @@ fn run_line<'a, F: FileSystem, O: Output + Take + Drop>(
             let limits = Limits { frames, kept };
             run_script_file(alloc, directory, file, limits, system, out)
         }
+        Line::Query { directory, text } => run_query(alloc, directory, text, system, out),
     }
 }

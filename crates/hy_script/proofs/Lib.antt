@@ -8,3 +8,4 @@ pub mod NameLaws
 pub mod HeldLaws
 pub mod RunLaws
 pub mod WorkedScripts
+pub mod AskedLaws

@@ -1,5 +1,5 @@
 -- The text that answers an event, and what the event does.
-use Rattle.std.specs.Prelude.{◌≡◌, ◌⊎◌, ℕ, true, false, List, ◌++◌, Option, None, Some, MatchOption, codes, decimal, length}
+use Rattle.std.specs.Prelude.{◌≡◌, ◌⊎◌, ℕ, true, false, List, ◌++◌, Option, None, Some, MatchOption, IsSomeAnd, Result, Ok, Err, IsOk, codes, decimal, length, slice_get}
 use Rattle.std.specs.List.{flat_map}
 use Rattle.hy_schema.specs.declared.refusal.Refusal.{Refusal}
 use Rattle.hy_schema.specs.declared.refusal.Refusal.TheVariants as refusals
@@ -19,6 +19,13 @@ use Rattle.hy_partition.specs.Partition.{PartitionState}
 use Rattle.hy_partition.specs.Steps.{IsUnbegun, StepsTo}
 use Rattle.hy_crossing.specs.Lists.{Pairwise}
 use Rattle.hy_forks.specs.Forks.{IsUnforked, IsWhyUnforked}
+use Rattle.hy_partition.specs.Snapshots.{SnapshotState}
+use Rattle.hy_schema.specs.Conditions.{first_broken}
+use Rattle.hy_query.specs.Language.{query_of}
+use Rattle.hy_query.specs.Meaning.{answer_of}
+use Rattle.hy_query.specs.Queries.{QueryState}
+use Rattle.hy_session.specs.Snapshots.{lists_of_all}
+use Rattle.hy_session.specs.Texts.{answer_text}
 use Rattle.hy_script.specs.declared.answer.Request.{Request}
 use Rattle.hy_script.specs.declared.answer.Request.TheVariants as requests
 use Rattle.hy_script.specs.Databases.{DatabaseState, HasName, IsNameAt, part_at, with_part}
@@ -54,6 +61,11 @@ snapshot_text name parts = codes "snapshot " ++ name ++ codes " commits" ++ flat
 
 abbrev pub closed_text : List ℕ → List ℕ
 closed_text name = codes "closed " ++ name ++ codes "\n"
+
+-- that all consistency conditions hold, or which is the first that is broken
+abbrev pub check_text : Option ℕ → List ℕ
+check_text None = codes "conditions 1 2 3 4 5 6 7 8 9 10 12 hold\n"
+check_text (Some number) = codes "condition " ++ decimal number ++ codes " broken\n"
 
 -- ---- what is asked of one warehouse
 
@@ -123,6 +135,32 @@ pub record ClosesName (name : List ℕ) (old new : DatabaseState) (text : List �
   pub closes : ClosesAt place old new
   pub prints : text ≡ closed_text name
 
+-- ---- what is asked of a snapshot
+
+-- the answer to a query over the rows that the snapshots' pages spell, or where the text says no query
+abbrev pub query_text : ℕ → List SnapshotState → Result QueryState ℕ → List ℕ
+query_text page_size snapshots (Ok query) = answer_text (answer_of query (lists_of_all page_size snapshots))
+query_text page_size snapshots (Err place) = refused_text (refusals.BadQuery place)
+
+-- a query was answered, or memory for that was refused
+abbrev pub AnswersQuery : ℕ → List ℕ → List SnapshotState → List ℕ → Type 0
+AnswersQuery page_size asked snapshots text =
+    (text ≡ query_text page_size snapshots (query_of asked))
+    ⊎ (IsOk (query_of asked) × (text ≡ refused_text refusals.NoMemory))
+
+-- the consistency conditions were tested on these rows, or memory for that was refused
+abbrev pub AnswersCheck : ℕ → List SnapshotState → List ℕ → Type 0
+AnswersCheck page_size snapshots text =
+    (text ≡ check_text (first_broken (lists_of_all page_size snapshots).tables))
+    ⊎ (text ≡ refused_text refusals.NoMemory)
+
+-- the snapshot of a name was asked, and nothing changed
+pub record AsksName (name : List ℕ) (Prints : List SnapshotState → List ℕ → Type 0) (old new : DatabaseState)
+    (text : List ℕ) : Type 0 where
+  pub place : ℕ
+  pub there : IsSomeAnd (slice_get old.snapshots place) (λ snapshot. (snapshot.name ≡ name) × Prints snapshot.parts text)
+  pub same : new ≡ old
+
 -- ---- events
 
 -- an event was done, and this is what it printed
@@ -138,9 +176,13 @@ Answers page_size (events.Limit number more) old new text = Asks number (request
 Answers page_size (events.Fork name) old new text =
     (¬ HasName old.snapshots name) × (OpensName page_size name old new text ⊎ OpensNone old new text)
 Answers page_size (events.Close name) old new text = ClosesName name old new text
+Answers page_size (events.Query name asked) old new text = AsksName name (AnswersQuery page_size asked) old new text
+Answers page_size (events.Check name) old new text = AsksName name (AnswersCheck page_size) old new text
 
 -- an event that names a snapshot that isn't open, or opens one of an open name
 abbrev pub IsMisnamed : DatabaseState → Event → Type 0
 IsMisnamed database (events.Fork name) = HasName database.snapshots name
 IsMisnamed database (events.Close name) = ¬ HasName database.snapshots name
+IsMisnamed database (events.Query name asked) = ¬ HasName database.snapshots name
+IsMisnamed database (events.Check name) = ¬ HasName database.snapshots name
 IsMisnamed database other = ⊥

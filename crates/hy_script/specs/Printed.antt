@@ -21,6 +21,10 @@ abbrev pub IsAsked : ℕ → Request → DatabaseState → DatabaseState → Opt
 IsAsked number request old new before after =
     (text : List ℕ) × Asks number request old new text × Appends before after text
 
+-- what was printed stands behind the bytes that were there
+abbrev pub IsWritten : (List ℕ → Type 0) → Option (List ℕ) → Option (List ℕ) → Type 0
+IsWritten Prints before after = (text : List ℕ) × Prints text × Appends before after text
+
 -- an event
 abbrev pub IsAnswered : ℕ → Event → DatabaseState → DatabaseState → Option (List ℕ) → Option (List ℕ) → Type 0
 IsAnswered page_size event old new before after =

@@ -3,17 +3,19 @@
 ghost use Rattle.std.specs.Prelude.{◌≡◌, ◌++◌, IsTrue, OnErr, OnOk, codes, decimal};
 ghost use Rattle.std.specs.Io.KnownBytes.{Appends};
 ghost use Rattle.hy_partition.specs.Jobs.{Log};
-ghost use Rattle.hy_script.specs.Answers.{Grants, begun_text, count_text, progress_text, refused_text, waiting_text};
-ghost use Rattle.hy_script.specs.Printed.{IsGranted};
+ghost use Rattle.hy_script.specs.Answers.{AnswersQuery, Grants, begun_text, count_text, progress_text, refused_text, waiting_text};
+ghost use Rattle.hy_script.specs.Printed.{IsGranted, IsWritten};
 ghost use Rattle.hy_script.specs.inside.Invariants.{IsServed, KeepsPlace, KeepsServed, StaysServed};
 
 use crate::terminal::Terminal;
 use hy_commands::{Command, Commit, Reply};
-use hy_events::write_reply;
+use hy_events::{QueryText, write_reply};
 use hy_output::Output;
 use hy_partition::{Loaded, Partition, Progress};
 use hy_passes::Journal;
 use hy_schema::Refusal;
+use hy_session::Session;
+use std::alloc::Global;
 use std::io;
 
 /// What an event asks of one warehouse.
@@ -60,6 +62,23 @@ pub fn grant<const N: usize, K: Loaded, O: Output>(
         Request::Free => write_count(out, "free", part.free()),
         Request::Shared => write_count(out, "shared", part.shared()),
         Request::Limit(more) => limit(part, terminal, more, out),
+    }
+}
+
+/// Asks a query in a session, and writes the answer, or why there is none.
+pub fn write_answer<const N: usize, O: Output>(
+    alloc: Global,
+    session: &Session<N>,
+    text: &QueryText<'_>,
+    out: &mut O,
+) -> io::Result<()>
+    ensures written { OnOk result
+        (IsWritten (AnswersQuery N text.now session.now) (O.contents out.old) (O.contents out.new)) }
+    ensures failed { OnErr result (IsTrue (O.has_failed out.new)) }
+{
+    match session.ask(alloc, text.as_bytes()) {
+        Ok(answer) => out.write_all(&answer),
+        Err(refusal) => write_refused(out, refusal),
     }
 }
 

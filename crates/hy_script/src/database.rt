@@ -1,6 +1,6 @@
 //! The database of a script: its partitions, and the snapshots that are open.
 
-ghost use Rattle.std.specs.Prelude.{◌≡◌, ℕ, suc, ◌+◌, ◌<◌, ◌≤◌, ◌++◌, ◌∷◌, [], true, IfErr, IfOk, IsTrue, MatchOption, None, OnErr, OnOk, length, map, remove};
+ghost use Rattle.std.specs.Prelude.{◌≡◌, ℕ, suc, ◌+◌, ◌<◌, ◌≤◌, ◌++◌, ◌∷◌, [], true, IfErr, IfOk, IsSomeAnd, IsTrue, MatchOption, None, OnErr, OnOk, length, map, remove, slice_get};
 ghost use Rattle.std.specs.List.{flat_map, range_with_len};
 ghost use Rattle.std.specs.Io.KnownBytes.{Appends};
 ghost use Rattle.hy_passes.specs.Worlds.{new_partition};
@@ -10,24 +10,25 @@ ghost use Rattle.hy_partition.specs.Limits.{most_kept};
 ghost use Rattle.hy_crossing.specs.Lists.{Pairwise};
 ghost use Rattle.hy_crossing.specs.Making.{IsWhyNoneMade};
 ghost use Rattle.hy_forks.specs.Forks.{IsUnforked, IsWhyUnforked};
-ghost use Rattle.hy_script.specs.Answers.{commits_text, snapshot_text};
+ghost use Rattle.hy_script.specs.Answers.{AnswersCheck, AnswersQuery, commits_text, snapshot_text};
 ghost use Rattle.hy_script.specs.Databases.{HasName, IsNameAt, part_at};
-ghost use Rattle.hy_script.specs.Printed.{IsAsked};
+ghost use Rattle.hy_script.specs.Printed.{IsAsked, IsWritten};
 ghost use Rattle.hy_script.specs.Scripts.{StartsFrom};
 ghost use Rattle.hy_script.specs.Steps.{ClosesAt, Opens, RunsAcross, is_crossing};
 
-use crate::answer::{Request, grant, write_refused};
+use crate::answer::{Request, grant, write_answer, write_refused};
 use crate::named::{Named, place_of_name};
 use crate::terminal::{Terminal, terminals_of};
 use hy_commands::{Command, Commit, Reply};
 use hy_crossing::{cross, partitions_of};
-use hy_events::SnapshotName;
-use hy_forks::{close_all, fork_all};
+use hy_events::{QueryText, SnapshotName};
+use hy_forks::fork_all;
 use hy_loads::Load;
 use hy_output::Output;
 use hy_partition::{Job, Loaded, Partition};
 use hy_passes::{Journal, PartitionSeat, Pass};
 use hy_schema::Refusal;
+use hy_session::Session;
 use std::alloc::Global;
 use std::io;
 use std::marker::Model;
@@ -162,7 +163,8 @@ impl<'a, const N: usize, K: Loaded> Database<'a, N, K> {
         };
         let alloc = *self.parts.allocator();
         let snapshot = fork_all(alloc, &mut self.parts, &mut self.journal, pass)?;
-        self.snapshots.push_reserved(Named::new(name, snapshot));
+        let session = Session::new(snapshot);
+        self.snapshots.push_reserved(Named::new(name, session));
         Ok(())
     }
 
@@ -172,10 +174,41 @@ impl<'a, const N: usize, K: Loaded> Database<'a, N, K> {
         ensures closes { ClosesAt place self.old self.new }
         ensures count { length self.new.snapshots + 1 ≡ length self.old.snapshots }
     {
-        let snapshot = self.snapshots.remove(place).into_snapshot();
-        match close_all(&mut self.parts, snapshot) {
+        let session = self.snapshots.remove(place).into_session();
+        match session.close_all(&mut self.parts) {
             Ok(()) => {}
             Err(_) => unreachable!(),
+        }
+    }
+
+    /// Asks a query of the snapshot at a place, and writes the answer, or why there is none.
+    pub fn query<O: Output>(
+        &self,
+        place: usize,
+        text: &QueryText<'_>,
+        out: &mut O,
+    ) -> io::Result<()>
+        requires { place < length self.now.snapshots }
+        ensures written { OnOk result (IsSomeAnd (slice_get self.now.snapshots place)
+            (λ snapshot. IsWritten (AnswersQuery N text.now snapshot.parts) (O.contents out.old) (O.contents out.new))) }
+        ensures failed { OnErr result (IsTrue (O.has_failed out.new)) }
+    {
+        let alloc = *self.parts.allocator();
+        write_answer(alloc, self.snapshots[place].session(), text, out)
+    }
+
+    /// Tests the consistency conditions in the snapshot at a place, and writes the first broken one, or that all hold.
+    pub fn check<O: Output>(&self, place: usize, out: &mut O) -> io::Result<()>
+        requires { place < length self.now.snapshots }
+        ensures written { OnOk result (IsSomeAnd (slice_get self.now.snapshots place)
+            (λ snapshot. IsWritten (AnswersCheck N snapshot.parts) (O.contents out.old) (O.contents out.new))) }
+        ensures failed { OnErr result (IsTrue (O.has_failed out.new)) }
+    {
+        let alloc = *self.parts.allocator();
+        match self.snapshots[place].session().check_conditions(alloc) {
+            Ok(None) => out.write_all(b"conditions 1 2 3 4 5 6 7 8 9 10 12 hold\n"),
+            Ok(Some(number)) => writeln!(out, "condition {number} broken"),
+            Err(refusal) => write_refused(out, refusal),
         }
     }
 

@@ -10,7 +10,7 @@ ghost use Rattle.hy_script.specs.Printed.{IsAnswered, IsUnanswered};
 use crate::answer::{Request, write_refused};
 use crate::database::Database;
 use hy_commands::Command;
-use hy_events::{Event, SnapshotName, write_reply};
+use hy_events::{Event, QueryText, SnapshotName, write_reply};
 use hy_output::Output;
 use hy_partition::Loaded;
 use std::io;
@@ -60,6 +60,8 @@ pub fn answer<'a, const N: usize, K: Loaded, O: Output>(
         }
         Event::Fork(name) => return fork(database, name, out),
         Event::Close(name) => return close(database, name, out),
+        Event::Query(name, text) => return query(database, &name, &text, out),
+        Event::Check(name) => return check(database, &name, out),
     }
     Ok(())
 }
@@ -123,6 +125,43 @@ fn close<const N: usize, K: Loaded, O: Output>(
     };
     database.close(place);
     write_closed(out, name.as_bytes())?;
+    Ok(())
+}
+
+/// Asks a query of the snapshot of a name, and writes its answer.
+fn query<const N: usize, K: Loaded, O: Output>(
+    database: &mut Database<'_, N, K>,
+    name: &SnapshotName<'_>,
+    text: &QueryText<'_>,
+    out: &mut O,
+) -> Result<(), Unanswered>
+    ensures answered { OnOk result (IsAnswered N (events.Query name.now text.now) database.old database.new
+        (O.contents out.old) (O.contents out.new)) }
+    ensures unanswered { IfErr result (IsUnanswered database.old (events.Query name.now text.now)
+        (O.contents out.new ≡ O.contents out.old) (IsTrue (O.has_failed out.new))) }
+{
+    let Some(place) = database.place_of_name(name) else {
+        return Err(Unanswered::BadEvent);
+    };
+    database.query(place, text, out)?;
+    Ok(())
+}
+
+/// Tests the consistency conditions in the snapshot of a name, and writes what was found.
+fn check<const N: usize, K: Loaded, O: Output>(
+    database: &mut Database<'_, N, K>,
+    name: &SnapshotName<'_>,
+    out: &mut O,
+) -> Result<(), Unanswered>
+    ensures answered { OnOk result (IsAnswered N (events.Check name.now) database.old database.new
+        (O.contents out.old) (O.contents out.new)) }
+    ensures unanswered { IfErr result (IsUnanswered database.old (events.Check name.now)
+        (O.contents out.new ≡ O.contents out.old) (IsTrue (O.has_failed out.new))) }
+{
+    let Some(place) = database.place_of_name(name) else {
+        return Err(Unanswered::BadEvent);
+    };
+    database.check(place, out)?;
     Ok(())
 }
 

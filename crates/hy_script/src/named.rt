@@ -4,13 +4,13 @@ ghost use Rattle.std.specs.Prelude.{◌≡◌, MatchOption};
 ghost use Rattle.hy_script.specs.Databases.{HasName, IsNameAt};
 
 use hy_events::SnapshotName;
-use hy_forks::SnapshotAll;
+use hy_session::Session;
 use std::marker::Model;
 
-/// A snapshot of all warehouses, and its name.
+/// A session over a snapshot of all warehouses, and its name.
 pub struct Named<'a, const N: usize> {
     name: SnapshotName<'a>,
-    snapshot: SnapshotAll<N>,
+    session: Session<N>,
 }
 
 // Clauses see both.
@@ -19,15 +19,15 @@ impl<'a, const N: usize> Model for Named<'a, N> {
 
     ghost Value = { OpenSnapshot };
 
-    ghost view = { λ named. record { name = named.name; parts = named.snapshot } };
+    ghost view = { λ named. record { name = named.name; parts = named.session } };
 }
 
 impl<'a, const N: usize> Named<'a, N> {
-    /// A snapshot under a name.
-    pub fn new(name: SnapshotName<'a>, snapshot: SnapshotAll<N>) -> Named<'a, N>
-        ensures { result ≡ record { name = name.entry; parts = snapshot.entry } }
+    /// A session under a name.
+    pub fn new(name: SnapshotName<'a>, session: Session<N>) -> Named<'a, N>
+        ensures { result ≡ record { name = name.entry; parts = session.entry } }
     {
-        Named { name, snapshot }
+        Named { name, session }
     }
 
     /// The name.
@@ -37,12 +37,19 @@ impl<'a, const N: usize> Named<'a, N> {
         &self.name
     }
 
-    /// The snapshot, to be closed.
-    pub fn into_snapshot(self) -> SnapshotAll<N>
+    /// The session.
+    pub fn session(&self) -> &Session<N>
+        ensures { result.now ≡ self.now.parts }
+    {
+        &self.session
+    }
+
+    /// The session, to be closed.
+    pub fn into_session(self) -> Session<N>
         ensures { result ≡ self.entry.parts }
     {
-        let Named { name: _, snapshot } = self;
-        snapshot
+        let Named { name: _, session } = self;
+        session
     }
 }
 

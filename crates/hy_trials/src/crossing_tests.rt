@@ -2,11 +2,10 @@
 
 ghost use Rattle.std.specs.Prelude.{◌≡◌, ◌≤◌, length};
 
+use crate::commands::order_of;
 use crate::halls::{Hall, Request};
 use crate::model::{Model, Rows, random_command};
-use hy_commands::{
-    Command, Commit, Name, Payment, Purchase, PurchaseLine, PurchaseLines, Reply, Who,
-};
+use hy_commands::{Command, Commit, Name, Payment, Reply, Who};
 use hy_loads::Load;
 use hy_partition::Loaded;
 use hy_passes::{Kit, make};
@@ -75,26 +74,6 @@ fn paid_by(warehouse: u64, district: u64, who: Who) -> Command {
         who,
         amount: 100,
         at: 1,
-    })
-}
-
-/// An order of customer 1 of district 1 of a warehouse: five of each item, by the warehouse beside it.
-fn order_of(rt: &(impl Abort + AllocGlobal), home: u64, lines: &[(u64, u64)]) -> Command {
-    let mut all = Vec::new(rt.alloc());
-    for (item, supply_warehouse) in lines {
-        all.push(PurchaseLine {
-            item: *item,
-            supply_warehouse: *supply_warehouse,
-            quantity: 5,
-        })
-        .expect(rt, "a line");
-    }
-    Command::NewOrder(Purchase {
-        warehouse: home,
-        district: 1,
-        customer: 1,
-        at: 1,
-        lines: PurchaseLines::new(rt.alloc(), &all).expect(rt, "lines"),
     })
 }
 

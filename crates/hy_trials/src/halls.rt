@@ -13,6 +13,7 @@ use hy_loads::Load;
 use hy_partition::{Job, Loaded, Partition};
 use hy_passes::{Journal, Kit, Pass};
 use hy_schema::Refusal;
+use hy_session::Session;
 use std::alloc::Global;
 use std::marker::PhantomData;
 use std::process::Abort;
@@ -93,6 +94,13 @@ pub struct TakenAll<K: Loaded> {
     pub all: SnapshotAll<4096>,
     pub of: PhantomData<K>,
     ghost own: { AreOfKit K.passes all } by { Prim.hlevel props },
+}
+
+/// A session over all warehouses of this world.
+pub struct OpenSession<K: Loaded> {
+    pub session: Session<4096>,
+    pub of: PhantomData<K>,
+    ghost own: { AreOfKit K.passes session } by { Prim.hlevel props },
 }
 
 /// The partitions of all warehouses, their journal, and the clients who are at home.
@@ -182,6 +190,24 @@ impl<K: Loaded> Hall<K> {
         match close_all(&mut self.parts, all) {
             Ok(()) => {}
             Err(_) => panic!(rt; "a snapshot of other partitions"),
+        }
+    }
+
+    /// Opens a session over all warehouses.
+    pub fn open_session(&mut self, rt: &impl Abort, alloc: Global) -> OpenSession<K> {
+        let TakenAll { all, of } = self.fork(rt, alloc).expect(rt, "a snapshot");
+        OpenSession {
+            session: Session::new(all),
+            of,
+        }
+    }
+
+    /// Closes a session.
+    pub fn close_session(&mut self, rt: &impl Abort, opened: OpenSession<K>) {
+        let OpenSession { session, of: _ } = opened;
+        match session.close_all(&mut self.parts) {
+            Ok(()) => {}
+            Err(_) => panic!(rt; "a session over other partitions"),
         }
     }
 

@@ -2,6 +2,8 @@
 #![tactic(auto)]
 
 #[cfg(test)]
+mod commands;
+#[cfg(test)]
 mod crossing_tests;
 #[cfg(test)]
 mod halls;
@@ -9,3 +11,5 @@ mod halls;
 mod lock_tests;
 #[cfg(test)]
 mod model;
+#[cfg(test)]
+mod query_tests;

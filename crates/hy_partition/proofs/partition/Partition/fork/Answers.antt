@@ -98,7 +98,7 @@ new-requires g c =
     ap (λ warehouse. projection_of warehouse list.seen) c.tell.ensures.same.0 ∙ c.tell.ensures.kept in
     let count : length c.list.result.now ≡ length p.kept = ap length (c.list.ensures ∙ still) in
     let taken = taken_behind g.row.N _ _ p c.self.invariant.0 c.fork.new.space c.holds.new.self c.in-Ok-fork.child child.least child.bytes child.others child.owner child.undo_log
-    c.holds.ensures.unchanged c.holds.ensures.kept c.sound.ensures.size
+    c.holds.ensures.unchanged c.holds.ensures.kept c.sound.ensures
     (snapshot_of c.in-Ok.load c.give-ticket.result (length c.list.result.now) c.noted.result.value.items _) load
     (ap (λ (t : TicketState). t.warehouse) c.give-ticket.ensures.ticket ∙ c.self.invariant.1.desk_of) count
     (c.noted.ensures ∙ still) c.in-Ok-holds.ensures.holds in

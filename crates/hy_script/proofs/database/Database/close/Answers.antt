@@ -21,7 +21,7 @@ unreachable-requires g c =
     within c.remove.ensures.value c.self.invariant.taken in
     let from = are_from-own g.K.World.passes g.K.Loaded.load parts c.remove.result c.self.invariant.load own in
     false≢true (c.in-Err.ensures.mine.1 (subst (λ (it : List SnapshotState). are_from g.K.World.passes it parts ≡ true)
-    (sym c.into_snapshot-snapshot.ensures) from))
+    (sym c.into_session-session.ensures) from))
 
 pub invariant_of-self : goal.invariant_of-self
 invariant_of-self g c =
@@ -34,7 +34,7 @@ invariant_of-self g c =
       load = c.close_all.ensures.parts;
       whole = c.close_all.ensures.whole;
       served = served-pairs 1 olds news c.self.inside.terminals.items
-          (keeps-closed c.into_snapshot-snapshot.result olds news c.in-Ok.ensures.closes) c.self.invariant.served;
+          (keeps-closed c.into_session-session.result olds news c.in-Ok.ensures.closes) c.self.invariant.served;
       taken = rw c.remove.ensures.items
           (All-remove (IsOfAll g.K.World.passes (length g.K.Loaded.load.tables.warehouses)) held c.args.place within
           c.self.invariant.taken);
@@ -57,7 +57,7 @@ returns-clause-closes g c =
       snapshot = c.remove.result;
       there = item_at held c.args.place c.remove.result within c.remove.ensures.value;
       closes = subst (λ (it : List SnapshotState). Pairwise (ClosesHere it) 1 olds news)
-          c.into_snapshot-snapshot.ensures c.in-Ok.ensures.closes;
+          c.into_session-session.ensures c.in-Ok.ensures.closes;
       snapshots = c.remove.ensures.items;
       log = refl;
     })

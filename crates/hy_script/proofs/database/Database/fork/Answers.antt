@@ -55,7 +55,7 @@ invariant_of-self-2 g c =
       whole = c.fork_all.ensures.whole;
       served = served-pairs 1 olds news c.self.inside.terminals.items
           (keeps-forked g.row.N kit log known olds news snapshot forks) c.self.invariant.served;
-      taken = rw (c.push_reserved.ensures.items, c.new.ensures, c.reserve.ensures.items)
+      taken = rw (c.push_reserved.ensures.items, c.new.ensures, c.new-session.ensures, c.reserve.ensures.items)
           (All-push (IsOfAll kit (length lists.tables.warehouses)) c.self.inside.snapshots.items
           (record { name = c.args.name; parts = snapshot }) c.self.invariant.taken own);
       pass_is = refl;
@@ -72,7 +72,7 @@ returns-clause-opens g c =
       log = c.fork_all.new.journal.list.log;
     } in
     let more : c.push_reserved.new.self.items ≡ held ++ opened ∷ [] =
-    rw (c.new.ensures, c.reserve.ensures.items) at c.push_reserved.ensures.items in
+    rw (c.new.ensures, c.new-session.ensures, c.reserve.ensures.items) at c.push_reserved.ensures.items in
     subst (λ (now : DatabaseState). Opens g.row.N c.args.name now new) c.self.view_is (record {
       kit = g.K.World.passes;
       known = c.in-Some.pass.seen;

@@ -1,0 +1,12 @@
+use Rattle.std.proofs.Common.{◌≡◌, map, take}
+use Rattle.std.specs.List.{AllByRecursion}
+use Rattle.hy_columns.specs.Snapshots.{lists_of_all}
+use Rattle.hy_answers.specs.declared.sources.SourceColumn.{SourceColumn}
+use Rattle.hy_answers.specs.inside.Reading.{IsSource}
+use Rattle.hy_answers.proofs.reading.read_columns.Given as goal
+
+-- the columns so far
+abbrev pub invariant-loop-column : goal.invariant-loop-column
+invariant-loop-column g l =
+    (map (λ (source : SourceColumn). source.column) l.sources.items ≡ take l.column-index l.names)
+    × AllByRecursion (IsSource (lists_of_all g.row.N l.all)) l.sources.items

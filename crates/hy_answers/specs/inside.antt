@@ -1,0 +1,13 @@
+pub mod Answers
+pub mod Checks
+pub mod Combinations
+pub mod Groups
+pub mod Items
+pub mod Joins
+pub mod Names
+pub mod Numbers
+pub mod Orders
+pub mod Reading
+pub mod Rows
+pub mod Sources
+pub mod Writers

@@ -1,0 +1,5 @@
+pub mod ItemLaws
+pub mod PageRows
+pub mod ResultLaws
+pub mod RowLaws
+pub mod TableLaws

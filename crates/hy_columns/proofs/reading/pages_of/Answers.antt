@@ -1,0 +1,8 @@
+use Rattle.std.proofs.Common.{sym, subst}
+use Rattle.hy_rows.specs.Spelling.{HasSlots}
+use Rattle.hy_columns.proofs.reading.pages_of.Goals as goal
+
+pub returns-clause-slots : goal.returns-clause-slots
+returns-clause-slots g c =
+    subst (HasSlots g.row.N c.args.segment.row_bytes) (sym c.segment.ensures.pages)
+    (c.segment.ensures.whole.tables.slots c.args.segment.number c.args.segment.row_bytes c.requires)

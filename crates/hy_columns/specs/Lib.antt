@@ -1,0 +1,3 @@
+pub mod Columns
+pub mod Snapshots
+pub mod inside

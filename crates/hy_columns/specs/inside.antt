@@ -1,0 +1,4 @@
+-- What the private functions and the proofs of this crate speak of, and no public contract.
+pub mod Fields
+pub mod Pages
+pub mod Snapshots

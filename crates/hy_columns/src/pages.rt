@@ -1,0 +1,151 @@
+//! The values of a column on the pages of a segment.
+
+ghost use Rattle.std.specs.Prelude.{◌≡◌, ◌+◌, ◌-◌, ◌*◌, ◌<◌, ◌≤◌, ◌++◌, All, OnOk, length, map, option_to_list, vec_capacity, vec_len};
+ghost use Rattle.hy_rows.specs.Spelling.{HasSlots, is_live, list_at, row_of_slot, rows_of, slot_width, used_slots};
+ghost use Rattle.hy_columns.specs.inside.Pages.{rows_on, whole_row};
+
+use crate::decode::Decode;
+use hy_frames::Hold;
+use std::alloc::AllocError;
+
+/// Whether a slot has a row.
+fn is_live(slot: &[u8]) -> bool
+    requires { 0 < length slot.now }
+    ensures { result ≡ is_live slot.now }
+{
+    slot[0] == 1
+}
+
+/// Reads the value of a slot's row behind those that were read before, if the slot is live.
+fn read_slot<'a, D: Decode<'a>>(column: &D, slot: &'a [u8], values: &mut Vec<D::Output>)
+    requires some { 0 < length slot.now }
+    requires fits { D.fits column.now (length slot.now - 1) }
+    requires room { vec_len values.old < vec_capacity values.old }
+    ensures values { map D.value_of values.new.items
+        ≡ map D.value_of values.old.items ++ option_to_list (row_of_slot (D.value_in column.now) slot.now) }
+    ensures len { vec_len values.new ≤ vec_len values.old + 1 }
+    ensures capacity { vec_capacity values.new ≡ vec_capacity values.old }
+{
+    if is_live(slot) {
+        values.push_reserved(column.decode(&slot[1..]));
+    }
+}
+
+/// Reads the values of the rows in the first slots of a page behind those that were read before.
+fn read_page<'a, D: Decode<'a>>(
+    column: &D,
+    page: &'a [u8],
+    row_bytes: usize,
+    count: usize,
+    values: &mut Vec<D::Output>,
+)
+    requires width { slot_width row_bytes ≤ length page.now }
+    requires within { count * slot_width row_bytes ≤ length page.now }
+    requires fits { D.fits column.now row_bytes }
+    requires room { vec_len values.old + count ≤ vec_capacity values.old }
+    ensures values { map D.value_of values.new.items
+        ≡ map D.value_of values.old.items ++ rows_on row_bytes (D.value_in column.now) page.now count }
+    ensures len { vec_len values.new ≤ vec_len values.old + count }
+    ensures capacity { vec_capacity values.new ≡ vec_capacity values.old }
+{
+    let width = 1 + row_bytes;
+    let mut at = 0;
+    for _ in 0..count {
+        read_slot(column, &page[at..at + width], values);
+        at += width;
+    }
+}
+
+/// Each page has all its bytes.
+fn know_sizes<const N: usize>(pages: &[Hold<N>])
+    ensures { All (λ page. length page ≡ N) pages.now }
+{
+    for page in pages {
+        page.know_size();
+    }
+}
+
+/// How many slots of a segment are used.
+fn used_on<const N: usize>(pages: &[Hold<N>]) -> usize
+    requires some { 0 < length pages.now }
+    requires size { 256 ≤ N }
+    requires small { N ≤ 65536 }
+    ensures { result ≡ used_slots pages.now }
+{
+    pages[0].page().field(0, 8) as usize
+}
+
+/// The bytes of a page with slots, by its place among these pages: the first page has none.
+fn slots_on<const N: usize>(pages: &[Hold<N>], place: usize) -> &[u8]
+    requires there { 1 + place < length pages.now }
+    requires small { N ≤ 65536 }
+    ensures bytes { result.now ≡ list_at pages.now (1 + place) }
+    ensures size { length result.now ≡ N }
+{
+    pages[1 + place].page().bytes()
+}
+
+/// Reads the values of a column in all rows of a segment behind those that were read before. Only memory can lack.
+pub(crate) fn read_pages<'a, D: Decode<'a>, const N: usize>(
+    column: &D,
+    pages: &'a [Hold<N>],
+    row_bytes: usize,
+    values: &mut Vec<D::Output>,
+) -> Result<(), AllocError>
+    requires slots { HasSlots N row_bytes pages.now }
+    requires width { slot_width row_bytes ≤ N }
+    requires size { 256 ≤ N }
+    requires small { N ≤ 65536 }
+    requires fits { D.fits column.now row_bytes }
+    ensures { OnOk result (map D.value_of values.new.items
+        ≡ map D.value_of values.old.items ++ rows_of N row_bytes (D.value_in column.now) pages.now) }
+{
+    know_sizes(pages);
+    let mut left = used_on(pages);
+    let per_page = N / (1 + row_bytes);
+    values.reserve(left)?;
+    for place in 0..pages.len() - 1 {
+        let count = left.min(per_page);
+        read_page(column, slots_on(pages, place), row_bytes, count, values);
+        left -= count;
+    }
+    Ok(())
+}
+
+/// How many of the first slots of a page have a row.
+fn count_page(page: &[u8], row_bytes: usize, count: usize) -> usize
+    requires width { slot_width row_bytes ≤ length page.now }
+    requires within { count * slot_width row_bytes ≤ length page.now }
+    ensures rows { result ≡ length (rows_on row_bytes whole_row page.now count) }
+    ensures most { result ≤ count }
+{
+    let width = 1 + row_bytes;
+    let mut at = 0;
+    let mut rows = 0;
+    for _ in 0..count {
+        rows += usize::from(is_live(&page[at..at + width]));
+        at += width;
+    }
+    rows
+}
+
+/// How many rows a segment has.
+pub(crate) fn count_pages<const N: usize>(pages: &[Hold<N>], row_bytes: usize) -> usize
+    requires slots { HasSlots N row_bytes pages.now }
+    requires width { slot_width row_bytes ≤ N }
+    requires size { 256 ≤ N }
+    requires small { N ≤ 65536 }
+    ensures rows { result ≡ length (rows_of N row_bytes whole_row pages.now) }
+    ensures most { result ≤ used_slots pages.now }
+{
+    know_sizes(pages);
+    let mut left = used_on(pages);
+    let per_page = N / (1 + row_bytes);
+    let mut rows = 0;
+    for place in 0..pages.len() - 1 {
+        let count = left.min(per_page);
+        rows += count_page(slots_on(pages, place), row_bytes, count);
+        left -= count;
+    }
+    rows
+}

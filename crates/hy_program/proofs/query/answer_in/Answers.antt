@@ -1,0 +1,65 @@
+use Rattle.std.proofs.Common.{rules, ◌≡◌, ◌∙◌, List, [], Err, IfOk, true, ap, arith, length, subst, sym}
+use Rattle.std.specs.Prelude.{vec_len}
+use Rattle.std.proofs.lemmas.Bool.{false≢true}
+use Rattle.hy_rows.specs.Tables.{Lists}
+use Rattle.hy_commands.specs.declared.command.Commit.{Commit}
+use Rattle.hy_commands.specs.Parts.{database_of}
+use Rattle.hy_passes.specs.Worlds.{new_client}
+use Rattle.hy_query.specs.Meaning.{answer_of}
+use Rattle.hy_partition.specs.Jobs.{Log}
+use Rattle.hy_partition.specs.Snapshots.{SnapshotState}
+use Rattle.hy_partition.proofs.SeatLaws.{length-numbered}
+use Rattle.hy_crossing.specs.Crossings.{ArePartitions, database_behind}
+use Rattle.hy_forks.specs.Forks.{SpellsDatabase, are_from}
+use Rattle.hy_session.specs.Snapshots.{lists_of_all}
+use Rattle.hy_session.specs.Texts.{answer_text}
+use Rattle.hy_script.specs.Databases.{OpenSnapshot}
+use Rattle.hy_script.proofs.SnapshotLaws.{are_from-own, forked-own}
+use Rattle.hy_program.specs.Query.{by_warehouse}
+use Rattle.hy_program.proofs.QueryLaws.{refused-by, some-warehouses}
+use Rattle.hy_program.proofs.query.answer_in.Goals as goal
+
+-- one client
+pub take_last-pass-requires : goal.take_last-pass-requires
+take_last-pass-requires g c =
+    let clients : g.K.World.passes.clients ≡ 1 = ap (λ kit. kit.clients) (sym c.requires.kit) ∙ c.requires.clients in
+    let all : length c.in_ok-_passes.clients.items ≡ 1 = ap length c.in_ok-_passes.ensures.clients
+    ∙ length-numbered (new_client {C = Commit}) 0 g.K.World.passes.clients ∙ clients in
+    let count : vec_len c.in_ok-_passes.clients ≡ 1 = search (rules, all) in
+    omega (arith, count)
+
+-- nothing was written in the new partitions
+pub returns-in_err-fork_all-clause-refused : goal.returns-in_err-fork_all-clause-refused
+returns-in_err-fork_all-clause-refused g c =
+    let is : c.from_residual-in_err-fork_all.result ≡ Err c.in_err-fork_all.field-0.0 = search rules in
+    refused-by c.args.load.now 100_000 1_000_000 c.in_ok-parts.parts.items c.from_residual-in_err-fork_all.result
+    c.in_err-fork_all.field-0.0 c.in_ok-parts.ensures.begin c.in_err-fork_all.ensures.refused is
+
+-- the snapshots are those of these partitions
+pub unreachable-requires : goal.unreachable-requires
+unreachable-requires g c =
+    let lists = c.args.load.now in
+    let news = c.fork_all.new.parts.items in
+    let taken : OpenSnapshot = record { name = []; parts = c.in_ok-fork_all.field-0 } in
+    let now : ArePartitions lists news =
+    subst (λ (all : Lists). ArePartitions all news) (sym c.requires.load) c.in_ok-fork_all.ensures.parts in
+    let own = forked-own 4_096 g.K.World.passes c.in_ok-_passes.journal.list.log c.take_last-pass.result.seen
+    c.in_ok-parts.parts.items news taken.parts c.in_ok-fork_all.ensures.forks lists [] c.in_ok-parts.ensures.parts now in
+    let from = are_from-own g.K.World.passes lists news taken now own in
+    false≢true (c.in-Err.ensures.mine.1 (subst (λ (it : List SnapshotState). are_from g.K.World.passes it news ≡ true)
+    (sym c.new-session.ensures) from))
+
+-- nothing is in the serial list yet, so that they spell the load
+pub returns-clause-answer : goal.returns-clause-answer
+returns-clause-answer g c =
+    let taken = c.in_ok-fork_all.field-0 in
+    let load : SpellsDatabase 4_096 (database_of g.K.Loaded.load) taken =
+    subst (λ (log : Log). SpellsDatabase 4_096 (database_behind g.K.Loaded.load log) taken)
+    c.in_ok-_passes.ensures.journal c.in_ok-fork_all.ensures.database in
+    let spells : SpellsDatabase 4_096 (database_of c.args.load.now) c.new-session.result =
+    subst (λ (it : List SnapshotState). SpellsDatabase 4_096 (database_of c.args.load.now) it) (sym c.new-session.ensures)
+    (subst (λ (lists : Lists). SpellsDatabase 4_096 (database_of lists) taken) (sym c.requires.load) load) in
+    let rows : lists_of_all 4_096 c.new-session.result ≡ by_warehouse c.args.load.now =
+    c.shows.ensures (database_of c.args.load.now) (some-warehouses c.args.load.now c.sound.ensures) spells in
+    subst (λ (lists : Lists). IfOk c.answer-answer.result (λ printed. printed.items
+    ≡ answer_text (answer_of c.args.query.now lists))) rows c.answer-answer.ensures.answer

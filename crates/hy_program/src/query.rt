@@ -1,0 +1,101 @@
+//! The command `query`: the answer to a query over the database in the files of a folder.
+
+ghost use Rattle.std.specs.Prelude.{◌≡◌, ◌+◌, IfErr, IfOk, IsOkAnd, OnOk, length};
+ghost use Rattle.hy_schema.specs.declared.refusal.Refusal.{Refusal};
+ghost use Rattle.hy_session.specs.Texts.{answer_text};
+ghost use Rattle.hy_query.specs.Language.{query_of};
+ghost use Rattle.hy_query.specs.Meaning.{answer_of};
+ghost use Rattle.hy_program.specs.Faults.{IsBlamedRightly};
+ghost use Rattle.hy_program.specs.Query.{IsQueryDone, IsQueryFault, IsWhyUnanswered, IsWhyUnasked, by_warehouse};
+
+use crate::PAGE_BYTES;
+use crate::fault::RunFault;
+use hy_commands::Commit;
+use hy_crossing::partitions_of;
+use hy_files::{FileSystem, read_load};
+use hy_forks::fork_all;
+use hy_loads::Load;
+use hy_output::Output;
+use hy_partition::Loaded;
+use hy_passes::{Kit, make};
+use hy_query::{Query, parse_query};
+use hy_schema::Refusal;
+use hy_session::Session;
+use std::alloc::Global;
+use std::marker::Brand;
+
+/// How many frames each warehouse may have.
+const MAX_FRAMES: u64 = 100_000;
+
+/// How many commits each warehouse may keep. There are none.
+const MAX_KEPT: u64 = 1_000_000;
+
+/// The name of the kit. No other one is made.
+const KIT: u64 = 1;
+
+/// Answers a query over the load in the files of a folder, and writes the answer.
+pub fn run_query<'a, F: FileSystem, O: Output>(
+    alloc: Global,
+    directory: &'a str,
+    text: &'a str,
+    system: &mut F,
+    out: &mut O,
+) -> Result<(), RunFault<'a>>
+    ensures files { F.files system.new ≡ F.files system.old }
+    ensures folders { F.folders system.new ≡ F.folders system.old }
+    ensures done { OnOk result (IsQueryDone directory.entry.now text.entry.now (F.files system.old)
+        (O.contents out.old) (O.contents out.new)) }
+    ensures fault { IfErr result
+        (IsQueryFault directory.entry.now text.entry.now (F.files system.old) (out.new ≡ out.old)) }
+    ensures failed { IfErr result (IsBlamedRightly (O.has_failed out.new)) }
+{
+    let load = match read_load(alloc, system, directory) {
+        Ok(load) => load,
+        Err(found) => return Err(RunFault::of_files(directory, found)),
+    };
+    let answer = answer(alloc, &load, text.as_bytes())?;
+    out.write_all(&answer)?;
+    Ok(())
+}
+
+/// The answer to a query over a load. E13 where the text says none, before all else; E2 or E1 where the load finds no
+/// place on pages, or the answer none in memory.
+fn answer(alloc: Global, load: &Load, text: &[u8]) -> Result<Vec<u8>, Refusal>
+    ensures answer { IfOk result (λ printed. IsOkAnd (query_of text.now)
+        (λ query. printed.items ≡ answer_text (answer_of query (by_warehouse load.now)))) }
+    ensures refused { IfErr result (IsWhyUnasked load.now text.now) }
+{
+    let query = parse_query(alloc, text)?;
+    load.sound();
+    let count = load.tables().warehouses.len();
+    let kit = make::<Commit>(alloc, count as u8, 1, KIT)?;
+    answer_in::<Brand>(alloc, load, kit, &query)
+}
+
+/// The same for a query, in the world that names the load and a kit for its warehouses and one client.
+fn answer_in<K: Loaded>(
+    alloc: Global,
+    load: &Load,
+    kit: Kit<Commit>,
+    query: &Query<'_>,
+) -> Result<Vec<u8>, Refusal>
+    requires kit { kit ≡ K.passes }
+    requires load { load.now ≡ K.load }
+    requires partitions { kit.partitions ≡ length load.now.tables.warehouses }
+    requires clients { kit.clients ≡ 1 }
+    ensures answer { IfOk result
+        (λ printed. printed.items ≡ answer_text (answer_of query.now (by_warehouse load.now))) }
+    ensures refused { IfErr result (IsWhyUnanswered load.now) }
+{
+    load.sound();
+    let (_passes, mut journal, seats, mut clients) = kit.open::<K>()?;
+    let mut pass = clients.take_last();
+    let mut parts = partitions_of::<PAGE_BYTES, K>(alloc, load, seats, MAX_FRAMES, MAX_KEPT)?;
+    let session = Session::new(fork_all(alloc, &mut parts, &mut journal, &mut pass)?);
+    session.shows();
+    let answer = session.answer(alloc, query);
+    match session.close_all(&mut parts) {
+        Ok(()) => answer,
+        Err(_) => unreachable!(),
+    }
+}

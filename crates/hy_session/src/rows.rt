@@ -1,0 +1,43 @@
+//! The rows of all warehouses, from their snapshots.
+
+ghost use Rattle.std.specs.Prelude.{◌≡◌, IfOk};
+ghost use Rattle.hy_answers.specs.Snapshots.{lists_of_all};
+ghost use Rattle.hy_session.specs.inside.Joined.{joined};
+
+use hy_forks::SnapshotAll;
+use hy_rows::{Row, Tables};
+use std::alloc::{AllocError, Global};
+
+/// The rows of one table, those of each warehouse behind those of the one before. Only memory can lack.
+pub(crate) fn rows_of_all<R: Row, const N: usize>(
+    alloc: Global,
+    all: &SnapshotAll<N>,
+) -> Result<Vec<R>, AllocError>
+    ensures { IfOk result (λ rows. rows.items ≡ joined R.rows_in N all.now) }
+{
+    let mut rows = Vec::new(alloc);
+    for place in 0..all.len() {
+        let more = all.part(place).list::<R>()?;
+        rows.extend_from_slice(&more)?;
+    }
+    Ok(rows)
+}
+
+/// The rows of all tables that lie on pages. Only memory can lack.
+pub(crate) fn tables_of_all<const N: usize>(
+    alloc: Global,
+    all: &SnapshotAll<N>,
+) -> Result<Tables, AllocError>
+    ensures { IfOk result (λ tables. tables ≡ (lists_of_all N all.now).tables) }
+{
+    Ok(Tables {
+        warehouses: rows_of_all(alloc, all)?,
+        districts: rows_of_all(alloc, all)?,
+        customers: rows_of_all(alloc, all)?,
+        history: rows_of_all(alloc, all)?,
+        new_orders: rows_of_all(alloc, all)?,
+        orders: rows_of_all(alloc, all)?,
+        order_lines: rows_of_all(alloc, all)?,
+        stock: rows_of_all(alloc, all)?,
+    })
+}

@@ -1,0 +1,181 @@
+//! A session over a snapshot of the whole database.
+
+ghost use Rattle.std.specs.Prelude.{◌≡◌, ◌≤◌, ◌==◌, ◌↔◌, IfErr, IfOk, IsOk, IsOkAnd, IsTrue, MatchResult, OnErr, OnOk, filter, length, map};
+ghost use Rattle.hy_schema.specs.Conditions.{first_broken};
+ghost use Rattle.hy_schema.specs.declared.refusal.Refusal.TheVariants.{BadQuery, NoMemory, NotMine};
+ghost use Rattle.hy_commands.specs.Parts.{Database};
+ghost use Rattle.hy_forks.specs.Crossings.{ArePartitions, HaveNoPart};
+ghost use Rattle.hy_forks.specs.Lists.{Pairwise};
+ghost use Rattle.hy_forks.specs.Forks.{AreOfKit, ClosesHere, SpellsDatabase, are_from};
+ghost use Rattle.hy_answers.specs.Snapshots.{lists_of_all};
+ghost use Rattle.hy_answers.specs.Texts.{answer_text};
+ghost use Rattle.hy_query.specs.Language.{query_of};
+ghost use Rattle.hy_query.specs.Meaning.{answer_of};
+ghost use Rattle.hy_session.specs.Databases.{lists_of};
+ghost use Rattle.hy_session.specs.Reports.{report_line, report_of};
+
+use crate::rows::{rows_of_all, tables_of_all};
+use hy_answers::{run, text_of};
+use hy_conditions::first_broken;
+use hy_forks::{Loaded, Partition, Parts, SnapshotAll, close_all};
+use hy_query::{Query, parse_query};
+use hy_rows::{NewOrder, Warehouse};
+use hy_schema::Refusal;
+use std::alloc::{AllocError, Global};
+use std::marker::Model;
+
+/// What a report says of one warehouse.
+#[derive(Clone, Copy, Debug, PartialEq, Eq)]
+pub struct WarehouseReport {
+    /// W_ID.
+    pub warehouse: u8,
+    /// W_YTD, in cents.
+    pub ytd: i64,
+    /// How many rows of NEW-ORDER it has: its undelivered orders.
+    pub undelivered: u64,
+}
+
+/// A snapshot of the whole database in the hands of an analyst. Nothing changes it. It must be given back by `close_all`.
+pub struct Session<const N: usize> {
+    all: SnapshotAll<N>,
+}
+
+// Clauses see the snapshots.
+impl<const N: usize> Model for Session<N> {
+    ghost use Rattle.std.specs.Prelude.{List};
+    ghost use Rattle.hy_forks.specs.Snapshots.{SnapshotState};
+
+    ghost Value = { List SnapshotState };
+
+    ghost view = { λ session. session.all };
+}
+
+impl<const N: usize> Session<N> {
+    /// A session over this snapshot.
+    pub fn new(all: SnapshotAll<N>) -> Session<N>
+        ensures { result ≡ all.entry }
+    {
+        Session { all }
+    }
+
+    /// The snapshot, of which queries are asked.
+    pub fn snapshot(&self) -> &SnapshotAll<N>
+        ensures { result.now ≡ self.now }
+    {
+        &self.all
+    }
+
+    /// That its rows are those of the database that it was taken of.
+    pub fn shows(&self)
+        ensures { (database : Database) → 1 ≤ length database.warehouses → SpellsDatabase N database self.now
+            → lists_of_all N self.now ≡ lists_of database }
+    {
+        let _all = &self.all;
+    }
+
+    /// The text of the answer to a query: a record a row, then how many rows there are. E1.
+    pub fn answer(&self, alloc: Global, query: &Query<'_>) -> Result<Vec<u8>, Refusal>
+        ensures answer { IfOk result (λ printed. printed.items ≡ answer_text (answer_of query.now (lists_of_all N self.now))) }
+        ensures refused { IfErr result (λ why. why ≡ NoMemory) }
+    {
+        let answer = run(alloc, query, &self.all)?;
+        Ok(text_of(alloc, &answer)?)
+    }
+
+    /// The same for the query that a text says. E13 exactly where it says none, with the place of the byte at which it
+    /// fails; E1.
+    pub fn ask(&self, alloc: Global, text: &[u8]) -> Result<Vec<u8>, Refusal>
+        ensures answer { IfOk result (λ printed. IsOkAnd (query_of text.now)
+            (λ query. printed.items ≡ answer_text (answer_of query (lists_of_all N self.now)))) }
+        ensures refused { IfErr result (λ why. MatchResult (query_of text.now) (λ query. why ≡ NoMemory)
+            (λ place. why ≡ BadQuery place)) }
+    {
+        let query = parse_query(alloc, text)?;
+        self.answer(alloc, &query)
+    }
+
+    /// For each warehouse in rising order its number, W_YTD in cents, and how many of its orders are undelivered. E1.
+    pub fn report(&self, alloc: Global) -> Result<Vec<WarehouseReport>, Refusal>
+        ensures report { IfOk result (λ lines. lines.items ≡ report_of (lists_of_all N self.now).tables) }
+        ensures refused { IfErr result (λ why. why ≡ NoMemory) }
+    {
+        let warehouses = rows_of_all::<Warehouse, N>(alloc, &self.all)?;
+        let new_orders = rows_of_all::<NewOrder, N>(alloc, &self.all)?;
+        Ok(lines_of(alloc, &warehouses, &new_orders)?)
+    }
+
+    /// The first of the consistency conditions 1 to 10 and 12 that the rows break (TPC-C clause 3.3.2), and none where they
+    /// meet all. E1.
+    pub fn check_conditions(&self, alloc: Global) -> Result<Option<u8>, Refusal>
+        ensures broken { IfOk result (λ broken. broken ≡ first_broken (lists_of_all N self.now).tables) }
+        ensures refused { IfErr result (λ why. why ≡ NoMemory) }
+    {
+        Ok(broken_in(alloc, &self.all)?)
+    }
+
+    /// Gives the snapshot back, as `close_all` of hy_forks does: E11 where one of its parts is another warehouse's or one
+    /// of a kit with another name, and then the session comes back, and nothing is closed.
+    pub fn close_all<K: Loaded, P: Parts<Part = Partition<N, K>>>(
+        self,
+        parts: &mut P,
+    ) -> Result<(), (Session<N>, Refusal)>
+        requires parts { ArePartitions K.load (P.states parts.old) }
+        requires whole { HaveNoPart (P.states parts.old) }
+        requires kit { AreOfKit K.passes self }
+        ensures mine { IsOk result ↔ IsTrue (are_from K.passes self.entry (P.states parts.old)) }
+        ensures closes { OnOk result (Pairwise (ClosesHere self.entry) 1 (P.states parts.old) (P.states parts.new)) }
+        ensures refused { IfErr result (λ refused. (refused.0 ≡ self.entry) × (refused.1 ≡ NotMine)) }
+        ensures err { OnErr result (P.states parts.new ≡ P.states parts.old) }
+        ensures parts { ArePartitions K.load (P.states parts.new) }
+        ensures whole { HaveNoPart (P.states parts.new) }
+    {
+        let Session { all } = self;
+        match close_all(parts, all) {
+            Ok(()) => Ok(()),
+            Err((all, refusal)) => Err((Session { all }, refusal)),
+        }
+    }
+}
+
+/// The first of the consistency conditions that the rows of snapshots break.
+fn broken_in<const N: usize>(alloc: Global, all: &SnapshotAll<N>) -> Result<Option<u8>, AllocError>
+    ensures { IfOk result (λ broken. broken ≡ first_broken (lists_of_all N all.now).tables) }
+{
+    let tables = tables_of_all(alloc, all)?;
+    first_broken(alloc, &tables)
+}
+
+/// What a report says of some warehouses among these undelivered orders.
+fn lines_of(
+    alloc: Global,
+    warehouses: &[Warehouse],
+    new_orders: &[NewOrder],
+) -> Result<Vec<WarehouseReport>, AllocError>
+    ensures { IfOk result (λ lines. lines.items ≡ map (report_line new_orders.now) warehouses.now) }
+{
+    warehouses
+        .iter()
+        .map(|row| line_of(row, new_orders))
+        .collect(alloc)
+}
+
+/// What a report says of a warehouse among these undelivered orders.
+fn line_of(row: &Warehouse, new_orders: &[NewOrder]) -> WarehouseReport
+    ensures { result ≡ report_line new_orders.now row.now }
+{
+    WarehouseReport {
+        warehouse: row.id,
+        ytd: row.ytd,
+        undelivered: undelivered_of(new_orders, row.id) as u64,
+    }
+}
+
+/// How many of these undelivered orders are of a warehouse.
+fn undelivered_of(new_orders: &[NewOrder], number: u8) -> usize
+    ensures { result ≡ length (filter (λ new. new.warehouse == number) new_orders.now) }
+{
+    new_orders
+        .iter()
+        .filter(|new| new.warehouse == number)
+        .count()
+}
