@@ -5,6 +5,8 @@
 mod drain_rounds;
 mod index_rounds;
 mod payment_rounds;
+mod query_rounds;
+mod shop;
 mod space_rounds;
 
 use std::alloc::Global;
@@ -35,6 +37,12 @@ fn run(rt: &HostRuntime) -> Option<u64> {
     match work {
         "pay" => payment_rounds::run(alloc, rounds, size),
         "drain" => drain_rounds::run(alloc, rounds, size),
+        "query-stock"
+        | "query-items"
+        | "query-districts"
+        | "query-credit"
+        | "report"
+        | "conditions" => query_rounds::run(alloc, work, rounds, size),
         "commit" | "rollback" | "fork" | "snapshot" => {
             space_rounds::run(alloc, work, rounds, size, writes)
         }

@@ -10,7 +10,7 @@ use hy_partition::{Job, Loaded, Partition};
 use hy_passes::{Journal, Kit, PartitionSeat, Pass, make};
 use hy_rows::Warehouse;
 use hy_schema::Refusal;
-use hy_tables::generated;
+use hy_tables::generate;
 use std::alloc::Global;
 use std::marker::Brand;
 
@@ -20,18 +20,22 @@ pub(crate) const SIZE: usize = 4096;
 /// Payments of the first customer of the first district, in a generated warehouse with so many customers in each
 /// district and one item.
 pub fn run(alloc: Global, rounds: u64, customers: u64) -> Option<u64> {
-    let load = generated_load(alloc, customers)?;
+    let load = generated_load(alloc, 1, customers, 1)?;
     let kit = make::<Commit>(alloc, 1, 1, 1).ok()?;
     payments::<Brand>(alloc, &load, kit, rounds).ok()
 }
 
-/// A generated warehouse with so many customers in each district and one item.
-pub(crate) fn generated_load(alloc: Global, customers: u64) -> Option<Load>
-    ensures { IfSome result (λ load. length load.tables.warehouses ≡ 1) }
+/// So many generated warehouses, customers in each district and items.
+pub(crate) fn generated_load(
+    alloc: Global,
+    warehouses: u8,
+    customers: u64,
+    items: u64,
+) -> Option<Load>
+    ensures { IfSome result (λ load. length load.tables.warehouses ≡ warehouses) }
 {
-    let lists = generated(alloc, 1, customers % 3001, 1).ok()?;
-    let load = Load::of(alloc, lists).ok()?;
-    if load.list::<Warehouse>().len() != 1 {
+    let load = generate(alloc, warehouses.into(), customers, items).ok()?;
+    if load.list::<Warehouse>().len() != usize::from(warehouses) {
         return None;
     }
     Some(load)
@@ -99,6 +103,16 @@ pub(crate) fn pay<K: Loaded>(
     }
     partition.step(journal)?;
     partition.step(journal)?;
+    client_of(partition)
+}
+
+/// The client whose command is done, unless it was refused.
+pub(crate) fn client_of<K: Loaded>(
+    partition: &mut Partition<SIZE, K>,
+) -> Result<Pass<Commit, K>, Refusal>
+    ensures terms { terms_of partition.new ≡ terms_of partition.old }
+    ensures part { partition.new.part ≡ partition.old.part }
+{
     match partition.take_done().map(|done| done.open()) {
         Some((Reply::Refused(refusal), _, _)) => Err(refusal),
         Some((_, pass, _share)) => Ok(pass),

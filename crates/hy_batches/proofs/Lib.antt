@@ -1,0 +1,12 @@
+pub mod BatchForms
+pub mod CommandForms
+pub mod CommitForms
+pub mod FormLaws
+pub mod Fronts
+pub mod LengthLaws
+pub mod LogLaws
+pub mod ListLaws
+pub mod NumberLaws
+pub mod RowForms
+pub mod RowReading
+pub mod WorkedLogs

@@ -1,0 +1,15 @@
+use Rattle.std.proofs.Common.{[], ◌∷◌, ◌++◌, length, subst}
+use Rattle.hy_batches.specs.Encoding.{content_bytes, mark, number_bytes}
+use Rattle.hy_batches.proofs.writing.write_batch.Goals as goal
+
+pub returns : goal.returns
+returns g c =
+    let takes = g.S.Sink.takes in
+    let both = g.met.S.Sink.takes_both in
+    let content = content_bytes (g.L.Lists.lists c.args.lists.now) in
+    let size = number_bytes 8 (length content) in
+    let said : takes c.put.new.self c.write_number.new.sink size =
+    subst (takes c.put.new.self c.write_number.new.sink) c.content_length.ensures c.write_number.ensures in
+    both _ _ _ (mark ++ size ++ content) (69 ∷ [])
+    (both _ _ _ (mark ++ size) content (both _ _ _ mark size c.put.ensures said) c.write_content.ensures)
+    c.put-2.ensures

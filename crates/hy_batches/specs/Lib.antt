@@ -1,0 +1,6 @@
+pub mod Encoding
+pub mod Grammar
+pub mod Logs
+pub mod Sinks
+pub mod WorkedBatches
+pub mod inside

@@ -1,0 +1,4 @@
+-- What parts of this crate's own contracts say; nothing here is part of what is promised.
+pub mod Nexts
+pub mod Reading
+pub mod Sinks

@@ -1,0 +1,123 @@
+//! Whole logs.
+
+ghost use Rattle.std.specs.Prelude.{◌≡◌, ◌++◌, ◌∷◌, [], OnOk};
+ghost use Rattle.hy_batches.specs.Logs.{Reads, is_beginning, is_end, is_short};
+ghost use Rattle.hy_batches.specs.inside.Nexts.{IsNext};
+
+use crate::batch::ReadBatch;
+use crate::fault::ReadFault;
+use crate::reading::batch_at;
+use crate::writing::MARK;
+use hy_page::number;
+use hy_schema::Refusal;
+use std::alloc::{AllocError, Global};
+use std::marker::Model;
+
+/// The whole batches of a log, in order.
+#[derive(Debug, Drop)]
+pub struct Batches {
+    batches: Vec<ReadBatch>,
+    bytes: usize,
+}
+
+impl Model for Batches {
+    ghost use Rattle.std.specs.Prelude.{◌≡◌, List, length};
+    ghost use Rattle.hy_commands.specs.declared.command.Commit.{Commit};
+    ghost use Rattle.hy_batches.specs.Encoding.{log_bytes};
+
+    ghost Value = { List (List (List Commit)) };
+
+    ghost view = { λ log. log.batches.items };
+
+    ghost invariant = { λ log. log.bytes ≡ length (log_bytes log.batches.items) };
+}
+
+impl Batches {
+    ghost use Rattle.std.specs.Prelude.{◌≡◌, ◌<◌, [], length, slice_index_or};
+    ghost use Rattle.hy_batches.specs.Encoding.{log_bytes};
+
+    /// How many batches there are.
+    pub fn count(&self) -> u64
+        ensures { result ≡ length self.now }
+    {
+        self.batches.len() as u64
+    }
+
+    /// How many bytes they have. What stands behind these in the log is the begin of a batch that was cut.
+    pub fn bytes(&self) -> u64
+        ensures { result ≡ length (log_bytes self.now) }
+    {
+        self.bytes as u64
+    }
+
+    /// The batch at a place, from 0.
+    pub fn batch(&self, place: usize) -> &ReadBatch
+        requires { place < length self.now }
+        ensures { result.now ≡ slice_index_or self.now place [] }
+    {
+        &self.batches[place]
+    }
+}
+
+/// Whether bytes are shorter than a batch with the length that they say, or too short to say one.
+fn is_short(rest: &[u8]) -> bool
+    ensures { result ≡ is_short rest.now }
+{
+    if rest.len() < 12 {
+        return true;
+    }
+    let said = number(&rest[4..12]);
+    (rest.len() - 12) as u64 <= said
+}
+
+/// Whether bytes are the begin of a batch that was cut.
+fn is_beginning(rest: &[u8]) -> bool
+    ensures { result ≡ is_beginning rest.now }
+{
+    let common = rest.len().min(MARK.len());
+    0 < common && rest[..common] == MARK[..common] && is_short(rest)
+}
+
+/// Whether no more than the begin of a batch is left.
+fn is_end(rest: &[u8]) -> bool
+    ensures { result ≡ is_end rest.now }
+{
+    rest.is_empty() || is_beginning(rest)
+}
+
+/// The batch that bytes begin with, which stand at a place of the log, and what is left.
+fn next_batch(alloc: Global, place: usize, rest: &[u8]) -> Result<(ReadBatch, &[u8]), Refusal>
+    ensures { IsNext (λ read. (read.0, read.1.now)) place rest.now result }
+{
+    match batch_at(alloc, rest) {
+        Ok((batch, after)) => Ok((batch, after)),
+        Err(ReadFault::Malformed) => Err(Refusal::LogMalformed(place as u64)),
+        Err(ReadFault::NoMemory) => Err(Refusal::NoMemory),
+    }
+}
+
+/// Adds a batch.
+fn add(batches: &mut Vec<ReadBatch>, batch: ReadBatch) -> Result<(), AllocError>
+    ensures { OnOk result (batches.new.items ≡ batches.old.items ++ batch ∷ []) }
+{
+    batches.push(batch)?;
+    Ok(())
+}
+
+/// The batches of a log. `LogMalformed` where the bytes are none, with the place of the first byte of what is neither a
+/// batch nor the begin of one; `NoMemory` where the batches before it, or its own commits, find none.
+pub fn read_log(alloc: Global, bytes: &[u8]) -> Result<Batches, Refusal>
+    ensures { Reads bytes.now result }
+{
+    let mut batches = Vec::new(alloc);
+    let mut rest = bytes;
+    'batches: while !is_end(rest) {
+        let (batch, after) = next_batch(alloc, bytes.len() - rest.len(), rest)?;
+        add(&mut batches, batch)?;
+        rest = after;
+    }
+    Ok(Batches {
+        batches,
+        bytes: bytes.len() - rest.len(),
+    })
+}

@@ -1,0 +1,193 @@
+//! Rounds of questions to a session over two warehouses with orders.
+
+ghost use Rattle.std.specs.Prelude.{◌≡◌, length};
+
+use crate::payment_rounds::{SIZE, generated_load};
+use crate::shop::Shop;
+use hy_commands::{Command, Commit, Purchase, PurchaseLine, PurchaseLines};
+use hy_loads::Load;
+use hy_partition::Loaded;
+use hy_passes::{Kit, Pass, make};
+use hy_schema::Refusal;
+use hy_session::Session;
+use std::alloc::{AllocError, Global};
+use std::marker::Brand;
+
+/// How many warehouses there are.
+const WAREHOUSES: u8 = 2;
+
+/// How many customers each of their districts has.
+const CUSTOMERS: u64 = 3_000;
+
+/// How many items there are.
+const ITEMS: u64 = 100_000;
+
+/// What the numbers of items are made from.
+const MIXING: u64 = 0x9e37_79b9_7f4a_7c15;
+
+/// What a session is asked.
+#[derive(Clone, Copy)]
+enum Question {
+    Query(&'static str),
+    Report,
+    Conditions,
+}
+
+/// What a work asks, if it is one of these.
+fn question_of(work: &str) -> Option<Question> {
+    let question = match work {
+        "query-stock" => Question::Query("from stock where s_quantity < 20 select sum s_ytd"),
+        "query-items" => {
+            Question::Query("from orderline group ol_i_id select ol_i_id, count, sum ol_amount")
+        }
+        "query-districts" => Question::Query(
+            "from orderline group ol_w_id, ol_d_id select ol_w_id, ol_d_id, count, sum ol_amount",
+        ),
+        "query-credit" => {
+            Question::Query("from customer group c_credit select c_credit, count, sum c_balance")
+        }
+        "report" => Question::Report,
+        "conditions" => Question::Conditions,
+        _ => return None,
+    };
+    Some(question)
+}
+
+/// Rounds of a work over the database behind so many orders.
+pub fn run(alloc: Global, work: &str, rounds: u64, orders: u64) -> Option<u64> {
+    let question = question_of(work)?;
+    let load = generated_load(alloc, WAREHOUSES, CUSTOMERS, ITEMS)?;
+    let kit = make::<Commit>(alloc, WAREHOUSES, 1, 1).ok()?;
+    questions::<Brand>(alloc, &load, kit, question, rounds, orders).ok()
+}
+
+/// The same in the world of the load and the kit.
+fn questions<K: Loaded>(
+    alloc: Global,
+    load: &Load,
+    kit: Kit<Commit>,
+    question: Question,
+    rounds: u64,
+    orders: u64,
+) -> Result<u64, Refusal>
+    requires load { load.now ≡ K.load }
+    requires kit { kit ≡ K.passes }
+    requires partitions { kit.partitions ≡ length load.now.tables.warehouses }
+{
+    let (mut shop, pass) = Shop::<K>::open(alloc, load, kit)?;
+    let mut pass = order(alloc, &mut shop, pass, orders)?;
+    let session = shop.session(alloc, &mut pass)?;
+    let seen = asked(alloc, &session, question, rounds);
+    shop.close(session);
+    seen
+}
+
+/// So many orders.
+fn order<K: Loaded>(
+    alloc: Global,
+    shop: &mut Shop<K>,
+    mut pass: Pass<Commit, K>,
+    orders: u64,
+) -> Result<Pass<Commit, K>, Refusal> {
+    for number in 0..orders {
+        let command = order_of(alloc, number)?;
+        pass = shop.run((number % 2) as usize, command, pass)?;
+    }
+    Ok(pass)
+}
+
+/// The order of a number, in the two warehouses in turn.
+fn order_of(alloc: Global, number: u64) -> Result<Command, AllocError> {
+    let warehouse = number % 2 + 1;
+    Ok(Command::NewOrder(Purchase {
+        warehouse,
+        district: number / 2 % 10 + 1,
+        customer: number / 20 % CUSTOMERS + 1,
+        at: 1,
+        lines: lines_of(alloc, number, warehouse)?,
+    }))
+}
+
+/// The 5 to 15 lines of the order of a number, whose items jump about. All come from this warehouse.
+fn lines_of(alloc: Global, number: u64, warehouse: u64) -> Result<PurchaseLines, AllocError> {
+    let mut lines = Vec::new(alloc);
+    for line in 0..number % 11 + 5 {
+        let mixed = number
+            .wrapping_mul(15)
+            .wrapping_add(line)
+            .wrapping_mul(MIXING)
+            >> 32;
+        lines.push(PurchaseLine {
+            item: mixed % ITEMS + 1,
+            supply_warehouse: warehouse,
+            quantity: line % 10 + 1,
+        })?;
+    }
+    PurchaseLines::new(alloc, &lines)
+}
+
+/// What so many rounds of a question left to see.
+fn asked(
+    alloc: Global,
+    session: &Session<SIZE>,
+    question: Question,
+    rounds: u64,
+) -> Result<u64, Refusal> {
+    match question {
+        Question::Query(text) => answers(alloc, session, text.as_bytes(), rounds),
+        Question::Report => reports(alloc, session, rounds),
+        Question::Conditions => conditions(alloc, session, rounds),
+    }
+}
+
+/// What the bytes of an answer say, and how many bytes were answered in so many rounds.
+fn answers(
+    alloc: Global,
+    session: &Session<SIZE>,
+    text: &[u8],
+    rounds: u64,
+) -> Result<u64, Refusal> {
+    let mut seen = digest(&session.ask(alloc, text)?);
+    for _ in 0..rounds {
+        seen = seen.wrapping_add(session.ask(alloc, text)?.len() as u64);
+    }
+    Ok(seen)
+}
+
+/// A number of all bytes of a text in their order.
+fn digest(text: &[u8]) -> u64 {
+    let mut seen = 0u64;
+    for byte in text {
+        seen = seen.wrapping_mul(31).wrapping_add(u64::from(*byte));
+    }
+    seen
+}
+
+/// The sum of all numbers in so many reports.
+fn reports(alloc: Global, session: &Session<SIZE>, rounds: u64) -> Result<u64, Refusal> {
+    let mut seen = 0u64;
+    for _ in 0..rounds {
+        seen = seen.wrapping_add(report(alloc, session)?);
+    }
+    Ok(seen)
+}
+
+/// The sum of all numbers in a report.
+fn report(alloc: Global, session: &Session<SIZE>) -> Result<u64, Refusal> {
+    let mut seen = 0u64;
+    for line in &session.report(alloc)? {
+        let number = u64::from(line.warehouse).wrapping_add(line.ytd.cast_unsigned());
+        seen = seen.wrapping_add(number).wrapping_add(line.undelivered);
+    }
+    Ok(seen)
+}
+
+/// How many times all conditions held, or else the sum of those that were broken first.
+fn conditions(alloc: Global, session: &Session<SIZE>, rounds: u64) -> Result<u64, Refusal> {
+    let mut seen = 0u64;
+    for _ in 0..rounds {
+        let broken = session.check_conditions(alloc)?.unwrap_or(0);
+        seen = seen.wrapping_add(u64::from(broken) * 1000 + 1);
+    }
+    Ok(seen)
+}
