@@ -11,8 +11,7 @@ mod reading;
 mod values;
 
 // What whoever reads columns names of the crate below.
-pub use hy_forks::SnapshotAll;
-
 pub use column::column_of;
 pub use count::count_of;
+pub use hy_forks::SnapshotAll;
 pub use values::ColumnValues;

@@ -9,10 +9,9 @@ mod knowing;
 mod snapshot;
 
 // What whoever has a snapshot of all warehouses names of the crates below.
-pub use hy_crossing::Parts;
-pub use hy_partition::{Loaded, Partition, Snapshot};
-
 pub use drains::{Batch, drain};
 pub use forks::{close_all, fork_all};
 pub use history::find_history;
+pub use hy_crossing::Parts;
+pub use hy_partition::{Loaded, Partition, Snapshot};
 pub use snapshot::SnapshotAll;
