@@ -1,4 +1,4 @@
-//! The columns of tables, read from the pages of snapshots.
+//! The columns of tables, read from the pages of snapshots. What whoever reads them names of the crate below is passed on.
 #![tactic(auto)]
 
 mod column;
@@ -10,7 +10,6 @@ mod pages;
 mod reading;
 mod values;
 
-// What whoever reads columns names of the crate below.
 pub use column::column_of;
 pub use count::count_of;
 pub use hy_forks::SnapshotAll;

@@ -1,4 +1,5 @@
-//! Snapshots of the whole database, and what was committed since the last drain.
+//! Snapshots of the whole database, and what was committed since the last drain. What whoever has one names of the crates
+//! below is passed on.
 #![tactic(auto)]
 
 mod closing;
@@ -8,7 +9,6 @@ mod history;
 mod knowing;
 mod snapshot;
 
-// What whoever has a snapshot of all warehouses names of the crates below.
 pub use drains::{Batch, drain};
 pub use forks::{close_all, fork_all};
 pub use history::find_history;
