@@ -1,0 +1,68 @@
+-- What clauses see of an engine, and what its calls answer.
+use Rattle.std.specs.Prelude.{◌≡◌, ◌⊎◌, ◌≤◌, ℕ, List, None, Some}
+use mathlib.Core.List.{IsPrefix}
+use Rattle.hy_rows.specs.Tables.{Lists}
+use Rattle.hy_schema.specs.Conditions.{first_broken}
+use Rattle.hy_schema.specs.declared.refusal.Refusal.{Refusal}
+use Rattle.hy_schema.specs.declared.refusal.Refusal.TheVariants as refusals
+use Rattle.hy_database.specs.Database.{all_rows}
+use Rattle.hy_commands.specs.declared.command.Commit.{Commit}
+use Rattle.hy_passes.specs.Worlds.{PassState}
+use Rattle.hy_partition.specs.Jobs.{DoneState, JobState, Log, RunningJob, begun, refused_answer, told}
+use Rattle.hy_partition.specs.Partition.{PartitionState}
+use Rattle.hy_partition.specs.Snapshots.{SnapshotState}
+use Rattle.hy_partition.specs.Steps.{Accepts, IsUnbegun, Refuses, begin_refusal, with_job}
+use Rattle.hy_crossing.specs.Crossings.{database_behind}
+use Rattle.hy_forks.specs.Forks.{SpellsDatabase}
+
+-- how many warehouses an engine has, and how many clients
+pub record EngineState : Type 0 where
+  pub warehouses : ℕ
+  pub clients : ℕ
+
+-- the greatest capacity of a queue of jobs
+abbrev pub max_capacity : ℕ
+max_capacity = 4_096
+
+abbrev pub IsCapacity : ℕ → Type 0
+IsCapacity capacity = (1 ≤ capacity) × (capacity ≤ max_capacity)
+
+-- ---- jobs
+
+-- the job that ran in a partition has ended, with some serial list before and after; its answer was taken
+pub record AnswersRunning (job : RunningJob) (old new : PartitionState) (answer : DoneState) : Type 0 where
+  pub before : Log
+  pub after : Log
+  pub ended : PartitionState
+  pub how : Accepts job (Some before) (Some after) old ended ⊎ Refuses job (Some before) (Some after) old ended
+  pub answered : ended.finished ≡ Some answer
+  pub taken : new ≡ record ended { finished = None }
+
+-- a job was handed to a partition: its begin is refused, which is the answer, and nothing changes; or it was begun, and ran
+-- to its end
+abbrev pub AnswersJob : JobState → PartitionState → PartitionState → DoneState → Type 0
+AnswersJob job old new answer =
+    ((why : Refusal) × IsUnbegun old job.command why × (new ≡ old) × (answer ≡ refused_answer job.pass why))
+    ⊎ ((begin_refusal old job.command ≡ None) × AnswersRunning (begun job) (with_job old job) new answer)
+
+-- why a job comes back: its client isn't one of the engine's; its home isn't there, or the partitions aren't those of the
+-- load; the engine is closed; or the queue was full
+abbrev pub IsWhyBack : EngineState → JobState → Refusal → Type 0
+IsWhyBack engine job why =
+    ((why ≡ refusals.OutOfRange) × (engine.clients ≤ job.pass.client)) ⊎ (why ≡ refusals.NoSuchWarehouse)
+    ⊎ (why ≡ refusals.Closed) ⊎ (why ≡ refusals.QueueFull)
+
+-- ---- snapshots of all warehouses
+
+-- a client who had seen a beginning of the serial list got a snapshot of the database behind it, which meets the
+-- consistency conditions, and has seen all of it
+pub record SeesAll (n : ℕ) (lists : Lists) (old new : PassState Commit) (snapshots : List SnapshotState) : Type 0 where
+  pub log : Log
+  pub begins : IsPrefix old.seen log
+  pub told : new ≡ told old log
+  pub database : SpellsDatabase n (database_behind lists log) snapshots
+  pub consistent : first_broken (all_rows (database_behind lists log)) ≡ None
+
+-- why there is none
+abbrev pub IsWhyUnseen : Refusal → Type 0
+IsWhyUnseen why = (why ≡ refusals.NoSuchWarehouse) ⊎ (why ≡ refusals.NoFrame) ⊎ (why ≡ refusals.NoMemory)

@@ -1,0 +1,99 @@
+//! Calls on all partitions, with all locks.
+
+ghost use Rattle.std.specs.Prelude.{◌≡◌, ◌⊎◌, ◌≤◌, [], IfErr, IfOk, OnErr, vec_capacity};
+ghost use Rattle.hy_schema.specs.declared.refusal.Refusal.{Refusal};
+ghost use Rattle.hy_crossing.specs.Crossings.{ArePartitions, HaveNoPart};
+ghost use Rattle.hy_crossing.specs.inside.Guards.{values_of};
+ghost use Rattle.hy_forks.specs.Forks.{AreOfKit};
+ghost use Rattle.hy_engine.specs.Engines.{IsWhyUnseen, SeesAll};
+
+use crate::engine::Engine;
+use crate::gate::Gate;
+use crate::locking::lock_soon;
+use hy_commands::Commit;
+use hy_crossing::are_partitions;
+use hy_forks::{SnapshotAll, close_all, fork_all};
+use hy_partition::{Loaded, Partition};
+use hy_passes::Pass;
+use hy_schema::Refusal;
+use std::alloc::Global;
+use std::sync::{MutexGuard, Wait};
+
+/// Partitions behind locks that are held.
+pub type Held<'a, const N: usize, K> = Vec<MutexGuard<'a, Partition<N, K>>>;
+
+impl<const N: usize, K: Loaded, G: Gate + Drop> Engine<N, K, G> {
+    /// Room for all locks, of which none is taken. E1.
+    pub fn room(&self, alloc: Global) -> Result<Held<'_, N, K>, Refusal>
+        ensures empty { IfOk result (λ room. room.items ≡ []) }
+        ensures room { IfOk result (λ room. self.now.warehouses ≤ vec_capacity room) }
+        ensures refused { IfErr result (λ why. why ≡ Refusal.NoMemory) }
+    {
+        Ok(Vec::with_capacity(alloc, self.parts.len())?)
+    }
+
+    /// The partitions of all warehouses, with all of their locks, which are taken in rising order of warehouse and lie in
+    /// this room. E4 where they aren't those of the load, or a part of a command is done in one.
+    pub fn hold<'a, R: Wait>(
+        &'a self,
+        rt: &R,
+        room: Held<'a, N, K>,
+    ) -> Result<Held<'a, N, K>, Refusal>
+        requires empty { room.items ≡ [] }
+        requires room { self.now.warehouses ≤ vec_capacity room }
+        ensures parts { IfOk result (λ held. ArePartitions K.load (values_of held.items)) }
+        ensures whole { IfOk result (λ held. HaveNoPart (values_of held.items)) }
+        ensures refused { IfErr result (λ why. why ≡ Refusal.NoSuchWarehouse) }
+    {
+        let mut held = room;
+        for place in 0..self.parts.len() {
+            held.push_reserved(lock_soon(rt, &self.parts[place]));
+        }
+        if !are_partitions(&mut held) {
+            return Err(Refusal::NoSuchWarehouse);
+        }
+        Ok(held)
+    }
+
+    /// A snapshot of the whole database behind the serial list, for a client, who is told all of the list. E4 where the
+    /// partitions aren't those of the load; E2 where one of them has fewer frames free than its job has touched pages;
+    /// E1.
+    pub fn fork_all<R: Wait>(
+        &self,
+        rt: &R,
+        alloc: Global,
+        pass: &mut Pass<Commit, K>,
+    ) -> Result<SnapshotAll<N>, Refusal>
+        ensures sees { IfOk result (SeesAll N K.load pass.old pass.new) }
+        ensures kit { IfOk result (AreOfKit K.passes) }
+        ensures client { pass.new.client ≡ pass.old.client }
+        ensures refused { IfErr result IsWhyUnseen }
+    {
+        let mut held = self.hold(rt, self.room(alloc)?)?;
+        let mut journal = lock_soon(rt, &self.journal);
+        journal.tell_client(pass);
+        fork_all(alloc, &mut held, &mut journal, pass)
+    }
+
+    /// Closes a snapshot of all warehouses, with room for their locks. It comes back with E11 where it is one of other
+    /// partitions, or with E4 where the partitions aren't those of the load; then nothing is closed. A snapshot with the
+    /// kit's name has to be one of that kit. Takes no memory.
+    pub fn close_all<'a, R: Wait>(
+        &'a self,
+        rt: &R,
+        room: Held<'a, N, K>,
+        all: SnapshotAll<N>,
+    ) -> Result<(), (SnapshotAll<N>, Refusal)>
+        requires empty { room.items ≡ [] }
+        requires room { self.now.warehouses ≤ vec_capacity room }
+        requires kit { AreOfKit K.passes all }
+        ensures back { IfErr result (λ refused. refused.0 ≡ all.entry) }
+        ensures refused { IfErr result
+            (λ refused. (refused.1 ≡ Refusal.NotMine) ⊎ (refused.1 ≡ Refusal.NoSuchWarehouse)) }
+    {
+        match self.hold(rt, room) {
+            Ok(mut held) => close_all(&mut held, all),
+            Err(refusal) => Err((all, refusal)),
+        }
+    }
+}

@@ -1,0 +1,17 @@
+//! The engine: a worker for each warehouse, queues of jobs and of answers, and calls on all warehouses at one moment.
+//!
+//! Each partition stands behind a lock of its own, and the journal behind another, which is taken last and for last
+//! slices alone. Locks of partitions are taken in rising order of warehouse. Nobody holds one while waiting for a job or
+//! an answer.
+#![tactic(auto)]
+
+mod engine;
+mod gate;
+mod holding;
+mod locking;
+mod submitting;
+mod working;
+
+pub use engine::{Engine, MAX_CAPACITY};
+pub use gate::{Gate, Open};
+pub use holding::Held;

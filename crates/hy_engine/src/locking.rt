@@ -1,0 +1,18 @@
+//! How a lock is taken.
+
+use std::hint::spin_loop;
+use std::sync::{Mutex, MutexGuard, Wait};
+
+/// So often a thread tries to take a lock before it sleeps: some microseconds.
+const TRIES: u32 = 1500;
+
+/// Takes a lock. Whoever holds one gives it up soon, so that it is tried for a while before the thread sleeps.
+pub fn lock_soon<'a, R: Wait, T>(rt: &R, mutex: &'a Mutex<T>) -> MutexGuard<'a, T> {
+    for _ in 0..TRIES {
+        if let Some(guard) = mutex.try_lock() {
+            return guard;
+        }
+        spin_loop();
+    }
+    mutex.lock(rt)
+}

@@ -1,0 +1,99 @@
+//! How a client hands in a job, and gets its answer.
+
+ghost use Rattle.std.specs.Prelude.{◌≡◌, ◌⊎◌, ◌<◌, ◌≤◌, IfErr, OnOk, length, nat_lt, true};
+ghost use Rattle.hy_schema.specs.declared.refusal.Refusal.{Refusal};
+ghost use Rattle.hy_commands.specs.Commands.{home_of, warehouses_of};
+ghost use Rattle.hy_engine.specs.Engines.{IsWhyBack};
+
+use crate::engine::Engine;
+use crate::gate::Gate;
+use crate::locking::lock_soon;
+use hy_crossing::cross;
+use hy_partition::{Done, Job, Loaded};
+use hy_schema::Refusal;
+use std::alloc::Global;
+use std::sync::Wait;
+
+impl<const N: usize, K: Loaded, G: Gate + Drop> Engine<N, K, G> {
+    /// Hands a job in. That of one warehouse waits in its queue for the worker; that of several is done at once, on the
+    /// caller's thread. Either answer comes by `answer`. Else the job comes back: with E8 exactly where its client isn't
+    /// one of the engine's, with E4 where its home isn't there, with E16 where the engine is closed, and with E17 where
+    /// the queue is full.
+    pub fn submit<R: Wait>(
+        &self,
+        rt: &R,
+        alloc: Global,
+        job: Job<K>,
+    ) -> Result<(), (Job<K>, Refusal)>
+        ensures client { OnOk result (job.pass.client < self.now.clients) }
+        ensures home { OnOk result ((1 ≤ home_of job.command) × (home_of job.command ≤ self.now.warehouses)) }
+        ensures back { IfErr result (λ refused. refused.0 ≡ job) }
+        ensures refused { IfErr result (λ refused. IsWhyBack self.now job refused.1) }
+    {
+        let (command, pass) = job.open();
+        let is_client = (pass.client() as usize) < self.answers.len();
+        let home = command.home();
+        let job = Job::new(command, pass);
+        if !is_client {
+            return Err((job, Refusal::OutOfRange));
+        }
+        if home == 0 || home > self.jobs.len() as u64 {
+            return Err((job, Refusal::NoSuchWarehouse));
+        }
+        let line = &self.jobs[home as usize - 1];
+        if !job.command().is_crossing() {
+            return line.put(rt, job);
+        }
+        if line.is_closed(rt) {
+            return Err((job, Refusal::Closed));
+        }
+        let done = self.cross(rt, alloc, job)?;
+        self.hand_over(rt, done);
+        Ok(())
+    }
+
+    /// Does a job of several warehouses, with the locks of all. It comes back with E4 where the partitions aren't those of
+    /// the load. Such jobs take turns, so that no two of them wait for locks at a time, and workers go on between.
+    fn cross<R: Wait>(
+        &self,
+        rt: &R,
+        alloc: Global,
+        job: Job<K>,
+    ) -> Result<Done<K>, (Job<K>, Refusal)>
+        requires several { nat_lt 1 (length (warehouses_of job.command)) ≡ true }
+        ensures { IfErr result (λ refused. (refused.0 ≡ job) × (refused.1 ≡ Refusal.NoSuchWarehouse)) }
+    {
+        let Ok(room) = self.room(alloc) else {
+            return Ok(job.refuse(Refusal::NoMemory));
+        };
+        let _turn = self.turn.lock(rt);
+        match self.hold(rt, room) {
+            Ok(mut held) => {
+                let mut journal = lock_soon(rt, &self.journal);
+                Ok(cross(&mut held, &mut journal, job))
+            }
+            Err(refusal) => Err((job, refusal)),
+        }
+    }
+
+    /// Waits for an answer of a client: one to a job that this client handed in. What is another client's is handed on.
+    pub fn answer<R: Wait>(&self, rt: &R, client: u32) -> Done<K>
+        requires { client < self.now.clients }
+        ensures { result.pass.client ≡ client }
+    {
+        let line = &self.answers[client as usize];
+        for _ in rt.forever() {
+            let Some(done) = line.take(rt) else {
+                continue;
+            };
+            let (reply, pass, share) = done.open();
+            let is_own = pass.client() == client;
+            let done = Done::new(reply, pass, share);
+            if is_own {
+                return done;
+            }
+            self.hand_over(rt, done);
+        }
+        unreachable!()
+    }
+}

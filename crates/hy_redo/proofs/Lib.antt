@@ -1,0 +1,3 @@
+pub mod CallLaws
+pub mod SendingLaws
+mod WorkedStops

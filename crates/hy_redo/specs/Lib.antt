@@ -1,0 +1,5 @@
+pub mod Calls
+pub mod Disk
+pub mod WorkedRows
+pub mod Writers
+pub mod inside
