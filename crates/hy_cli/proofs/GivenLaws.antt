@@ -67,3 +67,13 @@ module _ (found : Found) (name : Text) (number : Option ℕ) (none : one_text fo
 pub is_number : (low high : ℕ) (o : Option Text) → IfSome o (IsUnsignedIn low high) → IfSome o IsNumber
 is_number low high None within = tt
 is_number low high (Some text) within = (within.0, within.1, omega arith, omega (arith, within.1))
+
+-- the same for one that is there
+pub is_number_there : (low high : ℕ) (o : Option Text) → IsSomeAnd o (IsUnsignedIn low high) → IsSomeAnd o IsNumber
+is_number_there low high None within = absurd within
+is_number_there low high (Some text) within = (within.0, within.1, omega arith, omega (arith, within.1))
+
+-- what a text within bounds spells is within them
+pub number_within : (o : Option Text) (number low high : ℕ) → IsSomeAnd o (Spells number) → IsSomeAnd o (IsUnsignedIn low high) → IsIn low high number
+number_within None number low high is within = absurd is
+number_within (Some text) number low high is within = (omega (arith, is.1, within.2), omega (arith, is.1, within.3))

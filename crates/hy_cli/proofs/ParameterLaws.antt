@@ -23,7 +23,7 @@ use Rattle.clap.specs.declared.parser.matches.ArgMatches.{ArgMatches}
 use Rattle.clap.specs.declared.parser.matches.ValueSource.{ValueSource}
 use Rattle.clap.specs.declared.parser.matches.ValueSource.TheVariants.{CommandLine}
 use Rattle.hy_cli.specs.CommandLine.{AreTaken, IsNumber, Parameter, command_of, commands, program_app, rule_for}
-use Rattle.hy_cli.specs.CommandLine.{required_text, required_number, optional_number, bounded_number}
+use Rattle.hy_cli.specs.CommandLine.{required_text, required_number, optional_number, bounded_number, required_within}
 use Rattle.hy_cli.specs.inside.Given.{AreGiven, IsGiven, IsKnown, IsOneOf}
 use Rattle.hy_cli.proofs.WalkLaws.{Each, Keeps, either, rows_taken}
 
@@ -34,12 +34,14 @@ name_of (required_text name) = name
 name_of (required_number name) = name
 name_of (optional_number name) = name
 name_of (bounded_number low high name) = name
+name_of (required_within low high name) = name
 
 abbrev parser_for : Parameter → ValueParser
 parser_for (required_text name) = parser.String
 parser_for (required_number name) = parser.Unsigned 0 18446744073709551615
 parser_for (optional_number name) = parser.Unsigned 0 18446744073709551615
 parser_for (bounded_number low high name) = parser.Unsigned low high
+parser_for (required_within low high name) = parser.Unsigned low high
 
 -- what a text has that its parser takes
 abbrev Fits : Parameter → Text → Type 0
@@ -47,6 +49,7 @@ Fits (required_text name) text = ⊤
 Fits (required_number name) text = IsNumber text
 Fits (optional_number name) text = IsNumber text
 Fits (bounded_number low high name) text = IsUnsignedIn low high text
+Fits (required_within low high name) text = IsUnsignedIn low high text
 
 accepted : (p : ValueParser) (text : Text) → value_kinds false p text ≡ [] → accepts false p text ≡ true
 accepted p text none = at (accepts false p text) none
@@ -134,6 +137,8 @@ module _ (name : Text) (Q : Text → Type 0) where
       (λ again values rows none had. set-keeps id (parser_for (required_number id)) (filled (rule_for (optional_number id))) again values rows fits none had, refl)
   parameter-keeps (bounded_number low high id) place fits =
       (λ again values rows none had. set-keeps id (parser.Unsigned low high) (filled (rule_for (bounded_number low high id))) again values rows fits none had, refl)
+  parameter-keeps (required_within low high id) place fits =
+      (λ again values rows none had. set-keeps id (parser.Unsigned low high) (filled (rule_for (required_within low high id))) again values rows fits none had, refl)
 
   abbrev AllAgree : List Parameter → Type 0
   AllAgree [] = ⊤
@@ -150,15 +155,24 @@ abbrev agrees : Parameter → Parameter → Bool
 agrees (required_text name) q = true
 agrees (required_number name) (required_text other) = not (bytes_eq other name)
 agrees (required_number name) (bounded_number low high other) = not (bytes_eq other name)
+agrees (required_number name) (required_within low high other) = not (bytes_eq other name)
 agrees (required_number name) q = true
 agrees (optional_number name) (required_text other) = not (bytes_eq other name)
 agrees (optional_number name) (bounded_number low high other) = not (bytes_eq other name)
+agrees (optional_number name) (required_within low high other) = not (bytes_eq other name)
 agrees (optional_number name) q = true
 agrees (bounded_number low high name) (bounded_number least most other) =
     not (bytes_eq other name) || (least == low && most == high)
 agrees (bounded_number low high name) (required_text other) = not (bytes_eq other name)
 agrees (bounded_number low high name) (required_number other) = not (bytes_eq other name)
 agrees (bounded_number low high name) (optional_number other) = not (bytes_eq other name)
+agrees (bounded_number low high name) (required_within least most other) = not (bytes_eq other name)
+agrees (required_within low high name) (required_within least most other) =
+    not (bytes_eq other name) || (least == low && most == high)
+agrees (required_within low high name) (required_text other) = not (bytes_eq other name)
+agrees (required_within low high name) (required_number other) = not (bytes_eq other name)
+agrees (required_within low high name) (optional_number other) = not (bytes_eq other name)
+agrees (required_within low high name) (bounded_number least most other) = not (bytes_eq other name)
 
 -- parameters of one name are of one kind
 abbrev are_apart : List Parameter → List Parameter → Bool
@@ -175,6 +189,20 @@ one-agrees (required_number name) (required_number other) apart same text taken 
 one-agrees (required_number name) (optional_number other) apart same text taken = accepts-Accepts false (parser.Unsigned 0 18446744073709551615) text taken
 one-agrees (required_number name) (bounded_number low high other) apart same text taken = let bad : false ≡ true = rw same at apart in absurd (cc)
 one-agrees (optional_number name) (bounded_number low high other) apart same text taken = let bad : false ≡ true = rw same at apart in absurd (cc)
+one-agrees (required_number name) (required_within low high other) apart same text taken = let bad : false ≡ true = rw same at apart in absurd (cc)
+one-agrees (optional_number name) (required_within low high other) apart same text taken = let bad : false ≡ true = rw same at apart in absurd (cc)
+one-agrees (bounded_number low high name) (required_within least most other) apart same text taken = let bad : false ≡ true = rw same at apart in absurd (cc)
+one-agrees (required_within low high name) (required_text other) apart same text taken = let bad : false ≡ true = rw same at apart in absurd (cc)
+one-agrees (required_within low high name) (required_number other) apart same text taken = let bad : false ≡ true = rw same at apart in absurd (cc)
+one-agrees (required_within low high name) (optional_number other) apart same text taken = let bad : false ≡ true = rw same at apart in absurd (cc)
+one-agrees (required_within low high name) (bounded_number least most other) apart same text taken = let bad : false ≡ true = rw same at apart in absurd (cc)
+one-agrees (required_within low high name) (required_within least most other) apart same text taken =
+    let equal : (least == low && most == high) ≡ true = rw same at apart in
+    let parts = both (least == low) (most == high) equal in
+    let least_is = eqb-true least low parts.0 in
+    let most_is = eqb-true most high parts.1 in
+    subst (λ (it : ℕ). IsUnsignedIn it high text) least_is (subst (λ (it : ℕ). IsUnsignedIn least it text) most_is
+    (accepts-Accepts false (parser.Unsigned least most) text taken))
 one-agrees (bounded_number low high name) (required_text other) apart same text taken = let bad : false ≡ true = rw same at apart in absurd (cc)
 one-agrees (bounded_number low high name) (required_number other) apart same text taken = let bad : false ≡ true = rw same at apart in absurd (cc)
 one-agrees (bounded_number low high name) (optional_number other) apart same text taken = let bad : false ≡ true = rw same at apart in absurd (cc)
@@ -201,6 +229,7 @@ IsThere rows (required_text name) = is_given name rows ≡ true
 IsThere rows (required_number name) = is_given name rows ≡ true
 IsThere rows (optional_number name) = ⊤
 IsThere rows (bounded_number low high name) = ⊤
+IsThere rows (required_within low high name) = is_given name rows ≡ true
 
 abbrev AreThere : List Row → List Parameter → Type 0
 AreThere rows [] = ⊤
@@ -219,6 +248,9 @@ are-there rows (required_text name ∷ rest) place none =
 are-there rows (required_number name ∷ rest) place none =
     let parts = neither (is_given name rows) _ none in
     (parts.0, are-there rows rest (index_after place (rule_for (required_number name))) parts.1)
+are-there rows (required_within low high name ∷ rest) place none =
+    let parts = neither (is_given name rows) _ none in
+    (parts.0, are-there rows rest (index_after place (rule_for (required_within low high name))) parts.1)
 are-there rows (optional_number name ∷ rest) place none = (tt, are-there rows rest (index_after place (rule_for (optional_number name))) none)
 are-there rows (bounded_number low high name ∷ rest) place none = (tt, are-there rows rest (index_after place (rule_for (bounded_number low high name))) none)
 
@@ -257,6 +289,8 @@ parameter-given : (rows : List Row) (p : Parameter) → Rows (name_of p) (Fits p
 parameter-given rows (required_text name) well there =
     first-given (Fits (required_text name)) (find (λ r. bytes_eq r.id name) rows) (row-found name (Fits (required_text name)) rows well) there
 parameter-given rows (required_number name) well there = one-given IsNumber (find (λ r. bytes_eq r.id name) rows) (row-found name IsNumber rows well) there
+parameter-given rows (required_within low high name) well there =
+    one-given (IsUnsignedIn low high) (find (λ r. bytes_eq r.id name) rows) (row-found name (IsUnsignedIn low high) rows well) there
 parameter-given rows (optional_number name) well there = one-if-given IsNumber (find (λ r. bytes_eq r.id name) rows) (row-found name IsNumber rows well)
 parameter-given rows (bounded_number low high name) well there =
     one-if-given (IsUnsignedIn low high) (find (λ r. bytes_eq r.id name) rows) (row-found name (IsUnsignedIn low high) rows well)

@@ -19,13 +19,14 @@ use Rattle.hy_cli.specs.declared.words.LineFault.TheVariants as fault
 
 -- ---- what the program takes
 
--- a parameter of a command: any word at its place, `--name NUMBER`, `--name NUMBER` that may be left out, or this with a
--- number that is at least the first and at most the second of two others
+-- a parameter of a command: any word at its place, `--name NUMBER`, `--name NUMBER` that may be left out, or either of the
+-- two, that which may be left out first, with a number that is at least the first and at most the second of two others
 pub data Parameter : Type 0 where
   required_text : Text → Parameter
   required_number : Text → Parameter
   optional_number : Text → Parameter
   bounded_number : ℕ → ℕ → Text → Parameter
+  required_within : ℕ → ℕ → Text → Parameter
 
 -- a word at its place; where several have one, they come in the order of the parameters
 abbrev pub text_rule : Text → Rule
@@ -53,6 +54,7 @@ rule_for (required_text name) = required (text_rule name)
 rule_for (required_number name) = required (number_rule name)
 rule_for (optional_number name) = number_rule name
 rule_for (bounded_number low high name) = bounded_rule low high name
+rule_for (required_within low high name) = required (bounded_rule low high name)
 
 -- `first [--amount CENTS]`
 abbrev pub first_parameters : List Parameter
@@ -83,6 +85,21 @@ script_parameters = required_text (codes "directory") ∷ required_text (codes "
 abbrev pub query_parameters : List Parameter
 query_parameters = required_text (codes "directory") ∷ required_text (codes "text") ∷ []
 
+-- how many terminals and sessions a storm has at most, and how many commands a terminal hands in
+abbrev pub most_terminals : ℕ
+most_terminals = 64
+
+abbrev pub most_sessions : ℕ
+most_sessions = 16
+
+abbrev pub most_commands : ℕ
+most_commands = 100_000
+
+-- `storm DIR --terminals T --sessions S --commands K`
+abbrev pub storm_parameters : List Parameter
+storm_parameters = required_text (codes "directory") ∷ required_within 1 most_terminals (codes "terminals")
+    ∷ required_within 0 most_sessions (codes "sessions") ∷ required_within 0 most_commands (codes "commands") ∷ []
+
 -- what the parser knows of a command
 abbrev pub command_of : Text → List Parameter → Shape
 command_of name parameters = record (new_shape name) { rules = map rule_for parameters }
@@ -90,7 +107,19 @@ command_of name parameters = record (new_shape name) { rules = map rule_for para
 -- the commands with their parameters
 abbrev pub commands : List (Text × List Parameter)
 commands = (codes "first", first_parameters) ∷ (codes "gen", generate_parameters) ∷ (codes "check", check_parameters)
-    ∷ (codes "script", script_parameters) ∷ (codes "query", query_parameters) ∷ []
+    ∷ (codes "script", script_parameters) ∷ (codes "query", query_parameters)
+    ∷ (codes "storm", storm_parameters) ∷ []
+
+-- the program without its commands
+abbrev pub bare_app : App
+bare_app = record {
+  top = record (new_shape (codes "hyper")) {
+    no_binary_name = true;
+    subcommand_required = true;
+    disable_help_subcommand = true;
+  };
+  subs = [];
+}
 
 -- the program, which wants one of its commands
 abbrev pub program_app : App
@@ -153,14 +182,21 @@ SaysLine command (line.Script directory file frames kept) = (command.0 ≡ codes
 SaysLine command (line.Query directory text) = (command.0 ≡ codes "query")
     × SaysText (codes "directory") command.1 directory.now
     × SaysText (codes "text") command.1 text.now
+SaysLine command (line.Storm directory terminals sessions commands) = (command.0 ≡ codes "storm")
+    × SaysText (codes "directory") command.1 directory.now
+    × SaysNumber (codes "terminals") command.1 terminals
+    × SaysNumber (codes "sessions") command.1 sessions
+    × SaysNumber (codes "commands") command.1 commands
 
 -- a number is at least one and at most another
 abbrev pub IsIn : ℕ → ℕ → ℕ → Type 0
 IsIn low high number = (low ≤ number) × (number ≤ high)
 
--- a command line's limits are ones that a partition may have
+-- a command line's limits are ones that a partition may have, and a storm's size is one that a storm may have
 abbrev pub HasLimits : Line → Type 0
 HasLimits (line.Script directory file frames kept) = IsIn 1 most_frames frames × IsIn 1 most_kept kept
+HasLimits (line.Storm directory terminals sessions commands) =
+    IsIn 1 most_terminals terminals × IsIn 0 most_sessions sessions × IsIn 0 most_commands commands
 HasLimits other = ⊤
 
 -- the words say this command line

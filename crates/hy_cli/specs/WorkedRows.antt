@@ -173,3 +173,44 @@ pub words-refused : fault_of program_app (codes "query" ∷ codes "d" ∷ codes 
     ≡ kind.UnknownArgument ∷ []
 unfolding clap_on_literals
 words-refused = refl
+
+-- a folder and three numbers, the greatest that a storm may have
+abbrev pub storm_given : List Text
+storm_given = codes "storm" ∷ codes "--commands=100000" ∷ codes "d" ∷ codes "--terminals" ∷ codes "64"
+    ∷ codes "--sessions=16" ∷ []
+
+pub storm-taken : fault_of program_app storm_given ≡ []
+unfolding clap_on_literals
+storm-taken = refl
+
+-- the texts of the folder and of the three numbers
+abbrev pub storm_texts : List Text → Option (Option Text × Option Text × Option Text × Option Text)
+storm_texts words = option_map (λ command. (
+  first_of (codes "directory") command.1,
+  one_of (codes "terminals") command.1,
+  one_of (codes "sessions") command.1,
+  one_of (codes "commands") command.1,
+)) (subcommand_of program_app words)
+
+pub storm-texts : storm_texts storm_given
+    ≡ Some (Some (codes "d"), Some (codes "64"), Some (codes "16"), Some (codes "100000"))
+unfolding clap_on_literals
+storm-texts = refl
+
+-- one terminal more, none, and no number of sessions
+pub terminals-refused : fault_of program_app
+    (codes "storm" ∷ codes "d" ∷ codes "--terminals=65" ∷ codes "--sessions=0" ∷ codes "--commands=0" ∷ [])
+    ≡ kind.ValueValidation ∷ []
+unfolding clap_on_literals
+terminals-refused = refl
+
+pub no_terminal-refused : fault_of program_app
+    (codes "storm" ∷ codes "d" ∷ codes "--terminals=0" ∷ codes "--sessions=0" ∷ codes "--commands=0" ∷ [])
+    ≡ kind.ValueValidation ∷ []
+unfolding clap_on_literals
+no_terminal-refused = refl
+
+pub sessions-missing : fault_of program_app
+    (codes "storm" ∷ codes "d" ∷ codes "--terminals=1" ∷ codes "--commands=0" ∷ []) ≡ kind.MissingRequiredArgument ∷ []
+unfolding clap_on_literals
+sessions-missing = refl

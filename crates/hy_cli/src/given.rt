@@ -21,7 +21,9 @@ pub fn text_given<'a>(given: &ArgMatches<'a>, name: &str) -> &'a str
 /// The number that is given for `name`.
 pub fn number_given(given: &ArgMatches<'_>, name: &str) -> u64
     requires { IsSomeAnd (one_of name.now (rows_of (found_of given.now))) IsNumber }
-    ensures { SaysNumber name.now (rows_of (found_of given.now)) result }
+    ensures says { SaysNumber name.now (rows_of (found_of given.now)) result }
+    ensures bounds { (low high : ℕ) → IsSomeAnd (one_of name.now (rows_of (found_of given.now))) (IsUnsignedIn low high)
+        → IsIn low high result }
 {
     let Some(number) = given.get_one(name) else {
         unreachable!()

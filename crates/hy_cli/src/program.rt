@@ -3,7 +3,7 @@
 ghost use Rattle.std.specs.Prelude.{◌≡◌, IfOk, codes, false, true};
 ghost use Rattle.clap.specs.Words.{app_of, rule_of, shape_of};
 ghost use Rattle.clap.specs.declared.builder.command.Command.TheViews.{out-Command as fields_of};
-ghost use Rattle.hy_cli.specs.CommandLine.{bounded_number, check_parameters, command_of, first_parameters, generate_parameters, optional_number, program_app, query_parameters, required_number, required_text, rule_for, script_parameters};
+ghost use Rattle.hy_cli.specs.CommandLine.{bare_app, bounded_number, check_parameters, command_of, first_parameters, generate_parameters, optional_number, program_app, query_parameters, required_number, required_text, required_within, rule_for, script_parameters, storm_parameters};
 
 use clap::builder::ValueParser;
 use clap::{Arg, Command, value_parser};
@@ -15,22 +15,39 @@ const MAX_FRAMES: u64 = 10_000_000;
 /// How many commits a partition may keep at most.
 const MAX_KEPT: u64 = 100_000_000;
 
+/// How many terminals a storm has at most.
+const MAX_TERMINALS: u64 = 64;
+
+/// How many sessions a storm has at most.
+const MAX_SESSIONS: u64 = 16;
+
+/// How many commands a terminal hands in at most.
+const MAX_COMMANDS: u64 = 100_000;
+
 /// The program, which wants one of its commands.
 pub fn program<'a>(alloc: Global) -> Result<Command<'a>, AllocError>
     ensures { IfOk result (λ command. (app_of command ≡ program_app)
         × ((fields_of command).has_globals ≡ false)
         × ((fields_of command).subcommand_required ≡ true)) }
 {
+    bare(alloc)
+        .subcommand(first(alloc)?)?
+        .subcommand(generate(alloc)?)?
+        .subcommand(check(alloc)?)?
+        .subcommand(script(alloc)?)?
+        .subcommand(query(alloc)?)?
+        .subcommand(storm(alloc)?)
+}
+
+/// The program without its commands.
+fn bare<'a>(alloc: Global) -> Command<'a>
+    ensures { (app_of result ≡ bare_app) × ((fields_of result).has_globals ≡ false) }
+{
     Command::new(alloc, "hyper")
         .about("An in-memory order-entry database")
         .no_binary_name(true)
         .subcommand_required(true)
         .disable_help_subcommand(true)
-        .subcommand(first(alloc)?)?
-        .subcommand(generate(alloc)?)?
-        .subcommand(check(alloc)?)?
-        .subcommand(script(alloc)?)?
-        .subcommand(query(alloc)?)
 }
 
 /// `first [--amount CENTS]`.
@@ -112,6 +129,42 @@ fn query<'a>(alloc: Global) -> Result<Command<'a>, AllocError>
         .arg(positional(alloc, "text", "TEXT", "The query, as one word"))
 }
 
+/// `storm DIR --terminals T --sessions S --commands K`.
+fn storm<'a>(alloc: Global) -> Result<Command<'a>, AllocError>
+    ensures { IfOk result (λ command. (shape_of command ≡ command_of (codes "storm") storm_parameters)
+        × ((fields_of command).has_globals ≡ false)) }
+{
+    Command::new(alloc, "storm")
+        .about(
+            "Runs terminals and sessions on the database in nine files, and prints what they came to",
+        )
+        .arg(positional(alloc, "directory", "DIR", "The folder of the files"))?
+        .arg(required_within(
+            alloc,
+            "terminals",
+            "T",
+            "How many terminals hand in commands, from 1 to 64",
+            1,
+            MAX_TERMINALS,
+        ))?
+        .arg(required_within(
+            alloc,
+            "sessions",
+            "S",
+            "How many sessions take snapshots, from 0 to 16",
+            0,
+            MAX_SESSIONS,
+        ))?
+        .arg(required_within(
+            alloc,
+            "commands",
+            "K",
+            "How many commands each terminal hands in, from 0 to 100,000",
+            0,
+            MAX_COMMANDS,
+        ))
+}
+
 /// A word at its place, which has to be given; help calls it `value`.
 fn positional<'a>(alloc: Global, name: &'a str, value: &'a str, help: &'a str) -> Arg<'a>
     ensures { (rule_of result ≡ rule_for (required_text name.entry.now)) × (result.global ≡ false) }
@@ -155,4 +208,23 @@ fn required_option<'a>(alloc: Global, name: &'a str, value: &'a str, help: &'a s
     ensures { (rule_of result ≡ rule_for (required_number name.entry.now)) × (result.global ≡ false) }
 {
     option(alloc, name, value, help).required(true)
+}
+
+/// `--name NUMBER`, a number from `least` to `most` that has to be given.
+fn required_within<'a>(
+    alloc: Global,
+    name: &'a str,
+    value: &'a str,
+    help: &'a str,
+    least: u64,
+    most: u64,
+) -> Arg<'a>
+    ensures { (rule_of result ≡ rule_for (required_within least most name.entry.now)) × (result.global ≡ false) }
+{
+    Arg::new(alloc, name)
+        .long(name)
+        .value_name(value)
+        .value_parser(ValueParser::unsigned(least, most))
+        .required(true)
+        .help(help)
 }

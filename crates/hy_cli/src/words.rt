@@ -1,15 +1,16 @@
 //! Reads a command line.
 
-ghost use Rattle.std.specs.Prelude.{◌≡◌, IfErr, IfOk, IfSome, MatchResult, codes, true};
-ghost use Rattle.clap.specs.Faults.{fault_of};
-ghost use Rattle.clap.specs.Words.{HasKind, found_of, has_subcommand, rows_of, subcommand_of, subcommand_rows_of};
-ghost use Rattle.hy_cli.specs.CommandLine.{AreTaken, HasFault, HasLimits, IsBehind, Says, SaysLine, check_parameters, first_parameters, generate_parameters, program_app, query_parameters, script_parameters, texts_of};
+ghost use Rattle.std.specs.Prelude.{◌≡◌, [], IfErr, IfOk, IfSome, MatchResult, codes, false, true};
+ghost use Rattle.clap.specs.Faults.{fault_of, is_simple_and_free};
+ghost use Rattle.clap.specs.Words.{HasKind, app_of, found_of, has_subcommand, is_simple, rows_of, subcommand_of, subcommand_rows_of};
+ghost use Rattle.clap.specs.declared.builder.command.Command.TheViews.{out-Command as fields_of};
+ghost use Rattle.hy_cli.specs.CommandLine.{AreTaken, HasFault, HasLimits, IsBehind, Says, SaysLine, check_parameters, first_parameters, generate_parameters, program_app, query_parameters, script_parameters, storm_parameters, texts_of};
 ghost use Rattle.hy_cli.specs.inside.Given.{AreGiven, IsKnown};
 
 use crate::given::{number_given, number_or, text_given};
 use crate::program::program;
-use clap::ArgMatches;
 use clap::error::ErrorKind;
+use clap::{ArgMatches, Command};
 use std::alloc::Global;
 use thiserror::Error;
 
@@ -64,6 +65,17 @@ pub enum Line<'a> {
         /// The text of the query.
         text: &'a str,
     },
+    /// Terminals and sessions run on the database in files.
+    Storm {
+        /// The folder of the files.
+        directory: &'a str,
+        /// How many terminals there are, from 1 to 64.
+        terminals: u64,
+        /// How many sessions, from 0 to 16.
+        sessions: u64,
+        /// How many commands each terminal hands in, from 0 to 100,000.
+        commands: u64,
+    },
 }
 
 /// Why no command line was read.
@@ -108,6 +120,7 @@ pub fn read_words<'a>(alloc: Global, words: &'a [&'a str]) -> Result<Line<'a>, L
         "check" => Ok(read_check(given)),
         "script" => Ok(read_script(given)),
         "query" => Ok(read_query(given)),
+        "storm" => Ok(read_storm(given)),
         _ => unreachable!(),
     }
 }
@@ -120,7 +133,21 @@ fn parse<'a>(alloc: Global, words: &'a [&'a str]) -> Result<ArgMatches<'a>, clap
     ensures known { IfOk result (λ matches. IfSome (subcommand_rows_of matches) IsKnown) }
     ensures err { IfErr result (HasKind (fault_of program_app (texts_of words.entry.now))) }
 {
-    program(alloc)?.try_get_matches_from(words)
+    parse_by(program(alloc)?, words)
+}
+
+/// What a command that wants one of its own finds in the words.
+fn parse_by<'a>(command: Command<'a>, words: &'a [&'a str]) -> Result<ArgMatches<'a>, clap::Error>
+    requires simple { is_simple (app_of command) ≡ true }
+    requires free { is_simple_and_free (app_of command) ≡ true }
+    requires local { (fields_of command).has_globals ≡ false }
+    requires wants { (fields_of command).subcommand_required ≡ true }
+    ensures ok { IfOk result (λ matches. (fault_of (app_of command.entry) (texts_of words.entry.now) ≡ [])
+        × (subcommand_rows_of matches ≡ subcommand_of (app_of command.entry) (texts_of words.entry.now))
+        × (has_subcommand matches ≡ true)) }
+    ensures err { IfErr result (HasKind (fault_of (app_of command.entry) (texts_of words.entry.now))) }
+{
+    command.try_get_matches_from(words)
 }
 
 /// The line that what is given to `first` says.
@@ -178,5 +205,19 @@ fn read_query<'a>(given: &ArgMatches<'a>) -> Line<'a>
     Line::Query {
         directory: text_given(given, "directory"),
         text: text_given(given, "text"),
+    }
+}
+
+/// The line that what is given to `storm` says.
+fn read_storm<'a>(given: &ArgMatches<'a>) -> Line<'a>
+    requires { AreGiven (rows_of (found_of given.now)) storm_parameters }
+    ensures says { SaysLine (codes "storm", rows_of (found_of given.now)) result }
+    ensures limits { HasLimits result }
+{
+    Line::Storm {
+        directory: text_given(given, "directory"),
+        terminals: number_given(given, "terminals"),
+        sessions: number_given(given, "sessions"),
+        commands: number_given(given, "commands"),
     }
 }

@@ -1,15 +1,15 @@
 -- What the steps of a worker come to.
-use Rattle.std.proofs.Common.{◌≡◌, ◌↔◌, ◌⊎◌, ◌+◌, ℕ, Bool, true, false, inl, inr, [], refl, ◌∙◌, Option, Some, None, Result, Ok, Err, ap, arith, subst, sym}
+use Rattle.std.proofs.Common.{◌≡◌, ◌↔◌, ℕ, Bool, true, false, inl, inr, [], refl, ◌∙◌, Option, Some, None, Result, Ok, Err, subst, sym}
 use Rattle.std.proofs.lemmas.Bool.{false≢true}
 use Rattle.std.specs.Prelude.{IfSome, IsOkAnd, IsSome, IsSomeAnd, IsTrue, MatchBool, MatchOption}
 use Rattle.hy_schema.specs.declared.refusal.Refusal.{Refusal}
 use Rattle.hy_schema.specs.declared.refusal.Refusal.TheVariants as refusals
 use Rattle.hy_partition.specs.Jobs.{DoneState, Log, RunningJob, is_last}
 use Rattle.hy_partition.specs.Partition.{PartitionState}
-use Rattle.hy_partition.specs.Steps.{Accepts, Refuses, RefusesAt, StepsTo}
+use Rattle.hy_partition.specs.Steps.{Accepts, RefusesAt, StepsTo}
 use Rattle.hy_partition.specs.declared.job.Progress.{Progress}
 use Rattle.hy_partition.specs.declared.job.Progress.TheVariants as progress
-use Rattle.hy_partition.proofs.FinishLaws.{HasEnded, Reached, reached-end, reached-start, reached-step}
+use Rattle.hy_partition.proofs.FinishLaws.{HasEnded, Reached, reached-end, reached-step}
 use Rattle.hy_engine.specs.Engines.{AnswersRunning}
 use Rattle.hy_engine.specs.inside.Early.{AreEarly, EndsRun}
 

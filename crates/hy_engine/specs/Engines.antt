@@ -1,19 +1,22 @@
 -- What clauses see of an engine, and what its calls answer.
-use Rattle.std.specs.Prelude.{◌≡◌, ◌⊎◌, ◌≤◌, ℕ, List, None, Some}
+use Rattle.std.specs.Prelude.{◌≡◌, ◌⊎◌, ◌<◌, ◌≤◌, ℕ, Bool, true, false, List, None, Some, length, nat_lt}
 use mathlib.Core.List.{IsPrefix}
 use Rattle.hy_rows.specs.Tables.{Lists}
 use Rattle.hy_schema.specs.Conditions.{first_broken}
 use Rattle.hy_schema.specs.declared.refusal.Refusal.{Refusal}
 use Rattle.hy_schema.specs.declared.refusal.Refusal.TheVariants as refusals
 use Rattle.hy_database.specs.Database.{all_rows}
+use Rattle.hy_commands.specs.declared.command.Command.{Command}
 use Rattle.hy_commands.specs.declared.command.Commit.{Commit}
+use Rattle.hy_commands.specs.Commands.{home_of, warehouses_of}
 use Rattle.hy_passes.specs.Worlds.{PassState}
 use Rattle.hy_partition.specs.Jobs.{DoneState, JobState, Log, RunningJob, begun, refused_answer, told}
 use Rattle.hy_partition.specs.Partition.{PartitionState}
 use Rattle.hy_partition.specs.Snapshots.{SnapshotState}
 use Rattle.hy_partition.specs.Steps.{Accepts, IsUnbegun, Refuses, begin_refusal, with_job}
-use Rattle.hy_crossing.specs.Crossings.{database_behind}
-use Rattle.hy_forks.specs.Forks.{SpellsDatabase}
+use Rattle.hy_crossing.specs.Crossings.{ArePartitions, database_behind}
+use Rattle.hy_forks.specs.Forks.{SpellsDatabase, are_from}
+use Rattle.hy_forks.specs.Origins.{Origin}
 
 -- how many warehouses an engine has, and how many clients
 pub record EngineState : Type 0 where
@@ -28,6 +31,10 @@ abbrev pub IsCapacity : ℕ → Type 0
 IsCapacity capacity = (1 ≤ capacity) × (capacity ≤ max_capacity)
 
 -- ---- jobs
+
+-- whether a command names two or more warehouses
+abbrev pub names_several : Command → Bool
+names_several command = nat_lt 1 (length (warehouses_of command))
 
 -- the job that ran in a partition has ended, with some serial list before and after; its answer was taken
 pub record AnswersRunning (job : RunningJob) (old new : PartitionState) (answer : DoneState) : Type 0 where
@@ -45,12 +52,23 @@ AnswersJob job old new answer =
     ((why : Refusal) × IsUnbegun old job.command why × (new ≡ old) × (answer ≡ refused_answer job.pass why))
     ⊎ ((begin_refusal old job.command ≡ None) × AnswersRunning (begun job) (with_job old job) new answer)
 
--- why a job comes back: its client isn't one of the engine's; its home isn't there, or the partitions aren't those of the
--- load; the engine is closed; or the queue was full
+-- an engine has the warehouse with a number
+abbrev pub IsHome : EngineState → ℕ → Type 0
+IsHome engine number = (1 ≤ number) × (number ≤ engine.warehouses)
+
+-- why a job of one of the engine's clients comes back: the engine is closed; its home isn't there, or it is one of several
+-- warehouses and the partitions aren't those of the load; or it is one of one warehouse, whose queue was full
+abbrev pub IsWhyUntaken : EngineState → Command → Refusal → Type 0
+IsWhyUntaken engine command why =
+    (why ≡ refusals.Closed)
+    ⊎ ((why ≡ refusals.NoSuchWarehouse) × ((IsHome engine (home_of command) → ⊥) ⊎ (names_several command ≡ true)))
+    ⊎ ((why ≡ refusals.QueueFull) × IsHome engine (home_of command) × (names_several command ≡ false))
+
+-- why a job comes back: exactly a client that isn't one of the engine's is out of range
 abbrev pub IsWhyBack : EngineState → JobState → Refusal → Type 0
 IsWhyBack engine job why =
-    ((why ≡ refusals.OutOfRange) × (engine.clients ≤ job.pass.client)) ⊎ (why ≡ refusals.NoSuchWarehouse)
-    ⊎ (why ≡ refusals.Closed) ⊎ (why ≡ refusals.QueueFull)
+    ((why ≡ refusals.OutOfRange) × (engine.clients ≤ job.pass.client))
+    ⊎ ((job.pass.client < engine.clients) × IsWhyUntaken engine job.command why)
 
 -- ---- snapshots of all warehouses
 
@@ -62,6 +80,11 @@ pub record SeesAll (n : ℕ) (lists : Lists) (old new : PassState Commit) (snaps
   pub told : new ≡ told old log
   pub database : SpellsDatabase n (database_behind lists log) snapshots
   pub consistent : first_broken (all_rows (database_behind lists log)) ≡ None
+
+-- snapshots say that they are those of any partitions of a load
+abbrev pub AreMine : Origin → Lists → List SnapshotState → Type 0
+AreMine kit lists snapshots =
+    (parts : List PartitionState) → ArePartitions lists parts → are_from kit snapshots parts ≡ true
 
 -- why there is none
 abbrev pub IsWhyUnseen : Refusal → Type 0

@@ -5,7 +5,7 @@ ghost use Rattle.hy_schema.specs.declared.refusal.Refusal.{Refusal};
 ghost use Rattle.hy_crossing.specs.Crossings.{ArePartitions, HaveNoPart};
 ghost use Rattle.hy_crossing.specs.inside.Guards.{values_of};
 ghost use Rattle.hy_forks.specs.Forks.{AreOfKit};
-ghost use Rattle.hy_engine.specs.Engines.{IsWhyUnseen, SeesAll};
+ghost use Rattle.hy_engine.specs.Engines.{AreMine, IsWhyUnseen, SeesAll};
 
 use crate::engine::Engine;
 use crate::gate::Gate;
@@ -55,9 +55,9 @@ impl<const N: usize, K: Loaded, G: Gate + Drop> Engine<N, K, G> {
         Ok(held)
     }
 
-    /// A snapshot of the whole database behind the serial list, for a client, who is told all of the list. E4 where the
-    /// partitions aren't those of the load; E2 where one of them has fewer frames free than its job has touched pages;
-    /// E1.
+    /// A snapshot of the whole database behind the serial list, for a client, who is told all of the list. Whoever has the
+    /// partitions of the load can close it. E4 where the partitions aren't those of the load; E2 where one of them has
+    /// fewer frames free than its job has touched pages; E1.
     pub fn fork_all<R: Wait>(
         &self,
         rt: &R,
@@ -66,6 +66,7 @@ impl<const N: usize, K: Loaded, G: Gate + Drop> Engine<N, K, G> {
     ) -> Result<SnapshotAll<N>, Refusal>
         ensures sees { IfOk result (SeesAll N K.load pass.old pass.new) }
         ensures kit { IfOk result (AreOfKit K.passes) }
+        ensures mine { IfOk result (AreMine K.passes K.load) }
         ensures client { pass.new.client ≡ pass.old.client }
         ensures refused { IfErr result IsWhyUnseen }
     {

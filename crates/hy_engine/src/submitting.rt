@@ -1,9 +1,9 @@
 //! How a client hands in a job, and gets its answer.
 
-ghost use Rattle.std.specs.Prelude.{◌≡◌, ◌⊎◌, ◌<◌, ◌≤◌, IfErr, OnOk, length, nat_lt, true};
+ghost use Rattle.std.specs.Prelude.{◌≡◌, ◌⊎◌, ◌↔◌, ◌<◌, ◌≤◌, IfErr, IsTrue, OnOk, length, nat_lt, true};
 ghost use Rattle.hy_schema.specs.declared.refusal.Refusal.{Refusal};
 ghost use Rattle.hy_commands.specs.Commands.{home_of, warehouses_of};
-ghost use Rattle.hy_engine.specs.Engines.{IsWhyBack};
+ghost use Rattle.hy_engine.specs.Engines.{IsHome, IsWhyBack};
 
 use crate::engine::Engine;
 use crate::gate::Gate;
@@ -17,8 +17,9 @@ use std::sync::Wait;
 impl<const N: usize, K: Loaded, G: Gate + Drop> Engine<N, K, G> {
     /// Hands a job in. That of one warehouse waits in its queue for the worker; that of several is done at once, on the
     /// caller's thread. Either answer comes by `answer`. Else the job comes back: with E8 exactly where its client isn't
-    /// one of the engine's, with E4 where its home isn't there, with E16 where the engine is closed, and with E17 where
-    /// the queue is full.
+    /// one of the engine's; else with E16 where the engine is closed; else with E4 where its home isn't there, or it is
+    /// one of several warehouses and the partitions aren't those of the load; else with E17 where it is one of one
+    /// warehouse, whose queue was full.
     pub fn submit<R: Wait>(
         &self,
         rt: &R,
@@ -26,7 +27,7 @@ impl<const N: usize, K: Loaded, G: Gate + Drop> Engine<N, K, G> {
         job: Job<K>,
     ) -> Result<(), (Job<K>, Refusal)>
         ensures client { OnOk result (job.pass.client < self.now.clients) }
-        ensures home { OnOk result ((1 ≤ home_of job.command) × (home_of job.command ≤ self.now.warehouses)) }
+        ensures home { OnOk result (IsHome self.now (home_of job.command)) }
         ensures back { IfErr result (λ refused. refused.0 ≡ job) }
         ensures refused { IfErr result (λ refused. IsWhyBack self.now job refused.1) }
     {
@@ -37,8 +38,8 @@ impl<const N: usize, K: Loaded, G: Gate + Drop> Engine<N, K, G> {
         if !is_client {
             return Err((job, Refusal::OutOfRange));
         }
-        if home == 0 || home > self.jobs.len() as u64 {
-            return Err((job, Refusal::NoSuchWarehouse));
+        if !self.has_warehouse(home) {
+            return Err((job, self.why_homeless(rt)));
         }
         let line = &self.jobs[home as usize - 1];
         if !job.command().is_crossing() {
@@ -50,6 +51,23 @@ impl<const N: usize, K: Loaded, G: Gate + Drop> Engine<N, K, G> {
         let done = self.cross(rt, alloc, job)?;
         self.hand_over(rt, done);
         Ok(())
+    }
+
+    /// Whether there is a warehouse with a number.
+    fn has_warehouse(&self, number: u64) -> bool
+        ensures { IsTrue result ↔ IsHome self.now number }
+    {
+        1 <= number && number <= self.jobs.len() as u64
+    }
+
+    /// Why a job comes back whose home isn't there: E16 where the engine is closed, else E4.
+    fn why_homeless<R: Wait>(&self, rt: &R) -> Refusal
+        ensures { (result ≡ Refusal.Closed) ⊎ (result ≡ Refusal.NoSuchWarehouse) }
+    {
+        match self.jobs.first() {
+            Some(line) if line.is_closed(rt) => Refusal::Closed,
+            _ => Refusal::NoSuchWarehouse,
+        }
     }
 
     /// Does a job of several warehouses, with the locks of all. It comes back with E4 where the partitions aren't those of

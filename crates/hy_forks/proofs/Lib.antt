@@ -10,3 +10,4 @@ pub mod CloseLaws
 pub mod TellLaws
 pub mod ResultLaws
 pub mod LackLaws
+pub mod ForkedLaws

@@ -1,4 +1,5 @@
 -- what whoever has a snapshot of all warehouses names of the crates below
+pub use Rattle.hy_worlds.specs.Origins
 pub use Rattle.hy_partition.specs.Snapshots
 pub use Rattle.hy_crossing.specs.Crossings
 pub use Rattle.hy_crossing.specs.Lists

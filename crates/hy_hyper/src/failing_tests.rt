@@ -12,6 +12,8 @@ use hy_tables::generate;
 use std::alloc::Global;
 use std::io;
 use std::process::Abort;
+use std::sync::Wait;
+use std::thread::Threads;
 
 /// A writer that takes so many bytes and then fails.
 #[derive(Drop)]
@@ -92,6 +94,7 @@ fn a_reply_fails_as_the_writer_does(rt: HostRuntime) {
 
 /// How a run of the program ends whose writers take so many bytes, and whether each is left without a text.
 fn run(
+    rt: &(impl Threads + Wait + Sync),
     stored: &mut MemoryFiles,
     alloc: Global,
     words: &[&str],
@@ -99,7 +102,7 @@ fn run(
 ) -> (Ending, [bool; 2]) {
     let mut out = Stream::new(Short::new(sizes[0]));
     let mut err = Stream::new(Short::new(sizes[1]));
-    let ending = run_words(alloc, words, stored, &mut out, &mut err);
+    let ending = run_words(rt, alloc, words, stored, &mut out, &mut err);
     (
         ending,
         [out.into_writer().is_empty, err.into_writer().is_empty],
@@ -110,17 +113,17 @@ fn run(
 fn answers_1_where_a_writer_fails(rt: HostRuntime) {
     let mut stored = MemoryFiles::new(rt.alloc());
     let failed = Ending::WriterFailed;
-    assert!(rt; run(&mut stored, rt.alloc(), &["first"], [0, 999]) == (failed, [true, false]));
-    assert!(rt; run(&mut stored, rt.alloc(), &["--help"], [999, 0]) == (failed, [true, true]));
+    assert!(rt; run(&rt, &mut stored, rt.alloc(), &["first"], [0, 999]) == (failed, [true, false]));
+    assert!(rt; run(&rt, &mut stored, rt.alloc(), &["--help"], [999, 0]) == (failed, [true, true]));
     let words = ["first", "--amount", "99"];
-    assert!(rt; run(&mut stored, rt.alloc(), &words, [999, 0]) == (failed, [true, true]));
+    assert!(rt; run(&rt, &mut stored, rt.alloc(), &words, [999, 0]) == (failed, [true, true]));
     assert!(rt; failed.status() == 1);
 }
 
 #[test]
 fn first_leaves_a_shelf(rt: HostRuntime) {
     let mut stored = MemoryFiles::new(rt.alloc());
-    let (ending, _) = run(&mut stored, rt.alloc(), &["first"], [999, 999]);
+    let (ending, _) = run(&rt, &mut stored, rt.alloc(), &["first"], [999, 999]);
     assert!(rt; ending == Ending::Done);
     assert!(rt; stored.read(rt.alloc(), "ytd").is_err());
 }

@@ -31,5 +31,5 @@ mod stores;
 mod tree_tests;
 
 fn main(rt: HostRuntime) -> ExitCode {
-    system::run_on_system(&rt).exit_code()
+    system::run_on_system(&rt, &rt).exit_code()
 }

@@ -5,10 +5,12 @@ use hy_output::Stream;
 use hy_program::{Ending, run_words};
 use hy_schema::Refusal;
 use std::io::{self, Write};
+use std::sync::Wait;
+use std::thread::Threads;
 
-/// Runs the program on its words, with the files and streams of the system.
-pub fn run_on_system(rt: &HostRuntime) -> Ending {
-    match run_arguments(rt) {
+/// Runs the program on its words, with the files, streams and threads of the system.
+pub fn run_on_system<R: Threads + Wait + Sync>(rt: &HostRuntime, threads: &R) -> Ending {
+    match run_arguments(rt, threads) {
         Ok(ending) => ending,
         Err(error) => {
             let refusal = Refusal::NoMemory;
@@ -22,12 +24,13 @@ pub fn run_on_system(rt: &HostRuntime) -> Ending {
 }
 
 /// Runs the program on the words after its name, where these can be read.
-fn run_arguments(rt: &HostRuntime) -> io::Result<Ending> {
+fn run_arguments<R: Threads + Wait + Sync>(rt: &HostRuntime, threads: &R) -> io::Result<Ending> {
     let alloc = rt.alloc();
     let words: Vec<String> = std::env::args(rt)?.skip(1).collect(alloc)?;
     let texts: Vec<&str> = words.iter().map(|word| word.as_str()).collect(alloc)?;
     let mut files = SystemFiles::new(rt);
     let ending = run_words(
+        threads,
         alloc,
         texts.as_slice(),
         &mut files,

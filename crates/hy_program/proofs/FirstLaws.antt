@@ -2,7 +2,7 @@
 use Rattle.std.proofs.Common.{◌≡◌, ◌⊎◌, inl, inr, ℕ, ℤ, Bool, true, false, List, [], ◌∷◌, ◌++◌, length, IsErrAnd, Result, Ok, Err, Option, Some, None, ◌||◌, ◌&&◌, ◌==◌, cond, is_some, refl, sym, ap, ◌∙◌}
 use Rattle.std.specs.Prelude.{not}
 use Rattle.std.specs.Option.{option_or}
-use Rattle.hy_rows.specs.Tables.{Lists, of_warehouse}
+use Rattle.hy_rows.specs.Tables.{of_warehouse}
 use Rattle.hy_schema.specs.declared.refusal.Refusal.{Refusal}
 use Rattle.hy_schema.specs.declared.refusal.Refusal.TheVariants as refusals
 use Rattle.hy_tables.specs.Generated.{generated_lists}

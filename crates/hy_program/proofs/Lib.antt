@@ -5,3 +5,4 @@ pub mod GenerateLaws
 pub mod RunLaws
 pub mod QueryLaws
 pub mod AskLaws
+pub mod StormLaws

@@ -1,5 +1,5 @@
 -- Why a command line isn't done, and what was printed then.
-use Rattle.std.proofs.Common.{◌⊎◌, ℕ, List, inl, inr}
+use Rattle.std.proofs.Common.{ℕ, List, inl, inr}
 use Rattle.hy_cli.specs.declared.words.Line.{Line}
 use Rattle.hy_cli.specs.declared.words.Line.TheVariants as line
 use Rattle.hy_program.specs.declared.fault.RunFault.{RunFault}
@@ -40,6 +40,16 @@ module _ (files : KnownFiles) (unwritten : BothPaths) (bytes : KnownBytes) (Unpr
   fault_weaker (line.Query directory text) (fault.CannotWrite path) is = (is.0, leads is.1)
   fault_weaker (line.Query directory text) (fault.CannotReadFile path) is = absurd (is.0)
   fault_weaker (line.Query directory text) (fault.BadEvent number) is = absurd (is.0)
+  fault_weaker (line.Storm directory terminals sessions commands) (fault.Refused refusal) (inl is) = inl (is.0, leads is.1)
+  fault_weaker (line.Storm directory terminals sessions commands) (fault.Refused refusal) (inr (lists, load, inl unprinted)) =
+      inr (lists, load, inl (leads unprinted))
+  fault_weaker (line.Storm directory terminals sessions commands) (fault.Refused refusal) (inr (lists, load, inr printed)) =
+      inr (lists, load, inr printed)
+  fault_weaker (line.Storm directory terminals sessions commands) (fault.Writer error) is = is
+  fault_weaker (line.Storm directory terminals sessions commands) (fault.CannotRead path) is = (is.0, leads is.1)
+  fault_weaker (line.Storm directory terminals sessions commands) (fault.CannotWrite path) is = (is.0, leads is.1)
+  fault_weaker (line.Storm directory terminals sessions commands) (fault.CannotReadFile path) is = absurd (is.0)
+  fault_weaker (line.Storm directory terminals sessions commands) (fault.BadEvent number) is = absurd (is.0)
 
   undone_weaker : (words : List (List ℕ)) (why : RunFault) → AreUndone words files unwritten bytes Unprinted why
       → AreUndone words files unwritten bytes Other why

@@ -11,7 +11,6 @@ use Rattle.hy_script.specs.Ends.{IsScriptFault}
 use Rattle.hy_script.specs.declared.script.ScriptFault.{ScriptFault}
 use Rattle.hy_script.specs.declared.script.ScriptFault.TheVariants as scripts
 use Rattle.hy_program.specs.declared.fault.RunFault.{RunFault}
-use Rattle.hy_program.specs.declared.fault.RunFault.TheVariants as fault
 use Rattle.hy_program.specs.declared.script.Limits.{Limits}
 use Rattle.hy_program.specs.Faults.{IsBlamedRightly, IsOfScript}
 use Rattle.hy_program.specs.Script.{HasScript, IsScriptFaultOf}

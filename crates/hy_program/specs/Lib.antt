@@ -5,5 +5,6 @@ pub mod Generate
 pub mod Generated
 pub mod Script
 pub mod Query
+pub mod Storm
 pub mod Runs
 pub mod WorkedRows

@@ -19,6 +19,7 @@ use Rattle.hy_program.specs.declared.script.Limits.{Limits}
 use Rattle.hy_program.specs.Script.{IsScriptDone, IsScriptFaultOf}
 use Rattle.hy_program.specs.Generate.{IsGenerateFault, IsGenerated, IsSize}
 use Rattle.hy_program.specs.Query.{IsQueryDone, IsQueryFault}
+use Rattle.hy_program.specs.Storm.{IsStormDone, IsStormFault}
 
 abbrev pub KnownFiles : Type 0
 KnownFiles = Option FilesByPath × Option FilesByPath
@@ -50,9 +51,11 @@ IsDone (line.Check directory) files bytes = IsChecked directory.now files.0 byte
 IsDone (line.Script directory file frames kept) files bytes =
     IsScriptDone directory.now file.now (limits_of frames kept) files.0 bytes.0 bytes.1
 IsDone (line.Query directory text) files bytes = IsQueryDone directory.now text.now files.0 bytes.0 bytes.1
+IsDone (line.Storm directory terminals sessions commands) files bytes =
+    IsStormDone directory.now files.0 bytes.0 bytes.1
 
 -- why a command line isn't done; where it is refused, nothing is printed, but for a script's answers to the events
--- before a bad one
+-- before a bad one, and for the lines of a storm in which a thread ended early
 abbrev pub IsFaultOf : Line → KnownFiles → BothPaths → KnownBytes → Type 0 → RunFault → Type 0
 IsFaultOf (line.First amount) files unwritten bytes unprinted why = IsFirstFault amount unprinted why
 IsFaultOf (line.Generate directory warehouses customers items) files unwritten bytes unprinted why =
@@ -62,6 +65,8 @@ IsFaultOf (line.Script directory file frames kept) files unwritten bytes unprint
     IsScriptFaultOf directory.now file.now (limits_of frames kept) files.0 bytes.0 bytes.1 unprinted why
 IsFaultOf (line.Query directory text) files unwritten bytes unprinted why =
     IsQueryFault directory.now text.now files.0 unprinted why
+IsFaultOf (line.Storm directory terminals sessions commands) files unwritten bytes unprinted why =
+    IsStormFault directory.now files.0 bytes.0 bytes.1 unprinted why
 
 -- `gen` alone writes files, those of its folder, where there is a database of its size
 abbrev pub MayWrite : Line → KnownFiles → Type 0

@@ -10,6 +10,7 @@ mod generate;
 mod query;
 mod run;
 mod script;
+mod storm;
 
 pub use ending::Ending;
 pub use run::run_words;

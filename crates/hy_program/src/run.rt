@@ -14,21 +14,31 @@ use crate::first::run_first;
 use crate::generate::{Size, run_generate};
 use crate::query::run_query;
 use crate::script::{Limits, run_script_file};
+use crate::storm::run_storm;
 use hy_cli::{Line, LineFault, read_words};
 use hy_files::FileSystem;
 use hy_output::{Output, Take};
 use hy_schema::Refusal;
+use hy_storm::Size as StormSize;
 use std::alloc::Global;
+use std::sync::Wait;
+use std::thread::Threads;
 
 /// The program: does what the words after its name say. Files are read and written in `system`. What is found is
 /// written to `out`, and why it isn't done to `err`.
-pub fn run_words<F: FileSystem, O: Output + Take + Drop, X: Output>(
+pub fn run_words<F, O, X, R>(
+    rt: &R,
     alloc: Global,
     words: &[&str],
     system: &mut F,
     out: &mut O,
     err: &mut X,
 ) -> Ending
+where
+    F: FileSystem,
+    O: Output + Take + Drop,
+    X: Output,
+    R: Threads + Wait + Sync,
     ensures files { KeepsFiles (texts_of words.entry.now) (F.files system.old, F.files system.new) }
 
     ensures folders { KeepsFolders (texts_of words.entry.now) (F.folders system.old, F.folders system.new) }
@@ -62,7 +72,7 @@ pub fn run_words<F: FileSystem, O: Output + Take + Drop, X: Output>(
         (system.new ≡ system.old) × (out.new ≡ out.old) }
 {
     match read_words(alloc, words) {
-        Ok(line) => match run_line(alloc, line, system, out) {
+        Ok(line) => match run_line(rt, alloc, line, system, out) {
             Ok(()) => Ending::Done,
             Err(fault) => explain(fault, err),
         },
@@ -93,7 +103,8 @@ fn explain<X: Output>(fault: RunFault<'_>, err: &mut X) -> Ending
 }
 
 /// Does what a command line says.
-fn run_line<'a, F: FileSystem, O: Output + Take + Drop>(
+fn run_line<'a, F: FileSystem, O: Output + Take + Drop, R: Threads + Wait + Sync>(
+    rt: &R,
     alloc: Global,
     line: Line<'a>,
     system: &mut F,
@@ -138,5 +149,18 @@ fn run_line<'a, F: FileSystem, O: Output + Take + Drop>(
             run_script_file(alloc, directory, file, limits, system, out)
         }
         Line::Query { directory, text } => run_query(alloc, directory, text, system, out),
+        Line::Storm {
+            directory,
+            terminals,
+            sessions,
+            commands,
+        } => {
+            let size = StormSize {
+                terminals,
+                sessions,
+                commands,
+            };
+            run_storm(rt, alloc, directory, size, system, out)
+        }
     }
 }

@@ -13,11 +13,14 @@ use std::sync::atomic::{AtomicU64, Ordering};
 use std::sync::{Arc, Condvar, Mutex, Wait};
 use std::thread::yield_now;
 
-/// So often a thread looks at most whether an item was put before it sleeps: some microseconds.
-const MOST_LOOKS: u64 = 5000;
+/// So often a thread looks at most whether an item was put before it sleeps: some fifteen microseconds.
+const MOST_LOOKS: u64 = 3000;
 
-/// So often it looks at least.
-const LEAST_LOOKS: u64 = 50;
+/// So often it looks at least: less than a microsecond.
+const LEAST_LOOKS: u64 = 100;
+
+/// So many waits are short once a long one was in vain.
+const SHORT_WAITS: u64 = 32;
 
 /// A queue under the rule.
 type Queue<T> = RuledArrayQueue<T, Log<T>, InOrder>;
@@ -113,8 +116,7 @@ pub struct Line<T> {
     front: Mutex<Front<T>>,
     back: Mutex<Back<T>>,
     moved: Condvar,
-    puts: AtomicU64,
-    looks: AtomicU64,
+    short_waits: AtomicU64,
 }
 
 impl<T: Drop> Line<T> {
@@ -139,8 +141,7 @@ impl<T: Drop> Line<T> {
             front: Mutex::new(front),
             back: Mutex::new(back),
             moved: Condvar::new(),
-            puts: AtomicU64::new(0),
-            looks: AtomicU64::new(MOST_LOOKS),
+            short_waits: AtomicU64::new(SHORT_WAITS),
         })
     }
 
@@ -150,7 +151,6 @@ impl<T: Drop> Line<T> {
         ensures { IfErr result (λ refused. (refused.0 ≡ item) × ((refused.1 ≡ Refusal.Closed) ⊎ (refused.1 ≡ Refusal.QueueFull))) }
     {
         self.front.lock(rt).put(rt, item)?;
-        self.puts.fetch_add(1, Ordering::SeqCst);
         self.moved.notify_one();
         Ok(())
     }
@@ -172,7 +172,7 @@ impl<T: Drop> Line<T> {
     /// one is. None once the queue is closed and empty.
     pub fn take<R: Wait>(&self, rt: &R) -> Option<T> {
         for _ in rt.forever() {
-            let seen = self.puts.load(Ordering::SeqCst);
+            let seen = self.moved.notifications();
             if let Some(item) = self.back.lock(rt).take(rt) {
                 return Some(item);
             }
@@ -192,25 +192,31 @@ impl<T: Drop> Line<T> {
         unreachable!()
     }
 
-    /// Looks a while, and says whether more was put than had been seen. Looking pays where items come soon, and takes a
-    /// processor from others where they don't: after each time in vain the next while is half as long, until it is the
-    /// shortest, and then the longest is tried again.
+    /// Looks a while, and says whether more was put than had been seen, or the queue was closed.
     fn sees_put(&self, seen: u64) -> bool {
-        let looks = self.looks.load(Ordering::SeqCst);
+        let is_short = self.waits_short();
+        let looks = if is_short { LEAST_LOOKS } else { MOST_LOOKS };
         for _ in 0..looks {
-            if self.puts.load(Ordering::SeqCst) != seen {
-                self.looks.store(MOST_LOOKS, Ordering::SeqCst);
+            if self.moved.notifications() != seen {
                 return true;
             }
             spin_loop();
         }
-        let next = if looks > LEAST_LOOKS {
-            looks / 2
-        } else {
-            MOST_LOOKS
-        };
-        self.looks.store(next, Ordering::SeqCst);
+        if !is_short {
+            self.short_waits.store(0, Ordering::SeqCst);
+        }
         false
+    }
+
+    /// Whether the next wait is a short one. Looking pays where items come soon, and takes a processor from others where
+    /// they don't: a long wait in vain is followed by some short ones, and then a long one is tried again.
+    fn waits_short(&self) -> bool {
+        let before = self.short_waits.load(Ordering::SeqCst);
+        if before >= SHORT_WAITS {
+            return false;
+        }
+        self.short_waits.store(before + 1, Ordering::SeqCst);
+        true
     }
 
     /// Whether it is closed.

@@ -14,6 +14,8 @@ use hy_files::MemoryFiles;
 use hy_output::Stream;
 use hy_program::{Ending, run_words};
 use std::alloc::{AllocError, Global};
+use std::sync::Wait;
+use std::thread::Threads;
 
 /// What a command printed, and its exit status.
 #[derive(Drop)]
@@ -93,13 +95,18 @@ pub fn as_texts<'a>(alloc: Global, words: &[&'a [u8]]) -> Result<Option<Vec<&'a 
 }
 
 /// Runs the program on files in memory.
-pub fn run(alloc: Global, words: &[&str], stored: &mut MemoryFiles) -> Result<Output, AllocError>
+pub fn run<R: Threads + Wait + Sync>(
+    rt: &R,
+    alloc: Global,
+    words: &[&str],
+    stored: &mut MemoryFiles,
+) -> Result<Output, AllocError>
     ensures { IfOk result (λ output. (end : Ending)
         × Prints (texts_of words.entry.now) (files_on stored.old) (files_on stored.new) (printed_in output) end) }
 {
     let mut out = nothing(alloc);
     let mut err = nothing(alloc);
-    match run_words(alloc, words, stored, &mut out, &mut err) {
+    match run_words(rt, alloc, words, stored, &mut out, &mut err) {
         Ending::WriterFailed => Err(AllocError),
         ending => Ok(printed(out, err, ending)),
     }

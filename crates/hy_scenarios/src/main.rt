@@ -12,10 +12,12 @@ use report::Scenario;
 use std::alloc::AllocError;
 use std::io::{self, Write};
 use std::process::ExitCode;
+use std::sync::Wait;
+use std::thread::Threads;
 use std::{env, fs};
 
 fn main(rt: HostRuntime) -> ExitCode {
-    match run_named(&rt) {
+    match run_named(&rt, &rt) {
         Ok(true) => ExitCode::SUCCESS,
         Ok(false) => ExitCode::FAILURE,
         Err(error) => {
@@ -26,7 +28,7 @@ fn main(rt: HostRuntime) -> ExitCode {
 }
 
 /// Runs the scenarios in the files that the words name, and prints what is said of them: whether all hold.
-fn run_named(rt: &HostRuntime) -> io::Result<bool> {
+fn run_named<R: Threads + Wait + Sync>(rt: &HostRuntime, threads: &R) -> io::Result<bool> {
     let alloc = rt.alloc();
     let names: Vec<String> = env::args(rt)?.skip(1).collect(alloc)?;
     let mut scenarios = Vec::new(alloc);
@@ -36,7 +38,7 @@ fn run_named(rt: &HostRuntime) -> io::Result<bool> {
             .push(Scenario { name, text })
             .map_err(|_| AllocError)?;
     }
-    let report = report::report_of(alloc, &scenarios)?;
+    let report = report::report_of(threads, alloc, &scenarios)?;
     rt.stdout().write_all(&report.text)?;
     Ok(report.all_hold)
 }

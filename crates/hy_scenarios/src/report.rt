@@ -9,6 +9,8 @@ use crate::scenario::{Failure, Fault, run_scenario};
 use hy_events::Parts;
 use std::alloc::{AllocError, Global};
 use std::io::{self, Write};
+use std::sync::Wait;
+use std::thread::Threads;
 
 /// A scenario: the name of its file, and what stands there.
 #[derive(Drop)]
@@ -36,13 +38,17 @@ struct Difference<'a> {
 }
 
 /// Runs scenarios, and says of each whether it holds.
-pub fn report_of(alloc: Global, scenarios: &[Scenario]) -> Result<Report, AllocError>
+pub fn report_of<R: Threads + Wait + Sync>(
+    rt: &R,
+    alloc: Global,
+    scenarios: &[Scenario],
+) -> Result<Report, AllocError>
     ensures { IfOk result (λ report. IsReport scenarios.now report.text.items report.all_hold) }
 {
     let mut text = Vec::new(alloc);
     let mut verdicts = Vec::new(alloc);
     for scenario in scenarios {
-        let fault = run_scenario(alloc, &scenario.text)?;
+        let fault = run_scenario(rt, alloc, &scenario.text)?;
         push_verdict(alloc, &mut text, scenario.name.as_str(), &fault)?;
         verdicts.push(fault.is_none())?;
     }

@@ -14,6 +14,8 @@ use crate::marks::{behind, body_of, has_mark, is_head, steps_of, text_behind};
 use hy_files::{FileSystem, MemoryFiles};
 use std::alloc::{AllocError, Global};
 use std::io;
+use std::sync::Wait;
+use std::thread::Threads;
 
 /// Why a block of a scenario doesn't hold.
 #[derive(Drop)]
@@ -47,7 +49,8 @@ fn put_events(alloc: Global, body: &[&[u8]], stored: &mut MemoryFiles) -> Result
 }
 
 /// Runs a command on files in memory, and compares what it prints.
-fn do_command(
+fn do_command<R: Threads + Wait + Sync>(
+    rt: &R,
     alloc: Global,
     words: &[&str],
     body: &[&[u8]],
@@ -59,7 +62,7 @@ fn do_command(
 {
     put_events(alloc, body, stored)?;
     let wanted = wanted_by(alloc, body)?;
-    let printed = run(alloc, words, stored)?;
+    let printed = run(rt, alloc, words, stored)?;
     if is_same(&printed, &wanted) {
         Ok(None)
     } else {
@@ -125,7 +128,8 @@ fn do_change(
 }
 
 /// Does a command line, where it names the program.
-fn do_line(
+fn do_line<R: Threads + Wait + Sync>(
+    rt: &R,
     alloc: Global,
     line: &[u8],
     body: &[&[u8]],
@@ -141,11 +145,12 @@ fn do_line(
     let Some(texts) = as_texts(alloc, &words)? else {
         return Ok(Some(Failure::Undone));
     };
-    do_command(alloc, &texts, body, stored)
+    do_command(rt, alloc, &texts, body, stored)
 }
 
 /// Does a block of a scenario.
-fn do_block(
+fn do_block<R: Threads + Wait + Sync>(
+    rt: &R,
     alloc: Global,
     head: &[u8],
     body: &[&[u8]],
@@ -155,7 +160,7 @@ fn do_block(
         (files_on stored.old) (files_on stored.new) (is_none failure)) }
 {
     if let Some(line) = behind(b'$', head) {
-        return do_line(alloc, line, body, stored);
+        return do_line(rt, alloc, line, body, stored);
     }
     if let Some(path) = behind(b'>', head) {
         return match std::str::from_utf8(path) {
@@ -182,7 +187,11 @@ pub struct Fault<'a> {
 }
 
 /// Runs a scenario on files in memory: its first block that doesn't hold, or none.
-pub fn run_scenario<'a>(alloc: Global, text: &'a [u8]) -> Result<Option<Fault<'a>>, AllocError>
+pub fn run_scenario<'a, R: Threads + Wait + Sync>(
+    rt: &R,
+    alloc: Global,
+    text: &'a [u8],
+) -> Result<Option<Fault<'a>>, AllocError>
     ensures { IfOk result (λ fault. IsVerdict text.entry.now (is_none fault)) }
 {
     let steps = steps_of(alloc, text)?;
@@ -192,11 +201,15 @@ pub fn run_scenario<'a>(alloc: Global, text: &'a [u8]) -> Result<Option<Fault<'a
             failure: Failure::Undone,
         }));
     }
-    run_steps(alloc, &steps)
+    run_steps(rt, alloc, &steps)
 }
 
 /// Runs the blocks of steps.
-fn run_steps<'a>(alloc: Global, steps: &[&'a [u8]]) -> Result<Option<Fault<'a>>, AllocError>
+fn run_steps<'a, R: Threads + Wait + Sync>(
+    rt: &R,
+    alloc: Global,
+    steps: &[&'a [u8]],
+) -> Result<Option<Fault<'a>>, AllocError>
     ensures { IfOk result (λ fault. AreDone (blocks_of (texts_of steps.entry.now)) no_files (is_none fault)) }
 {
     let mut stored = MemoryFiles::new(alloc);
@@ -205,7 +218,7 @@ fn run_steps<'a>(alloc: Global, steps: &[&'a [u8]]) -> Result<Option<Fault<'a>>,
             continue;
         }
         let body = body_of(&steps[place + 1..]);
-        if let Some(failure) = do_block(alloc, head, body, &mut stored)? {
+        if let Some(failure) = do_block(rt, alloc, head, body, &mut stored)? {
             return Ok(Some(Fault { head, failure }));
         }
     }

@@ -1,5 +1,5 @@
 -- Steps of a worker without the journal.
-use Rattle.std.specs.Prelude.{◌≡◌, Some}
+use Rattle.std.specs.Prelude.{Some}
 use Rattle.hy_partition.specs.Jobs.{Log, RunningJob}
 use Rattle.hy_partition.specs.Partition.{PartitionState}
 use Rattle.hy_partition.proofs.FinishLaws.{HasEnded, Reached}

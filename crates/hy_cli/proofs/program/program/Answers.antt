@@ -1,20 +1,9 @@
-use Rattle.std.proofs.Common.{rules, true, [], ap, codes}
+use Rattle.std.proofs.Common.{ap, codes}
 use Rattle.std.proofs.lemmas.Result.{IfOk-weaker}
-use Rattle.clap.specs.Simple.{App, new_shape, with_subcommand}
-use Rattle.hy_cli.specs.CommandLine.{check_parameters, command_of, first_parameters, generate_parameters, query_parameters, script_parameters}
-use Rattle.hy_cli.proofs.ProgramLaws.{IsApp, adds_command}
+use Rattle.clap.specs.Simple.{App, with_subcommand}
+use Rattle.hy_cli.specs.CommandLine.{bare_app, check_parameters, command_of, first_parameters, generate_parameters, query_parameters, script_parameters, storm_parameters}
+use Rattle.hy_cli.proofs.ProgramLaws.{adds_command}
 use Rattle.hy_cli.proofs.program.program.Goals as goal
-
--- the program without its commands
-abbrev bare : App
-bare = record {
-  top = record (new_shape (codes "hyper")) {
-    no_binary_name = true;
-    subcommand_required = true;
-    disable_help_subcommand = true;
-  };
-  subs = [];
-}
 
 pub returns : goal.returns
 returns c =
@@ -23,16 +12,18 @@ returns c =
     let check = command_of (codes "check") check_parameters in
     let script = command_of (codes "script") script_parameters in
     let query = command_of (codes "query") query_parameters in
-    let with_first = with_subcommand bare first in
+    let storm = command_of (codes "storm") storm_parameters in
+    let with_first = with_subcommand bare_app first in
     let with_generate = with_subcommand with_first generate in
     let with_check = with_subcommand with_generate check in
     let with_script = with_subcommand with_check script in
-    let none : IsApp bare c.disable_help_subcommand.result = search rules in
-    let one = adds_command bare first c.disable_help_subcommand.result c.in_ok-first.field-0 c.in_ok-subcommand.field-0 none c.in_ok-first.ensures c.in_ok-subcommand.ensures in
+    let with_query = with_subcommand with_script query in
+    let one = adds_command bare_app first c.bare.result c.in_ok-first.field-0 c.in_ok-subcommand.field-0 c.bare.ensures c.in_ok-first.ensures c.in_ok-subcommand.ensures in
     let two = adds_command with_first generate c.in_ok-subcommand.field-0 c.in_ok-generate.field-0 c.in_ok-subcommand-2.field-0 one c.in_ok-generate.ensures c.in_ok-subcommand-2.ensures in
     let three = adds_command with_generate check c.in_ok-subcommand-2.field-0 c.in_ok-check.field-0 c.in_ok-subcommand-3.field-0 two c.in_ok-check.ensures c.in_ok-subcommand-3.ensures in
     let four = adds_command with_check script c.in_ok-subcommand-3.field-0 c.in_ok-script.field-0 c.in_ok-subcommand-4.field-0 three c.in_ok-script.ensures c.in_ok-subcommand-4.ensures in
-    IfOk-weaker c.subcommand-5.result _ _
+    let five = adds_command with_script query c.in_ok-subcommand-4.field-0 c.in_ok-query.field-0 c.in_ok-subcommand-5.field-0 four c.in_ok-query.ensures c.in_ok-subcommand-5.ensures in
+    IfOk-weaker c.subcommand-6.result _ _
     (λ command added.
-    let five = adds_command with_script query c.in_ok-subcommand-4.field-0 c.in_ok-query.field-0 command four c.in_ok-query.ensures added in
-    (five.0, five.1, ap (λ (a : App). a.top.subcommand_required) five.0)) c.subcommand-5.ensures
+    let six = adds_command with_query storm c.in_ok-subcommand-5.field-0 c.in_ok-storm.field-0 command five c.in_ok-storm.ensures added in
+    (six.0, six.1, ap (λ (a : App). a.top.subcommand_required) six.0)) c.subcommand-6.ensures

@@ -14,7 +14,7 @@ abbrev items_on : Stream (Vec ℕ Global) → List ℕ
 items_on stream = (writer_of stream).items
 
 pub returns-in_default : goal.returns-in_default
-returns-in_default c =
+returns-in_default g c =
     let no_out = c.nothing-out.ensures in
     let no_err = c.nothing-err.ensures in
     let unprinted : c.run_words.new.out ≡ c.nothing-out.result → (writer_of c.run_words.new.out).items ≡ [] =

@@ -3,7 +3,7 @@ use Rattle.hy_scenarios.proofs.ReportLaws.{none-is, reported-more}
 use Rattle.hy_scenarios.proofs.report.report_of.Goals as goal
 
 pub loop-scenario-preserved : goal.loop-scenario-preserved
-loop-scenario-preserved c =
+loop-scenario-preserved g c =
     let pushed = rw c.as_str.ensures.value at c.in_ok-push_verdict.ensures in
     let verdict = rw c.deref.ensures.value at c.in_ok-fault.ensures in
     rw (c.in_ok-push.ensures.items, pushed.2, none-is c.in_ok-fault.fault c.is_none.result c.is_none.ensures)

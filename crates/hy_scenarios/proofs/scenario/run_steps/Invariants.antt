@@ -7,5 +7,5 @@ use Rattle.hy_scenarios.specs.Scenarios.{AreDone}
 use Rattle.hy_scenarios.proofs.scenario.run_steps.Given as goal
 
 abbrev pub invariant-loop-place : goal.invariant-loop-place
-invariant-loop-place l = (holds : Bool) → AreDone (blocks_of (texts_of (drop l.place l.steps))) (files_on l.stored) holds
+invariant-loop-place g l = (holds : Bool) → AreDone (blocks_of (texts_of (drop l.place l.steps))) (files_on l.stored) holds
     → AreDone (blocks_of (texts_of l.steps)) no_files holds

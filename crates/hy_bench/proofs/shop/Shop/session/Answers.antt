@@ -1,7 +1,7 @@
 use Rattle.std.proofs.Common.{◌≡◌, List, true, subst, sym}
 use Rattle.hy_partition.specs.Snapshots.{SnapshotState}
 use Rattle.hy_forks.specs.Forks.{are_from}
-use Rattle.hy_bench.proofs.ForkedLaws.{are_from-forks}
+use Rattle.hy_forks.proofs.ForkedLaws.{are_from-forks}
 use Rattle.hy_bench.proofs.shop.Shop.session.Goals as goal
 
 pub returns-clause-mine : goal.returns-clause-mine

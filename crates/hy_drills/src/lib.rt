@@ -1,0 +1,15 @@
+//! Tests of the engine and of storms, with locks and threads.
+#![tactic(auto)]
+
+#[cfg(test)]
+mod engine_tests;
+#[cfg(test)]
+mod gates;
+#[cfg(test)]
+mod halls;
+#[cfg(test)]
+mod order_tests;
+#[cfg(test)]
+mod refusal_tests;
+#[cfg(test)]
+mod storm_tests;

@@ -1,0 +1,9 @@
+use Rattle.std.proofs.Common.{rules, ◌≡◌}
+use Rattle.hy_program.proofs.StormLaws.{storm_fault}
+use Rattle.hy_program.proofs.storm.run_storm.Goals as goal
+
+pub returns-in-Err-clause-fault : goal.returns-in-Err-clause-fault
+returns-in-Err-clause-fault g c =
+    let bytes = g.O.Output.contents c.args.out.now in
+    storm_fault c.args.directory.now (g.F.FileSystem.files c.args.system.now) bytes bytes (c.args.out.now ≡ c.args.out.now)
+    c.in-Err.found c.of_files.result c.of_files.ensures.about c.in-Err.ensures.load (search rules)

@@ -1,0 +1,163 @@
+//! The sums at the end of a storm.
+
+ghost use Rattle.std.specs.Prelude.{◌≡◌, ◌≤◌, ◌+◌, IfOk, IsTrue, None, length};
+ghost use Rattle.hy_schema.specs.Conditions.{first_broken};
+ghost use Rattle.hy_ledger.specs.Books.{no_totals, with_book};
+ghost use Rattle.hy_partition.specs.Accounts.{IsBookOf};
+ghost use Rattle.hy_partition.specs.Jobs.{Log};
+ghost use Rattle.hy_crossing.specs.Crossings.{ArePartitions, HaveNoPart, database_behind};
+ghost use Rattle.hy_database.specs.Database.{all_rows};
+ghost use Rattle.hy_forks.specs.Forks.{AreOfKit, are_from};
+ghost use Rattle.hy_session.specs.Snapshots.{lists_of_all};
+ghost use Rattle.hy_storm.specs.Storms.{AreFigures, HaveBooks, HaveKept, warehouses_of_load};
+
+use crate::PAGE_BYTES;
+use crate::threads::Gathered;
+use hy_commands::Commit;
+use hy_crossing::are_partitions;
+use hy_forks::{find_history, fork_all};
+use hy_ledger::Balance;
+use hy_partition::{Loaded, Partition};
+use hy_passes::{Journal, Pass};
+use hy_schema::Refusal;
+use hy_session::Session;
+use std::alloc::Global;
+
+/// What a storm came to.
+#[derive(Clone, Copy, Debug, Drop, PartialEq, Eq)]
+pub struct Figures {
+    /// How many commands were accepted that don't only read, by the shares of all terminals.
+    pub commits: u64,
+    /// What was paid, by the same shares.
+    pub cents: u64,
+    /// How many commits the warehouses have kept, each counted at its home.
+    pub kept: u64,
+    /// By how much W_YTD of all warehouses has grown.
+    pub growth: i128,
+    /// How many rounds of sessions held.
+    pub rounds: u64,
+    /// How many frames more than one page table maps.
+    pub shared: u64,
+    /// The first broken condition.
+    pub broken: Option<u8>,
+    /// Why a thread ended early, where one did.
+    pub refusal: Option<Refusal>,
+}
+
+/// The sums at the end, over all partitions: what the terminals have beside the books of all warehouses. E4 where the
+/// partitions aren't those of the load; E2; E1.
+pub fn figures_of<K: Loaded>(
+    alloc: Global,
+    mut parts: Vec<Partition<PAGE_BYTES, K>>,
+    mut journal: Journal<Commit, K>,
+    mut pass: Pass<Commit, K>,
+    gathered: Gathered<K>,
+) -> Result<Figures, Refusal>
+    requires partitions { K.passes.partitions ≡ warehouses_of_load K.load }
+    ensures { IfOk result (AreFigures K.load) }
+{
+    if !are_partitions(&mut parts) {
+        return Err(Refusal::NoSuchWarehouse);
+    }
+    find_history(&mut parts, &mut journal);
+    let mut balance = Balance::new(gathered.purse);
+    audit_all(&mut parts, &mut balance);
+    balance.settle();
+    let broken = broken_at_the_end(alloc, &mut parts, &mut journal, &mut pass)?;
+    let (purses, books) = (balance.purses(), balance.books());
+    Ok(Figures {
+        commits: purses.commits,
+        cents: purses.cents,
+        kept: books.commits,
+        growth: i128::from(books.cents),
+        rounds: gathered.held,
+        shared: shared_of(&parts),
+        broken,
+        refusal: gathered.refusal,
+    })
+}
+
+/// Lays the books of all warehouses beside the purses: they have the commits of the serial list, each at its home, and
+/// what W_YTD has grown by.
+fn audit_all<K: Loaded>(parts: &mut Vec<Partition<PAGE_BYTES, K>>, balance: &mut Balance<K>)
+    requires parts { ArePartitions K.load parts.old.items }
+    requires first { (balance.old.audited ≡ 0) × (balance.old.books ≡ no_totals) }
+    ensures same { parts.new.items ≡ parts.old.items }
+    ensures all { balance.new.audited ≡ warehouses_of_load K.load }
+    ensures shares { balance.new.shares ≡ balance.old.shares }
+    ensures books { (log : Log) → HaveKept log parts.old.items
+        → HaveBooks K.load log (warehouses_of_load K.load) balance.new.books }
+{
+    for place in 0..parts.as_slice().len() {
+        audit(&mut parts[place], balance);
+    }
+}
+
+/// Lays the book of the next warehouse beside the purses.
+fn audit<K: Loaded>(part: &mut Partition<PAGE_BYTES, K>, balance: &mut Balance<K>)
+    requires next { part.old.warehouse ≡ balance.old.audited + 1 }
+    ensures same { part.new ≡ part.old }
+    ensures balance { balance.new ≡ record {
+      shares = balance.old.shares;
+      audited = balance.old.audited + 1;
+      books = with_book balance.old.books part.old.book;
+    } }
+    ensures book { IsBookOf part.old.load part.old.warehouse part.old.kept part.old.book }
+{
+    part.ties();
+    part.audit(balance);
+}
+
+/// The first consistency condition that the database at the end breaks: there is none.
+fn broken_at_the_end<K: Loaded>(
+    alloc: Global,
+    parts: &mut Vec<Partition<PAGE_BYTES, K>>,
+    journal: &mut Journal<Commit, K>,
+    pass: &mut Pass<Commit, K>,
+) -> Result<Option<u8>, Refusal>
+    requires some { 1 ≤ length parts.old.items }
+    requires parts { ArePartitions K.load parts.old.items }
+    requires whole { HaveNoPart parts.old.items }
+    ensures none { IfOk result (λ broken. broken ≡ None) }
+    ensures consistent { IfOk result (λ _. first_broken (all_rows (database_behind K.load journal.old.list.log)) ≡ None) }
+{
+    let session = session_of(alloc, parts, journal, pass)?;
+    let broken = session.check_conditions(alloc);
+    match session.close_all(parts) {
+        Ok(()) => {}
+        Err(_) => unreachable!(),
+    }
+    broken
+}
+
+/// A session over the database behind the serial list, whose rows meet the consistency conditions.
+fn session_of<K: Loaded>(
+    alloc: Global,
+    parts: &mut Vec<Partition<PAGE_BYTES, K>>,
+    journal: &mut Journal<Commit, K>,
+    pass: &mut Pass<Commit, K>,
+) -> Result<Session<PAGE_BYTES>, Refusal>
+    requires some { 1 ≤ length parts.old.items }
+    requires parts { ArePartitions K.load parts.old.items }
+    requires whole { HaveNoPart parts.old.items }
+    ensures consistent { IfOk result (λ session. first_broken (lists_of_all 4096 session).tables ≡ None) }
+    ensures behind { IfOk result (λ _. first_broken (all_rows (database_behind K.load journal.old.list.log)) ≡ None) }
+    ensures kit { IfOk result (AreOfKit K.passes) }
+    ensures mine { IfOk result (λ session. IsTrue (are_from K.passes session parts.new.items)) }
+    ensures parts { ArePartitions K.load parts.new.items }
+    ensures whole { HaveNoPart parts.new.items }
+{
+    let all = fork_all(alloc, parts, journal, pass)?;
+    let session = Session::new(all);
+    session.shows();
+    Ok(session)
+}
+
+/// How many frames of partitions more than one page table maps.
+fn shared_of<K: Loaded>(parts: &[Partition<PAGE_BYTES, K>]) -> u64 {
+    let mut count = 0u64;
+    for part in parts {
+        count = count.saturating_add(part.shared());
+    }
+    count
+}

@@ -1,0 +1,249 @@
+//! The threads of a storm: workers, terminals and sessions.
+
+ghost use Rattle.std.specs.Prelude.{◌≡◌, ◌≤◌, ◌<◌};
+
+use crate::PAGE_BYTES;
+use crate::kept::Kept;
+use crate::run::Size;
+use crate::session::{SessionEnd, run_session};
+use crate::shape::Shape;
+use crate::terminal::{Terminal, TerminalEnd, run_terminal};
+use hy_commands::Commit;
+use hy_engine::{Engine, Gate};
+use hy_ledger::Purse;
+use hy_partition::Loaded;
+use hy_passes::{Pass, Passes};
+use hy_schema::Refusal;
+use std::alloc::Global;
+use std::sync::Wait;
+use std::thread;
+use std::thread::{JoinHandle, Scope, Threads};
+
+/// What came of all threads: the shares that terminals got, the rounds that held, and a refusal where a thread ended
+/// early.
+#[derive(Drop)]
+pub struct Gathered<K: Loaded> {
+    /// The shares.
+    pub purse: Purse<K>,
+    /// The rounds.
+    pub held: u64,
+    /// The refusal.
+    pub refusal: Option<Refusal>,
+}
+
+/// Who takes part: a terminal for each purse, and sessions.
+#[derive(Drop)]
+pub struct Crew<'a, K: Loaded> {
+    terminals: Vec<Terminal<'a, K>>,
+    sessions: Vec<Pass<Commit, K>>,
+    purse: Purse<K>,
+}
+
+impl<'a, K: Loaded> Crew<'a, K> {
+    /// A crew of this size of these clients. E1.
+    pub fn new(
+        alloc: Global,
+        shape: &'a Shape,
+        passes: &Passes<Commit, K>,
+        size: Size,
+        clients: &mut Vec<Pass<Commit, K>>,
+    ) -> Result<Crew<'a, K>, Refusal>
+        requires terminals { size.terminals ≤ 64 }
+        requires sessions { size.sessions ≤ 16 }
+        requires commands { size.commands ≤ 100000 }
+    {
+        let mut terminals = Vec::with_capacity(alloc, size.terminals as usize)?;
+        for before in 0..size.terminals {
+            let Some(pass) = clients.pop() else {
+                break;
+            };
+            let purse = passes.purse()?;
+            terminals.push_reserved(Terminal {
+                alloc,
+                shape,
+                number: before + 1,
+                commands: size.commands,
+                pass,
+                purse,
+            });
+        }
+        let mut sessions = Vec::with_capacity(alloc, size.sessions as usize)?;
+        for _ in 0..size.sessions {
+            let Some(pass) = clients.pop() else {
+                break;
+            };
+            sessions.push_reserved(pass);
+        }
+        let purse = passes.purse()?;
+        Ok(Crew {
+            terminals,
+            sessions,
+            purse,
+        })
+    }
+}
+
+/// Runs a worker for each warehouse and the crew beside them, and closes the engine once all of the crew have ended. Where a
+/// worker can't be made the crew does nothing.
+pub fn run_threads<K: Loaded + Send + Sync, G: Gate + Drop + Send + Sync, R: Threads + Wait + Sync>(
+    rt: &R,
+    alloc: Global,
+    engine: &Engine<PAGE_BYTES, K, Kept<G>>,
+    crew: Crew<'_, K>,
+) -> Gathered<K> {
+    thread::scope(thread::scope_env(), rt, move |scope| -> Gathered<K> {
+        let mut is_refused = false;
+        for place in 0..engine.warehouses() {
+            let warehouse = warehouse_at(place);
+            if scope.spawn(move || engine.work(rt, warehouse)).is_err() {
+                is_refused = true;
+            }
+        }
+        let gathered = if is_refused {
+            refused(crew)
+        } else {
+            run_crew(rt, alloc, engine, crew)
+        };
+        engine.close(rt);
+        gathered
+    })
+}
+
+/// What comes of a crew that does nothing.
+fn refused<K: Loaded>(crew: Crew<'_, K>) -> Gathered<K> {
+    let Crew {
+        terminals: _,
+        sessions: _,
+        purse,
+    } = crew;
+    out_of_memory(purse)
+}
+
+/// What comes of it where memory is refused before a thread is made.
+fn out_of_memory<K: Loaded>(purse: Purse<K>) -> Gathered<K> {
+    Gathered {
+        purse,
+        held: 0,
+        refusal: Some(Refusal::NoMemory),
+    }
+}
+
+/// Starts a terminal's thread. None where no thread can be made.
+fn start_terminal<
+    's,
+    E,
+    K: Loaded + Send + Sync + 's,
+    G: Gate + Drop + Send + Sync + 's,
+    R: Threads + Wait + Sync + 's,
+>(
+    scope: &Scope<'s, E>,
+    rt: &'s R,
+    engine: &'s Engine<PAGE_BYTES, K, Kept<G>>,
+    terminal: Terminal<'s, K>,
+) -> Option<JoinHandle<TerminalEnd<K>>> {
+    scope.spawn(move || run_terminal(rt, engine, terminal)).ok()
+}
+
+/// Starts a session's thread. None where no thread can be made.
+fn start_session<
+    's,
+    E,
+    K: Loaded + Send + Sync + 's,
+    G: Gate + Drop + Send + Sync + 's,
+    R: Threads + Wait + Sync + 's,
+>(
+    scope: &Scope<'s, E>,
+    rt: &'s R,
+    alloc: Global,
+    engine: &'s Engine<PAGE_BYTES, K, Kept<G>>,
+    pass: Pass<Commit, K>,
+) -> Option<JoinHandle<SessionEnd>> {
+    scope
+        .spawn(move || run_session(rt, alloc, engine, pass))
+        .ok()
+}
+
+/// Runs a thread for each terminal, and the sessions beside them.
+fn run_crew<K: Loaded + Send + Sync, G: Gate + Drop + Send + Sync, R: Threads + Wait + Sync>(
+    rt: &R,
+    alloc: Global,
+    engine: &Engine<PAGE_BYTES, K, Kept<G>>,
+    crew: Crew<'_, K>,
+) -> Gathered<K> {
+    let Crew {
+        terminals,
+        sessions,
+        purse,
+    } = crew;
+    let Ok(running) = Vec::with_capacity(alloc, terminals.len()) else {
+        return out_of_memory(purse);
+    };
+    thread::scope(thread::scope_env(), rt, move |scope| -> Gathered<K> {
+        let mut refusal = None;
+        let mut running = running;
+        for terminal in terminals {
+            let (runtime, shared) = (rt, engine);
+            match start_terminal(scope, runtime, shared, terminal) {
+                Some(thread) => {
+                    let _ = running.push(thread);
+                }
+                None => refusal = Some(Refusal::NoMemory),
+            }
+        }
+        let looked = run_sessions(rt, alloc, engine, sessions);
+        let mut gathered = Gathered {
+            purse,
+            held: looked.held,
+            refusal: refusal.or(looked.refusal),
+        };
+        for thread in running {
+            let end = thread.join(rt);
+            gathered.purse.merge(end.purse);
+            gathered.refusal = gathered.refusal.or(end.refusal);
+        }
+        gathered
+    })
+}
+
+/// Runs a thread for each session: how many rounds held in all, and why one ended early.
+fn run_sessions<K: Loaded + Send + Sync, G: Gate + Drop + Send + Sync, R: Threads + Wait + Sync>(
+    rt: &R,
+    alloc: Global,
+    engine: &Engine<PAGE_BYTES, K, Kept<G>>,
+    sessions: Vec<Pass<Commit, K>>,
+) -> SessionEnd {
+    let Ok(looking) = Vec::with_capacity(alloc, sessions.len()) else {
+        return SessionEnd {
+            held: 0,
+            refusal: Some(Refusal::NoMemory),
+        };
+    };
+    thread::scope(thread::scope_env(), rt, move |scope| -> SessionEnd {
+        let mut refusal = None;
+        let mut looking = looking;
+        for pass in sessions {
+            let (runtime, shared) = (rt, engine);
+            match start_session(scope, runtime, alloc, shared, pass) {
+                Some(thread) => {
+                    let _ = looking.push(thread);
+                }
+                None => refusal = Some(Refusal::NoMemory),
+            }
+        }
+        let mut all = SessionEnd { held: 0, refusal };
+        for thread in looking {
+            let end = thread.join(rt);
+            all.held = all.held.saturating_add(end.held);
+            all.refusal = all.refusal.or(end.refusal);
+        }
+        all
+    })
+}
+
+/// The number of the warehouse at a place; the greatest number of all where there is no such number.
+fn warehouse_at(place: usize) -> u8 {
+    match u8::try_from(place) {
+        Ok(before) => before.saturating_add(1),
+        Err(_) => u8::MAX,
+    }
+}
