@@ -1,9 +1,10 @@
 //! Does one piece of work of the crates below many times over, so that a clock outside can time it. The words: the
-//! work, how many rounds of it, and up to two sizes.
+//! work, how many rounds of it, and up to two sizes, or a log's file.
 #![tactic(auto)]
 
 mod drain_rounds;
 mod index_rounds;
+mod log_rounds;
 mod payment_rounds;
 mod query_rounds;
 mod shop;
@@ -43,6 +44,9 @@ fn run(rt: &HostRuntime) -> Option<u64> {
         | "query-credit"
         | "report"
         | "conditions" => query_rounds::run(alloc, work, rounds, size),
+        "log-read" | "log-text" | "log-unsynced" | "log-memory" | "log-synced" => {
+            log_rounds::run(rt, work, rounds, words.get(2)?.as_str())
+        }
         "commit" | "rollback" | "fork" | "snapshot" => {
             space_rounds::run(alloc, work, rounds, size, writes)
         }

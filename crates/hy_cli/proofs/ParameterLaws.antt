@@ -23,7 +23,7 @@ use Rattle.clap.specs.declared.parser.matches.ArgMatches.{ArgMatches}
 use Rattle.clap.specs.declared.parser.matches.ValueSource.{ValueSource}
 use Rattle.clap.specs.declared.parser.matches.ValueSource.TheVariants.{CommandLine}
 use Rattle.hy_cli.specs.CommandLine.{AreTaken, IsNumber, Parameter, command_of, commands, program_app, rule_for}
-use Rattle.hy_cli.specs.CommandLine.{required_text, required_number, optional_number, bounded_number, required_within}
+use Rattle.hy_cli.specs.CommandLine.{required_text, optional_text, required_number, optional_number, bounded_number, required_within}
 use Rattle.hy_cli.specs.inside.Given.{AreGiven, IsGiven, IsKnown, IsOneOf}
 use Rattle.hy_cli.proofs.WalkLaws.{Each, Keeps, either, rows_taken}
 
@@ -31,6 +31,7 @@ use Rattle.hy_cli.proofs.WalkLaws.{Each, Keeps, either, rows_taken}
 
 abbrev name_of : Parameter → Text
 name_of (required_text name) = name
+name_of (optional_text name) = name
 name_of (required_number name) = name
 name_of (optional_number name) = name
 name_of (bounded_number low high name) = name
@@ -38,6 +39,7 @@ name_of (required_within low high name) = name
 
 abbrev parser_for : Parameter → ValueParser
 parser_for (required_text name) = parser.String
+parser_for (optional_text name) = parser.String
 parser_for (required_number name) = parser.Unsigned 0 18446744073709551615
 parser_for (optional_number name) = parser.Unsigned 0 18446744073709551615
 parser_for (bounded_number low high name) = parser.Unsigned low high
@@ -46,6 +48,7 @@ parser_for (required_within low high name) = parser.Unsigned low high
 -- what a text has that its parser takes
 abbrev Fits : Parameter → Text → Type 0
 Fits (required_text name) text = ⊤
+Fits (optional_text name) text = ⊤
 Fits (required_number name) text = IsNumber text
 Fits (optional_number name) text = IsNumber text
 Fits (bounded_number low high name) text = IsUnsignedIn low high text
@@ -131,6 +134,8 @@ module _ (name : Text) (Q : Text → Type 0) where
   parameter-keeps : (q : Parameter) (place : ℕ) → Agrees q → Keeps Rows (with_index place (filled (rule_for q))) × ((with_index place (filled (rule_for q))).defaults ≡ [])
   parameter-keeps (required_text id) place fits =
       (λ again values rows none had. set-keeps id parser.String (filled (rule_for (required_text id))) again values rows fits none had, refl)
+  parameter-keeps (optional_text id) place fits =
+      (λ again values rows none had. set-keeps id parser.String (filled (rule_for (optional_text id))) again values rows fits none had, refl)
   parameter-keeps (required_number id) place fits =
       (λ again values rows none had. set-keeps id (parser_for (required_number id)) (filled (rule_for (required_number id))) again values rows fits none had, refl)
   parameter-keeps (optional_number id) place fits =
@@ -153,23 +158,28 @@ module _ (name : Text) (Q : Text → Type 0) where
 -- a parameter `q` tests its texts as `p` does, or has another name
 abbrev agrees : Parameter → Parameter → Bool
 agrees (required_text name) q = true
+agrees (optional_text name) q = true
 agrees (required_number name) (required_text other) = not (bytes_eq other name)
+agrees (required_number name) (optional_text other) = not (bytes_eq other name)
 agrees (required_number name) (bounded_number low high other) = not (bytes_eq other name)
 agrees (required_number name) (required_within low high other) = not (bytes_eq other name)
 agrees (required_number name) q = true
 agrees (optional_number name) (required_text other) = not (bytes_eq other name)
+agrees (optional_number name) (optional_text other) = not (bytes_eq other name)
 agrees (optional_number name) (bounded_number low high other) = not (bytes_eq other name)
 agrees (optional_number name) (required_within low high other) = not (bytes_eq other name)
 agrees (optional_number name) q = true
 agrees (bounded_number low high name) (bounded_number least most other) =
     not (bytes_eq other name) || (least == low && most == high)
 agrees (bounded_number low high name) (required_text other) = not (bytes_eq other name)
+agrees (bounded_number low high name) (optional_text other) = not (bytes_eq other name)
 agrees (bounded_number low high name) (required_number other) = not (bytes_eq other name)
 agrees (bounded_number low high name) (optional_number other) = not (bytes_eq other name)
 agrees (bounded_number low high name) (required_within least most other) = not (bytes_eq other name)
 agrees (required_within low high name) (required_within least most other) =
     not (bytes_eq other name) || (least == low && most == high)
 agrees (required_within low high name) (required_text other) = not (bytes_eq other name)
+agrees (required_within low high name) (optional_text other) = not (bytes_eq other name)
 agrees (required_within low high name) (required_number other) = not (bytes_eq other name)
 agrees (required_within low high name) (optional_number other) = not (bytes_eq other name)
 agrees (required_within low high name) (bounded_number least most other) = not (bytes_eq other name)
@@ -184,7 +194,9 @@ both false b passed = absurd (cc)
 
 one-agrees : (p q : Parameter) → agrees p q ≡ true → Agrees (name_of p) (Fits p) q
 one-agrees (required_text name) q apart same text taken = tt
+one-agrees (optional_text name) q apart same text taken = tt
 one-agrees (required_number name) (required_text other) apart same text taken = let bad : false ≡ true = rw same at apart in absurd (cc)
+one-agrees (required_number name) (optional_text other) apart same text taken = let bad : false ≡ true = rw same at apart in absurd (cc)
 one-agrees (required_number name) (required_number other) apart same text taken = accepts-Accepts false (parser.Unsigned 0 18446744073709551615) text taken
 one-agrees (required_number name) (optional_number other) apart same text taken = accepts-Accepts false (parser.Unsigned 0 18446744073709551615) text taken
 one-agrees (required_number name) (bounded_number low high other) apart same text taken = let bad : false ≡ true = rw same at apart in absurd (cc)
@@ -193,6 +205,7 @@ one-agrees (required_number name) (required_within low high other) apart same te
 one-agrees (optional_number name) (required_within low high other) apart same text taken = let bad : false ≡ true = rw same at apart in absurd (cc)
 one-agrees (bounded_number low high name) (required_within least most other) apart same text taken = let bad : false ≡ true = rw same at apart in absurd (cc)
 one-agrees (required_within low high name) (required_text other) apart same text taken = let bad : false ≡ true = rw same at apart in absurd (cc)
+one-agrees (required_within low high name) (optional_text other) apart same text taken = let bad : false ≡ true = rw same at apart in absurd (cc)
 one-agrees (required_within low high name) (required_number other) apart same text taken = let bad : false ≡ true = rw same at apart in absurd (cc)
 one-agrees (required_within low high name) (optional_number other) apart same text taken = let bad : false ≡ true = rw same at apart in absurd (cc)
 one-agrees (required_within low high name) (bounded_number least most other) apart same text taken = let bad : false ≡ true = rw same at apart in absurd (cc)
@@ -204,6 +217,7 @@ one-agrees (required_within low high name) (required_within least most other) ap
     subst (λ (it : ℕ). IsUnsignedIn it high text) least_is (subst (λ (it : ℕ). IsUnsignedIn least it text) most_is
     (accepts-Accepts false (parser.Unsigned least most) text taken))
 one-agrees (bounded_number low high name) (required_text other) apart same text taken = let bad : false ≡ true = rw same at apart in absurd (cc)
+one-agrees (bounded_number low high name) (optional_text other) apart same text taken = let bad : false ≡ true = rw same at apart in absurd (cc)
 one-agrees (bounded_number low high name) (required_number other) apart same text taken = let bad : false ≡ true = rw same at apart in absurd (cc)
 one-agrees (bounded_number low high name) (optional_number other) apart same text taken = let bad : false ≡ true = rw same at apart in absurd (cc)
 one-agrees (bounded_number low high name) (bounded_number least most other) apart same text taken =
@@ -214,6 +228,7 @@ one-agrees (bounded_number low high name) (bounded_number least most other) apar
     subst (λ (it : ℕ). IsUnsignedIn it high text) least_is (subst (λ (it : ℕ). IsUnsignedIn least it text) most_is
     (accepts-Accepts false (parser.Unsigned least most) text taken))
 one-agrees (optional_number name) (required_text other) apart same text taken = let bad : false ≡ true = rw same at apart in absurd (cc)
+one-agrees (optional_number name) (optional_text other) apart same text taken = let bad : false ≡ true = rw same at apart in absurd (cc)
 one-agrees (optional_number name) (required_number other) apart same text taken = accepts-Accepts false (parser.Unsigned 0 18446744073709551615) text taken
 one-agrees (optional_number name) (optional_number other) apart same text taken = accepts-Accepts false (parser.Unsigned 0 18446744073709551615) text taken
 
@@ -227,6 +242,7 @@ all-agree p (q ∷ rest) apart =
 abbrev IsThere : List Row → Parameter → Type 0
 IsThere rows (required_text name) = is_given name rows ≡ true
 IsThere rows (required_number name) = is_given name rows ≡ true
+IsThere rows (optional_text name) = ⊤
 IsThere rows (optional_number name) = ⊤
 IsThere rows (bounded_number low high name) = ⊤
 IsThere rows (required_within low high name) = is_given name rows ≡ true
@@ -251,6 +267,7 @@ are-there rows (required_number name ∷ rest) place none =
 are-there rows (required_within low high name ∷ rest) place none =
     let parts = neither (is_given name rows) _ none in
     (parts.0, are-there rows rest (index_after place (rule_for (required_within low high name))) parts.1)
+are-there rows (optional_text name ∷ rest) place none = (tt, are-there rows rest (index_after place (rule_for (optional_text name))) none)
 are-there rows (optional_number name ∷ rest) place none = (tt, are-there rows rest (index_after place (rule_for (optional_number name))) none)
 are-there rows (bounded_number low high name ∷ rest) place none = (tt, are-there rows rest (index_after place (rule_for (bounded_number low high name))) none)
 
@@ -291,6 +308,7 @@ parameter-given rows (required_text name) well there =
 parameter-given rows (required_number name) well there = one-given IsNumber (find (λ r. bytes_eq r.id name) rows) (row-found name IsNumber rows well) there
 parameter-given rows (required_within low high name) well there =
     one-given (IsUnsignedIn low high) (find (λ r. bytes_eq r.id name) rows) (row-found name (IsUnsignedIn low high) rows well) there
+parameter-given rows (optional_text name) well there = tt
 parameter-given rows (optional_number name) well there = one-if-given IsNumber (find (λ r. bytes_eq r.id name) rows) (row-found name IsNumber rows well)
 parameter-given rows (bounded_number low high name) well there =
     one-if-given (IsUnsignedIn low high) (find (λ r. bytes_eq r.id name) rows) (row-found name (IsUnsignedIn low high) rows well)

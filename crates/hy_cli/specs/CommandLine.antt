@@ -1,7 +1,8 @@
 -- The command line of the program: what it takes, and what its words say.
-use Rattle.std.specs.Prelude.{◌≡◌, ◌≢◌, ◌≤◌, ⊤, ℕ, true, false, List, [], ◌∷◌, Some, Ok, codes, map}
+use Rattle.std.specs.Prelude.{◌≡◌, ◌≢◌, ◌≤◌, ⊤, ℕ, true, false, List, [], ◌∷◌, Option, Some, Ok, codes, map}
 use Rattle.std.specs.Prelude.{IsSomeAnd, MatchOption}
 use Rattle.std.specs.Borrow.{Bor}
+use Rattle.std.specs.Option.{option_copied}
 use Rattle.std.specs.Str.Parse.{ParsesUnsigned}
 use Rattle.std.specs.declared.num.ParseIntError.{ParseIntError}
 use Rattle.clap.specs.Walk.{first_of}
@@ -19,10 +20,12 @@ use Rattle.hy_cli.specs.declared.words.LineFault.TheVariants as fault
 
 -- ---- what the program takes
 
--- a parameter of a command: any word at its place, `--name NUMBER`, `--name NUMBER` that may be left out, or either of the
--- two, that which may be left out first, with a number that is at least the first and at most the second of two others
+-- a parameter of a command: any word at its place, `--name TEXT` that may be left out, `--name NUMBER`, `--name NUMBER` that
+-- may be left out, or either of the last two, that which may be left out first, with a number that is at least the first and
+-- at most the second of two others
 pub data Parameter : Type 0 where
   required_text : Text → Parameter
+  optional_text : Text → Parameter
   required_number : Text → Parameter
   optional_number : Text → Parameter
   bounded_number : ℕ → ℕ → Text → Parameter
@@ -31,6 +34,10 @@ pub data Parameter : Type 0 where
 -- a word at its place; where several have one, they come in the order of the parameters
 abbrev pub text_rule : Text → Rule
 text_rule name = record (new_rule name) { value_names = 1 }
+
+-- `--name TEXT`
+abbrev pub option_rule : Text → Rule
+option_rule name = record (new_rule name) { long = Some name; value_names = 1 }
 
 -- `--name NUMBER`, where the number is within bounds
 abbrev pub bounded_rule : ℕ → ℕ → Text → Rule
@@ -51,6 +58,7 @@ required rule = record rule { required = true }
 -- what the parser knows of a parameter
 abbrev pub rule_for : Parameter → Rule
 rule_for (required_text name) = required (text_rule name)
+rule_for (optional_text name) = option_rule name
 rule_for (required_number name) = required (number_rule name)
 rule_for (optional_number name) = number_rule name
 rule_for (bounded_number low high name) = bounded_rule low high name
@@ -95,10 +103,15 @@ most_sessions = 16
 abbrev pub most_commands : ℕ
 most_commands = 100_000
 
--- `storm DIR --terminals T --sessions S --commands K`
+-- `storm DIR --terminals T --sessions S --commands K [--log FILE]`
 abbrev pub storm_parameters : List Parameter
 storm_parameters = required_text (codes "directory") ∷ required_within 1 most_terminals (codes "terminals")
-    ∷ required_within 0 most_sessions (codes "sessions") ∷ required_within 0 most_commands (codes "commands") ∷ []
+    ∷ required_within 0 most_sessions (codes "sessions") ∷ required_within 0 most_commands (codes "commands")
+    ∷ optional_text (codes "log") ∷ []
+
+-- `recover DIR LOG [--out DIR2]`
+abbrev pub recover_parameters : List Parameter
+recover_parameters = required_text (codes "directory") ∷ required_text (codes "log") ∷ optional_text (codes "out") ∷ []
 
 -- what the parser knows of a command
 abbrev pub command_of : Text → List Parameter → Shape
@@ -108,7 +121,7 @@ command_of name parameters = record (new_shape name) { rules = map rule_for para
 abbrev pub commands : List (Text × List Parameter)
 commands = (codes "first", first_parameters) ∷ (codes "gen", generate_parameters) ∷ (codes "check", check_parameters)
     ∷ (codes "script", script_parameters) ∷ (codes "query", query_parameters)
-    ∷ (codes "storm", storm_parameters) ∷ []
+    ∷ (codes "storm", storm_parameters) ∷ (codes "recover", recover_parameters) ∷ []
 
 -- the program without its commands
 abbrev pub bare_app : App
@@ -155,6 +168,10 @@ Spells number text = ParsesUnsigned {E = ParseIntError} 64 10 text (Ok number)
 abbrev pub SaysText : Text → List Row → Text → Type 0
 SaysText name rows text = first_of name rows ≡ Some text
 
+-- what is given for the name is this text, and where nothing is, there is none
+abbrev pub SaysTextOrNone : Text → List Row → Option Text → Type 0
+SaysTextOrNone name rows text = first_of name rows ≡ text
+
 -- what is given for the name spells this number
 abbrev pub SaysNumber : Text → List Row → ℕ → Type 0
 SaysNumber name rows number = IsSomeAnd (one_of name rows) (Spells number)
@@ -182,11 +199,16 @@ SaysLine command (line.Script directory file frames kept) = (command.0 ≡ codes
 SaysLine command (line.Query directory text) = (command.0 ≡ codes "query")
     × SaysText (codes "directory") command.1 directory.now
     × SaysText (codes "text") command.1 text.now
-SaysLine command (line.Storm directory terminals sessions commands) = (command.0 ≡ codes "storm")
+SaysLine command (line.Storm directory terminals sessions commands log) = (command.0 ≡ codes "storm")
     × SaysText (codes "directory") command.1 directory.now
     × SaysNumber (codes "terminals") command.1 terminals
     × SaysNumber (codes "sessions") command.1 sessions
     × SaysNumber (codes "commands") command.1 commands
+    × SaysTextOrNone (codes "log") command.1 (option_copied log)
+SaysLine command (line.Recover directory log out) = (command.0 ≡ codes "recover")
+    × SaysText (codes "directory") command.1 directory.now
+    × SaysText (codes "log") command.1 log.now
+    × SaysTextOrNone (codes "out") command.1 (option_copied out)
 
 -- a number is at least one and at most another
 abbrev pub IsIn : ℕ → ℕ → ℕ → Type 0
@@ -195,7 +217,7 @@ IsIn low high number = (low ≤ number) × (number ≤ high)
 -- a command line's limits are ones that a partition may have, and a storm's size is one that a storm may have
 abbrev pub HasLimits : Line → Type 0
 HasLimits (line.Script directory file frames kept) = IsIn 1 most_frames frames × IsIn 1 most_kept kept
-HasLimits (line.Storm directory terminals sessions commands) =
+HasLimits (line.Storm directory terminals sessions commands log) =
     IsIn 1 most_terminals terminals × IsIn 0 most_sessions sessions × IsIn 0 most_commands commands
 HasLimits other = ⊤
 

@@ -1,5 +1,5 @@
 -- Worked examples, which the checker computes: what words say, and which faults they have.
-use Rattle.std.specs.Prelude.{◌≡◌, Option, Some, List, [], ◌∷◌, codes, option_map, refl}
+use Rattle.std.specs.Prelude.{◌≡◌, Option, None, Some, List, [], ◌∷◌, codes, option_map, refl}
 use Rattle.clap.specs.Walk.{first_of}
 use Rattle.clap.specs.Words.{Text, one_of, subcommand_of}
 use Rattle.clap.specs.Faults.{fault_of}
@@ -214,3 +214,53 @@ pub sessions-missing : fault_of program_app
     (codes "storm" ∷ codes "d" ∷ codes "--terminals=1" ∷ codes "--commands=0" ∷ []) ≡ kind.MissingRequiredArgument ∷ []
 unfolding clap_on_literals
 sessions-missing = refl
+
+-- a storm with a log, and one without
+abbrev pub log_text : List Text → Option (Option Text)
+log_text words = option_map (λ command. first_of (codes "log") command.1) (subcommand_of program_app words)
+
+abbrev pub logged_given : List Text
+logged_given = codes "storm" ∷ codes "d" ∷ codes "--terminals=1" ∷ codes "--log" ∷ codes "l" ∷ codes "--sessions=0"
+    ∷ codes "--commands=5" ∷ []
+
+pub logged-taken : fault_of program_app logged_given ≡ []
+unfolding clap_on_literals
+logged-taken = refl
+
+pub logged-text : log_text logged_given ≡ Some (Some (codes "l"))
+unfolding clap_on_literals
+logged-text = refl
+
+pub unlogged-text : log_text storm_given ≡ Some None
+unfolding clap_on_literals
+unlogged-text = refl
+
+-- a folder, a log and a folder for what comes of it
+abbrev pub recover_given : List Text
+recover_given = codes "recover" ∷ codes "d" ∷ codes "--out=e" ∷ codes "l" ∷ []
+
+pub recover-taken : fault_of program_app recover_given ≡ []
+unfolding clap_on_literals
+recover-taken = refl
+
+-- the texts of the folder, of the log and of the other folder
+abbrev pub recover_texts : List Text → Option (Option Text × Option Text × Option Text)
+recover_texts words = option_map (λ command. (
+  first_of (codes "directory") command.1,
+  first_of (codes "log") command.1,
+  first_of (codes "out") command.1,
+)) (subcommand_of program_app words)
+
+pub recover-texts : recover_texts recover_given ≡ Some (Some (codes "d"), Some (codes "l"), Some (codes "e"))
+unfolding clap_on_literals
+recover-texts = refl
+
+-- without the other folder, and without a log
+pub recover_alone-texts : recover_texts (codes "recover" ∷ codes "d" ∷ codes "l" ∷ [])
+    ≡ Some (Some (codes "d"), Some (codes "l"), None)
+unfolding clap_on_literals
+recover_alone-texts = refl
+
+pub log-missing : fault_of program_app (codes "recover" ∷ codes "d" ∷ []) ≡ kind.MissingRequiredArgument ∷ []
+unfolding clap_on_literals
+log-missing = refl

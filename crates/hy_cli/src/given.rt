@@ -1,9 +1,10 @@
 //! Reads what is given for a parameter, where the parser takes the words.
 
 ghost use Rattle.std.specs.Prelude.{ℕ, IfSome, IsSome, IsSomeAnd};
+ghost use Rattle.std.specs.Option.{option_copied};
 ghost use Rattle.clap.specs.Walk.{first_of, one_of};
 ghost use Rattle.clap.specs.Words.{IsUnsignedIn, found_of, rows_of};
-ghost use Rattle.hy_cli.specs.CommandLine.{IsIn, IsNumber, SaysNumber, SaysNumberOr, SaysText};
+ghost use Rattle.hy_cli.specs.CommandLine.{IsIn, IsNumber, SaysNumber, SaysNumberOr, SaysText, SaysTextOrNone};
 
 use clap::ArgMatches;
 
@@ -16,6 +17,13 @@ pub fn text_given<'a>(given: &ArgMatches<'a>, name: &str) -> &'a str
         unreachable!()
     };
     text
+}
+
+/// The text that is given for `name`, where one is.
+pub fn text_or_none<'a>(given: &ArgMatches<'a>, name: &str) -> Option<&'a str>
+    ensures { SaysTextOrNone name.now (rows_of (found_of given.now)) (option_copied result) }
+{
+    given.get_str(name)
 }
 
 /// The number that is given for `name`.

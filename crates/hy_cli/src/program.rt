@@ -3,7 +3,7 @@
 ghost use Rattle.std.specs.Prelude.{◌≡◌, IfOk, codes, false, true};
 ghost use Rattle.clap.specs.Words.{app_of, rule_of, shape_of};
 ghost use Rattle.clap.specs.declared.builder.command.Command.TheViews.{out-Command as fields_of};
-ghost use Rattle.hy_cli.specs.CommandLine.{bare_app, bounded_number, check_parameters, command_of, first_parameters, generate_parameters, optional_number, program_app, query_parameters, required_number, required_text, required_within, rule_for, script_parameters, storm_parameters};
+ghost use Rattle.hy_cli.specs.CommandLine.{bare_app, bounded_number, check_parameters, command_of, first_parameters, generate_parameters, optional_number, optional_text, program_app, query_parameters, recover_parameters, required_number, required_text, required_within, rule_for, script_parameters, storm_parameters};
 
 use clap::builder::ValueParser;
 use clap::{Arg, Command, value_parser};
@@ -36,7 +36,8 @@ pub fn program<'a>(alloc: Global) -> Result<Command<'a>, AllocError>
         .subcommand(check(alloc)?)?
         .subcommand(script(alloc)?)?
         .subcommand(query(alloc)?)?
-        .subcommand(storm(alloc)?)
+        .subcommand(storm(alloc)?)?
+        .subcommand(recover(alloc)?)
 }
 
 /// The program without its commands.
@@ -129,7 +130,7 @@ fn query<'a>(alloc: Global) -> Result<Command<'a>, AllocError>
         .arg(positional(alloc, "text", "TEXT", "The query, as one word"))
 }
 
-/// `storm DIR --terminals T --sessions S --commands K`.
+/// `storm DIR --terminals T --sessions S --commands K [--log FILE]`.
 fn storm<'a>(alloc: Global) -> Result<Command<'a>, AllocError>
     ensures { IfOk result (λ command. (shape_of command ≡ command_of (codes "storm") storm_parameters)
         × ((fields_of command).has_globals ≡ false)) }
@@ -162,6 +163,31 @@ fn storm<'a>(alloc: Global) -> Result<Command<'a>, AllocError>
             "How many commands each terminal hands in, from 0 to 100,000",
             0,
             MAX_COMMANDS,
+        ))?
+        .arg(text_option(
+            alloc,
+            "log",
+            "FILE",
+            "The file that what is committed is written to, which is made anew: none if it isn't given",
+        ))
+}
+
+/// `recover DIR LOG [--out DIR2]`.
+fn recover<'a>(alloc: Global) -> Result<Command<'a>, AllocError>
+    ensures { IfOk result (λ command. (shape_of command ≡ command_of (codes "recover") recover_parameters)
+        × ((fields_of command).has_globals ≡ false)) }
+{
+    Command::new(alloc, "recover")
+        .about(
+            "Runs what a log has again on the database in nine files, and tests what comes of it",
+        )
+        .arg(positional(alloc, "directory", "DIR", "The folder of the files"))?
+        .arg(positional(alloc, "log", "LOG", "The file of the log"))?
+        .arg(text_option(
+            alloc,
+            "out",
+            "DIR2",
+            "The folder that what comes of it is written to as nine files: none if it isn't given",
         ))
 }
 
@@ -172,6 +198,16 @@ fn positional<'a>(alloc: Global, name: &'a str, value: &'a str, help: &'a str) -
     Arg::new(alloc, name)
         .value_name(value)
         .required(true)
+        .help(help)
+}
+
+/// `--name TEXT`, a word that may be left out.
+fn text_option<'a>(alloc: Global, name: &'a str, value: &'a str, help: &'a str) -> Arg<'a>
+    ensures { (rule_of result ≡ rule_for (optional_text name.entry.now)) × (result.global ≡ false) }
+{
+    Arg::new(alloc, name)
+        .long(name)
+        .value_name(value)
         .help(help)
 }
 

@@ -4,10 +4,10 @@ ghost use Rattle.std.specs.Prelude.{◌≡◌, [], IfErr, IfOk, IfSome, MatchRes
 ghost use Rattle.clap.specs.Faults.{fault_of, is_simple_and_free};
 ghost use Rattle.clap.specs.Words.{HasKind, app_of, found_of, has_subcommand, is_simple, rows_of, subcommand_of, subcommand_rows_of};
 ghost use Rattle.clap.specs.declared.builder.command.Command.TheViews.{out-Command as fields_of};
-ghost use Rattle.hy_cli.specs.CommandLine.{AreTaken, HasFault, HasLimits, IsBehind, Says, SaysLine, check_parameters, first_parameters, generate_parameters, program_app, query_parameters, script_parameters, storm_parameters, texts_of};
+ghost use Rattle.hy_cli.specs.CommandLine.{AreTaken, HasFault, HasLimits, IsBehind, Says, SaysLine, check_parameters, first_parameters, generate_parameters, program_app, query_parameters, recover_parameters, script_parameters, storm_parameters, texts_of};
 ghost use Rattle.hy_cli.specs.inside.Given.{AreGiven, IsKnown};
 
-use crate::given::{number_given, number_or, text_given};
+use crate::given::{number_given, number_or, text_given, text_or_none};
 use crate::program::program;
 use clap::error::ErrorKind;
 use clap::{ArgMatches, Command};
@@ -75,6 +75,17 @@ pub enum Line<'a> {
         sessions: u64,
         /// How many commands each terminal hands in, from 0 to 100,000.
         commands: u64,
+        /// The file of the log, where there is to be one.
+        log: Option<&'a str>,
+    },
+    /// What a log has is run again on the database in files.
+    Recover {
+        /// The folder of the files.
+        directory: &'a str,
+        /// The file of the log.
+        log: &'a str,
+        /// The folder that what comes of it is written to, where it is to be.
+        out: Option<&'a str>,
     },
 }
 
@@ -121,6 +132,7 @@ pub fn read_words<'a>(alloc: Global, words: &'a [&'a str]) -> Result<Line<'a>, L
         "script" => Ok(read_script(given)),
         "query" => Ok(read_query(given)),
         "storm" => Ok(read_storm(given)),
+        "recover" => Ok(read_recover(given)),
         _ => unreachable!(),
     }
 }
@@ -219,5 +231,18 @@ fn read_storm<'a>(given: &ArgMatches<'a>) -> Line<'a>
         terminals: number_given(given, "terminals"),
         sessions: number_given(given, "sessions"),
         commands: number_given(given, "commands"),
+        log: text_or_none(given, "log"),
+    }
+}
+
+/// The line that what is given to `recover` says.
+fn read_recover<'a>(given: &ArgMatches<'a>) -> Line<'a>
+    requires { AreGiven (rows_of (found_of given.now)) recover_parameters }
+    ensures { SaysLine (codes "recover", rows_of (found_of given.now)) result }
+{
+    Line::Recover {
+        directory: text_given(given, "directory"),
+        log: text_given(given, "log"),
+        out: text_or_none(given, "out"),
     }
 }

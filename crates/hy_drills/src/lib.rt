@@ -8,6 +8,8 @@ mod gates;
 #[cfg(test)]
 mod halls;
 #[cfg(test)]
+mod log_tests;
+#[cfg(test)]
 mod order_tests;
 #[cfg(test)]
 mod refusal_tests;

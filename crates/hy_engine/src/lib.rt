@@ -5,6 +5,7 @@
 //! an answer.
 #![tactic(auto)]
 
+mod draining;
 mod engine;
 mod gate;
 mod holding;

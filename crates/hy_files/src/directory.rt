@@ -99,6 +99,7 @@ fn read_file<F: FileSystem>(
 ) -> Result<Vec<u8>, FileFault>
     ensures files { F.files system.new ≡ F.files system.old }
     ensures folders { F.folders system.new ≡ F.folders system.old }
+    ensures unwritten { F.unwritten system.new ≡ F.unwritten system.old }
     ensures bytes { IfOk result
         (λ bytes. HasFile (F.files system.old) (path_of directory.now table) bytes.items) }
     ensures fault { IfErr result
@@ -143,6 +144,7 @@ pub fn read_files<F: FileSystem>(
 ) -> Result<Vec<Vec<u8>>, FileFault>
     ensures files { F.files system.new ≡ F.files system.old }
     ensures folders { F.folders system.new ≡ F.folders system.old }
+    ensures unwritten { F.unwritten system.new ≡ F.unwritten system.old }
     ensures texts { IfOk result
         (λ texts. AreFiles (F.files system.old) directory.now tables (map (λ text. text.items) texts.items)) }
     ensures fault { IfErr result (IsUnread (F.files system.old) directory.now) }

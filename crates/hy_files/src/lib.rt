@@ -4,9 +4,14 @@
 mod directory;
 mod file_system;
 mod load;
+mod log_file;
 mod memory;
+mod memory_log;
+mod noted;
 
 pub use directory::{FileFault, file_name};
 pub use file_system::{FileSystem, SystemFiles};
 pub use load::{read_load, write_load};
+pub use log_file::LogFile;
 pub use memory::MemoryFiles;
+pub use memory_log::MemoryLog;

@@ -24,6 +24,7 @@ pub fn read_load<F: FileSystem>(
 ) -> Result<Load, FileFault>
     ensures files { F.files system.new ≡ F.files system.old }
     ensures folders { F.folders system.new ≡ F.folders system.old }
+    ensures unwritten { F.unwritten system.new ≡ F.unwritten system.old }
     ensures load { MatchResult result (λ load. HaveTexts (F.files system.old) directory.now (SayLoad load))
         (IsReadFault (F.files system.old) directory.now) }
 {

@@ -5,6 +5,7 @@ ghost use Rattle.hy_files.specs.Files.{no_files};
 ghost use Rattle.hy_files.specs.MemoryFiles.{files_on};
 
 use crate::file_system::FileSystem;
+use crate::memory_log::MemoryLog;
 use std::alloc::Global;
 use std::collections::BTreeMap;
 use std::io;
@@ -29,6 +30,8 @@ impl MemoryFiles {
 }
 
 impl FileSystem for MemoryFiles {
+    type Log = MemoryLog;
+
     ghost files = { λ memory. Some (files_on memory) };
 
     fn read(&mut self, _alloc: Global, path: &str) -> io::Result<Vec<u8>> {
@@ -46,6 +49,17 @@ impl FileSystem for MemoryFiles {
     }
 
     fn make_folder(&mut self, _path: &str) -> io::Result<()> {
+        Ok(())
+    }
+
+    fn begin_log(&mut self, alloc: Global, path: &str) -> io::Result<MemoryLog> {
+        self.write(path, &[])?;
+        Ok(MemoryLog::new(alloc))
+    }
+
+    fn end_log(&mut self, path: &str, log: MemoryLog) -> io::Result<()> {
+        let name = path.to_string(self.alloc)?;
+        self.files.insert(name, log.into_bytes())?;
         Ok(())
     }
 }

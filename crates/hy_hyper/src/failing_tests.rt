@@ -4,7 +4,7 @@ ghost use Rattle.std.specs.Prelude.{None};
 
 use hy_commands::Reply;
 use hy_events::write_reply;
-use hy_files::{FileFault, FileSystem, MemoryFiles, read_load, write_load};
+use hy_files::{FileFault, FileSystem, MemoryFiles, MemoryLog, read_load, write_load};
 use hy_output::{Spare, Stream};
 use hy_program::{Ending, run_words};
 use hy_schema::{Refusal, Table};
@@ -61,6 +61,8 @@ struct Locked {
 }
 
 impl FileSystem for Locked {
+    type Log = MemoryLog;
+
     ghost files = { λ _. None };
 
     fn read(&mut self, _alloc: Global, _path: &str) -> io::Result<Vec<u8>> {
@@ -76,6 +78,14 @@ impl FileSystem for Locked {
 
     fn make_folder(&mut self, _path: &str) -> io::Result<()> {
         Err(io::Error::from(io::ErrorKind::AlreadyExists))
+    }
+
+    fn begin_log(&mut self, _alloc: Global, _path: &str) -> io::Result<MemoryLog> {
+        Err(io::Error::from(io::ErrorKind::PermissionDenied))
+    }
+
+    fn end_log(&mut self, _path: &str, _log: MemoryLog) -> io::Result<()> {
+        Ok(())
     }
 }
 

@@ -46,6 +46,7 @@ module _ (directory text : List ℕ) (known : Option FilesByPath) (Unprinted : T
   query_fault (files.CannotRead table) (fault.Refused refusal) is missing unprinted = absurd (is)
   query_fault (files.CannotRead table) (fault.CannotWrite path) is missing unprinted = absurd (is)
   query_fault (files.CannotRead table) (fault.CannotReadFile path) is missing unprinted = absurd (is)
+  query_fault (files.CannotRead table) (fault.CannotWriteFile path) is missing unprinted = absurd (is)
   query_fault (files.CannotRead table) (fault.BadEvent number) is missing unprinted = absurd (is)
   query_fault (files.CannotRead table) (fault.Writer error) is missing unprinted = absurd (is)
   query_fault (files.CannotWrite table) made is never unprinted = absurd (never)

@@ -36,6 +36,7 @@ module _ (directory : List ℕ) (known : Option FilesByPath) (Unprinted : Type 0
   check_fault (files.CannotRead table) (fault.Refused refusal) is missing unprinted = absurd (is)
   check_fault (files.CannotRead table) (fault.CannotWrite path) is missing unprinted = absurd (is)
   check_fault (files.CannotRead table) (fault.CannotReadFile path) is missing unprinted = absurd (is)
+  check_fault (files.CannotRead table) (fault.CannotWriteFile path) is missing unprinted = absurd (is)
   check_fault (files.CannotRead table) (fault.BadEvent number) is missing unprinted = absurd (is)
   check_fault (files.CannotRead table) (fault.Writer error) is missing unprinted = absurd (is)
   check_fault (files.CannotWrite table) made is never unprinted = absurd (never)

@@ -4,5 +4,6 @@ pub mod FirstLaws
 pub mod GenerateLaws
 pub mod RunLaws
 pub mod QueryLaws
+pub mod RecoverLaws
 pub mod AskLaws
 pub mod StormLaws

@@ -15,41 +15,55 @@ module _ (files : KnownFiles) (unwritten : BothPaths) (bytes : KnownBytes) (Unpr
   fault_weaker (line.First amount) (fault.CannotRead path) is = absurd (is)
   fault_weaker (line.First amount) (fault.CannotWrite path) is = absurd (is)
   fault_weaker (line.First amount) (fault.CannotReadFile path) is = absurd (is)
+  fault_weaker (line.First amount) (fault.CannotWriteFile path) is = absurd (is)
   fault_weaker (line.First amount) (fault.BadEvent number) is = absurd (is)
   fault_weaker (line.Generate directory warehouses customers items) (fault.Refused refusal) is = (is.0, leads is.1)
   fault_weaker (line.Generate directory warehouses customers items) (fault.Writer error) is = is
   fault_weaker (line.Generate directory warehouses customers items) (fault.CannotRead path) is = (is.0, is.1, leads is.2)
   fault_weaker (line.Generate directory warehouses customers items) (fault.CannotWrite path) is = (is.0, is.1, leads is.2)
   fault_weaker (line.Generate directory warehouses customers items) (fault.CannotReadFile path) is = absurd (is.0)
+  fault_weaker (line.Generate directory warehouses customers items) (fault.CannotWriteFile path) is = absurd (is.0)
   fault_weaker (line.Generate directory warehouses customers items) (fault.BadEvent number) is = absurd (is.0)
   fault_weaker (line.Check directory) (fault.Refused refusal) is = (is.0, leads is.1)
   fault_weaker (line.Check directory) (fault.Writer error) is = is
   fault_weaker (line.Check directory) (fault.CannotRead path) is = (is.0, leads is.1)
   fault_weaker (line.Check directory) (fault.CannotWrite path) is = (is.0, leads is.1)
   fault_weaker (line.Check directory) (fault.CannotReadFile path) is = absurd (is.0)
+  fault_weaker (line.Check directory) (fault.CannotWriteFile path) is = absurd (is.0)
   fault_weaker (line.Check directory) (fault.BadEvent number) is = absurd (is.0)
   fault_weaker (line.Script directory file frames kept) (fault.Refused refusal) is = (is.0, leads is.1)
   fault_weaker (line.Script directory file frames kept) (fault.Writer error) is = is
   fault_weaker (line.Script directory file frames kept) (fault.CannotRead path) is = (is.0, leads is.1)
   fault_weaker (line.Script directory file frames kept) (fault.CannotWrite path) is = absurd (is.0)
   fault_weaker (line.Script directory file frames kept) (fault.CannotReadFile path) is = (is.0, leads is.1)
+  fault_weaker (line.Script directory file frames kept) (fault.CannotWriteFile path) is = absurd (is.0)
   fault_weaker (line.Script directory file frames kept) (fault.BadEvent number) is = is
   fault_weaker (line.Query directory text) (fault.Refused refusal) is = (is.0, leads is.1)
   fault_weaker (line.Query directory text) (fault.Writer error) is = is
   fault_weaker (line.Query directory text) (fault.CannotRead path) is = (is.0, leads is.1)
   fault_weaker (line.Query directory text) (fault.CannotWrite path) is = (is.0, leads is.1)
   fault_weaker (line.Query directory text) (fault.CannotReadFile path) is = absurd (is.0)
+  fault_weaker (line.Query directory text) (fault.CannotWriteFile path) is = absurd (is.0)
   fault_weaker (line.Query directory text) (fault.BadEvent number) is = absurd (is.0)
-  fault_weaker (line.Storm directory terminals sessions commands) (fault.Refused refusal) (inl is) = inl (is.0, leads is.1)
-  fault_weaker (line.Storm directory terminals sessions commands) (fault.Refused refusal) (inr (lists, load, inl unprinted)) =
+  fault_weaker (line.Storm directory terminals sessions commands log) (fault.Refused refusal) (inl is) = inl (is.0, leads is.1)
+  fault_weaker (line.Storm directory terminals sessions commands log) (fault.Refused refusal) (inr (lists, load, inl unprinted)) =
       inr (lists, load, inl (leads unprinted))
-  fault_weaker (line.Storm directory terminals sessions commands) (fault.Refused refusal) (inr (lists, load, inr printed)) =
+  fault_weaker (line.Storm directory terminals sessions commands log) (fault.Refused refusal) (inr (lists, load, inr printed)) =
       inr (lists, load, inr printed)
-  fault_weaker (line.Storm directory terminals sessions commands) (fault.Writer error) is = is
-  fault_weaker (line.Storm directory terminals sessions commands) (fault.CannotRead path) is = (is.0, leads is.1)
-  fault_weaker (line.Storm directory terminals sessions commands) (fault.CannotWrite path) is = (is.0, leads is.1)
-  fault_weaker (line.Storm directory terminals sessions commands) (fault.CannotReadFile path) is = absurd (is.0)
-  fault_weaker (line.Storm directory terminals sessions commands) (fault.BadEvent number) is = absurd (is.0)
+  fault_weaker (line.Storm directory terminals sessions commands log) (fault.Writer error) is = is
+  fault_weaker (line.Storm directory terminals sessions commands log) (fault.CannotRead path) is = (is.0, leads is.1)
+  fault_weaker (line.Storm directory terminals sessions commands log) (fault.CannotWrite path) is = (is.0, leads is.1)
+  fault_weaker (line.Storm directory terminals sessions commands log) (fault.CannotReadFile path) is = absurd (is.0)
+  fault_weaker (line.Storm directory terminals sessions commands log) (fault.CannotWriteFile path) is = (is.0, is.1, is.2, leads is.3)
+  fault_weaker (line.Storm directory terminals sessions commands log) (fault.BadEvent number) is = absurd (is.0)
+  fault_weaker (line.Recover directory log out) (fault.Refused refusal) (inl is) = inl (is.0, is.1, leads is.2)
+  fault_weaker (line.Recover directory log out) (fault.Refused refusal) (inr is) = inr is
+  fault_weaker (line.Recover directory log out) (fault.Writer error) is = is
+  fault_weaker (line.Recover directory log out) (fault.CannotRead path) is = (is.0, is.1, leads is.2)
+  fault_weaker (line.Recover directory log out) (fault.CannotReadFile path) is = (is.0, is.1, leads is.2)
+  fault_weaker (line.Recover directory log out) (fault.CannotWrite path) is = is
+  fault_weaker (line.Recover directory log out) (fault.CannotWriteFile path) is = absurd (is.0)
+  fault_weaker (line.Recover directory log out) (fault.BadEvent number) is = absurd (is.0)
 
   undone_weaker : (words : List (List ℕ)) (why : RunFault) → AreUndone words files unwritten bytes Unprinted why
       → AreUndone words files unwritten bytes Other why

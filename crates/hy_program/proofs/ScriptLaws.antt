@@ -13,7 +13,8 @@ use Rattle.hy_script.specs.declared.script.ScriptFault.TheVariants as scripts
 use Rattle.hy_program.specs.declared.fault.RunFault.{RunFault}
 use Rattle.hy_program.specs.declared.script.Limits.{Limits}
 use Rattle.hy_program.specs.Faults.{IsBlamedRightly, IsOfScript}
-use Rattle.hy_program.specs.Script.{HasScript, IsScriptFaultOf}
+use Rattle.hy_program.specs.Reading.{HasBoth}
+use Rattle.hy_program.specs.Script.{IsScriptFaultOf}
 
 pub if_err : {T E : Type 0} {P Q : E → Type 0} (r : Result T E) → ((error : E) → P error → Q error) → IsErrAnd r P → IfErr r Q
 if_err (Ok value) leads is = absurd is
@@ -31,7 +32,7 @@ broken_nine directory known found broken is why =
 
 module _ (directory file : List ℕ) (known : Option FilesByPath) where
   pub script_fault : (limits : Limits) (lists : Lists) (script : List ℕ) (old new : Option (List ℕ)) (Unprinted Failed : Type 0)
-      → HasScript directory file known lists script → (found : ScriptFault)
+      → HasBoth directory file known lists script → (found : ScriptFault)
       → IsScriptFault 4_096 lists limits.frames limits.kept script old new Unprinted Failed found
       → (made : RunFault) → IsOfScript found made → IsScriptFaultOf directory file limits known old new Unprinted made
   script_fault limits lists script old new Unprinted Failed has (scripts.Refused refusal) why made is =

@@ -21,6 +21,7 @@ fault_text (fault.Refused refusal) = Some (codes "refused " ++ refusal_text refu
 fault_text (fault.CannotRead path) = Some (codes "cannot read " ++ path_text path)
 fault_text (fault.CannotWrite path) = Some (codes "cannot write " ++ path_text path)
 fault_text (fault.CannotReadFile path) = Some (codes "cannot read " ++ path.now)
+fault_text (fault.CannotWriteFile path) = Some (codes "cannot write " ++ path.now)
 fault_text (fault.BadEvent number) = Some (codes "bad event on line " ++ decimal number)
 fault_text (fault.Writer error) = None
 
@@ -32,6 +33,7 @@ IsBlamedRightly has_failed (fault.CannotRead path) = ⊤
 IsBlamedRightly has_failed (fault.CannotReadFile path) = ⊤
 IsBlamedRightly has_failed (fault.BadEvent number) = ⊤
 IsBlamedRightly has_failed (fault.CannotWrite path) = ⊤
+IsBlamedRightly has_failed (fault.CannotWriteFile path) = ⊤
 
 -- the line of the fault stands behind the bytes that were there
 abbrev pub Explains : RunFault → Option (List ℕ) → Option (List ℕ) → Type 0
@@ -52,6 +54,7 @@ IsOfFiles directory Is (fault.Refused refusal) = Is (files.Refused refusal)
 IsOfFiles directory Is (fault.CannotRead path) = (path.directory.now ≡ directory) × Is (files.CannotRead path.table)
 IsOfFiles directory Is (fault.CannotWrite path) = (path.directory.now ≡ directory) × Is (files.CannotWrite path.table)
 IsOfFiles directory Is (fault.CannotReadFile path) = ⊥
+IsOfFiles directory Is (fault.CannotWriteFile path) = ⊥
 IsOfFiles directory Is (fault.BadEvent number) = ⊥
 IsOfFiles directory Is (fault.Writer error) = ⊥
 

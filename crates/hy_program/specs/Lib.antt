@@ -3,6 +3,8 @@ pub mod Faults
 pub mod First
 pub mod Generate
 pub mod Generated
+pub mod Reading
+pub mod Recover
 pub mod Script
 pub mod Query
 pub mod Storm

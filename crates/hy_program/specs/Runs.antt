@@ -1,6 +1,7 @@
 -- What a run of the program leaves, by the way in which it ended. Of files and of bytes that were written, a pair has
 -- what was there before, and what is there after it, as far as they are known.
 use Rattle.std.specs.Prelude.{◌≡◌, ◌⊎◌, ℕ, List, Option}
+use Rattle.std.specs.Option.{option_copied}
 use Rattle.hy_schema.specs.declared.refusal.Refusal.TheVariants as refusals
 use Rattle.hy_files.specs.Directory.{KeepsOtherFiles, tables}
 use Rattle.hy_files.specs.Files.{AddsPath, FilesByPath, KnownPaths}
@@ -19,7 +20,8 @@ use Rattle.hy_program.specs.declared.script.Limits.{Limits}
 use Rattle.hy_program.specs.Script.{IsScriptDone, IsScriptFaultOf}
 use Rattle.hy_program.specs.Generate.{IsGenerateFault, IsGenerated, IsSize}
 use Rattle.hy_program.specs.Query.{IsQueryDone, IsQueryFault}
-use Rattle.hy_program.specs.Storm.{IsStormDone, IsStormFault}
+use Rattle.hy_program.specs.Recover.{IsRecoverDone, IsRecoverFault, KeepsFolder, Makes}
+use Rattle.hy_program.specs.Storm.{IsStormDone, IsStormFault, KeepsAllBut}
 
 abbrev pub KnownFiles : Type 0
 KnownFiles = Option FilesByPath × Option FilesByPath
@@ -51,11 +53,14 @@ IsDone (line.Check directory) files bytes = IsChecked directory.now files.0 byte
 IsDone (line.Script directory file frames kept) files bytes =
     IsScriptDone directory.now file.now (limits_of frames kept) files.0 bytes.0 bytes.1
 IsDone (line.Query directory text) files bytes = IsQueryDone directory.now text.now files.0 bytes.0 bytes.1
-IsDone (line.Storm directory terminals sessions commands) files bytes =
+IsDone (line.Storm directory terminals sessions commands log) files bytes =
     IsStormDone directory.now files.0 bytes.0 bytes.1
+IsDone (line.Recover directory log out) files bytes =
+    IsRecoverDone directory.now log.now (option_copied out) files bytes
 
 -- why a command line isn't done; where it is refused, nothing is printed, but for a script's answers to the events
--- before a bad one, and for the lines of a storm in which a thread ended early
+-- before a bad one, for the lines of a storm in which a thread ended early or the log failed, and for what was found behind a
+-- log and can't be saved
 abbrev pub IsFaultOf : Line → KnownFiles → BothPaths → KnownBytes → Type 0 → RunFault → Type 0
 IsFaultOf (line.First amount) files unwritten bytes unprinted why = IsFirstFault amount unprinted why
 IsFaultOf (line.Generate directory warehouses customers items) files unwritten bytes unprinted why =
@@ -65,24 +70,31 @@ IsFaultOf (line.Script directory file frames kept) files unwritten bytes unprint
     IsScriptFaultOf directory.now file.now (limits_of frames kept) files.0 bytes.0 bytes.1 unprinted why
 IsFaultOf (line.Query directory text) files unwritten bytes unprinted why =
     IsQueryFault directory.now text.now files.0 unprinted why
-IsFaultOf (line.Storm directory terminals sessions commands) files unwritten bytes unprinted why =
-    IsStormFault directory.now files.0 bytes.0 bytes.1 unprinted why
+IsFaultOf (line.Storm directory terminals sessions commands log) files unwritten bytes unprinted why =
+    IsStormFault directory.now (option_copied log) files.0 unwritten bytes.0 bytes.1 unprinted why
+IsFaultOf (line.Recover directory log out) files unwritten bytes unprinted why =
+    IsRecoverFault directory.now log.now (option_copied out) files unwritten bytes unprinted why
 
--- `gen` alone writes files, those of its folder, where there is a database of its size
+-- `gen` writes files, those of its folder, where there is a database of its size; a storm writes its log, and a recovery the
+-- files of its folder, where one is named. No other command line writes any
 abbrev pub MayWrite : Line → KnownFiles → Type 0
 MayWrite (line.Generate directory warehouses customers items) files =
     IsSize (size_of warehouses customers items) × KeepsOtherFiles files.0 files.1 directory.now tables
+MayWrite (line.Storm directory terminals sessions commands log) files = KeepsAllBut (option_copied log) files.0 files.1
+MayWrite (line.Recover directory log out) files = KeepsFolder (option_copied out) files
 MayWrite other files = ⊥
 
--- and it alone makes a folder, its own, where there is a database of its size
+-- `gen` makes a folder, its own, where there is a database of its size, and a recovery its own, where one is named
 abbrev pub MayMake : Line → BothPaths → Type 0
 MayMake (line.Generate directory warehouses customers items) folders =
     IsSize (size_of warehouses customers items) × AddsPath folders.0 folders.1 directory.now
+MayMake (line.Recover directory log out) folders = Makes (option_copied out) folders
 MayMake other folders = ⊥
 
--- a command line that was done has made no folder, but for `gen`, which was to make its own
+-- a command line that was done has made no folder, but for `gen` and a recovery, which were to make their own
 abbrev pub HasMade : Line → BothPaths → Type 0
 HasMade (line.Generate directory warehouses customers items) folders = AddsPath folders.0 folders.1 directory.now
+HasMade (line.Recover directory log out) folders = Makes (option_copied out) folders
 HasMade other folders = folders.1 ≡ folders.0
 
 -- the files stay as they were, but where the words say a command line that writes some

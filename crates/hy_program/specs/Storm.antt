@@ -1,10 +1,12 @@
 -- What `storm` does: it runs terminals and sessions on the database in the files of a folder, and prints what they came to.
-use Rattle.std.specs.Prelude.{◌≡◌, ◌⊎◌, ℕ, ℤ, List, ◌++◌, Option, None, Some, codes}
+use Rattle.std.specs.Prelude.{◌≡◌, ◌⊎◌, ⊤, ℕ, ℤ, List, ◌++◌, Option, None, Some, codes}
 use Rattle.std.specs.Fmt.{decimal, signed_decimal}
 use Rattle.std.specs.Io.KnownBytes.{Appends}
 use Rattle.hy_rows.specs.Tables.{Lists}
+use Rattle.std.specs.declared.io.Error.{Error}
 use Rattle.hy_schema.specs.declared.refusal.Refusal.{Refusal}
-use Rattle.hy_files.specs.Files.{FilesByPath}
+use Rattle.hy_schema.specs.declared.refusal.Refusal.TheVariants as refusals
+use Rattle.hy_files.specs.Files.{AddsPath, FilesByPath, IsOutOfMemory, KeepsOthers, KnownPaths}
 use Rattle.hy_files.specs.Loads.{IsReadFault}
 use Rattle.hy_storm.specs.declared.ending.Figures.{Figures}
 use Rattle.hy_storm.specs.Storms.{AreFigures}
@@ -30,21 +32,41 @@ storm_text figures =
     sums_text figures.commits figures.cents figures.kept figures.growth
     ++ rounds_text figures.rounds figures.shared ++ codes "conditions 1 2 3 4 5 6 7 8 9 10 12 hold\n"
 
--- a storm on a load came to figures, with this reason or none why a thread ended early; and their lines stand behind the
--- bytes that were there
+-- a storm on a load came to figures, with this reason or none why a thread ended early or the log failed; and their lines
+-- stand behind the bytes that were there
 abbrev pub IsStormPrinted : Lists → Option Refusal → Option (List ℕ) → Option (List ℕ) → Type 0
 IsStormPrinted lists early old new =
     (figures : Figures) × AreFigures lists figures × (figures.refusal ≡ early) × Appends old new (storm_text figures)
 
--- the files of the folder are those of a load, and a storm on it in which no thread ended early was printed
+-- the files of the folder are those of a load, and a storm on it in which no thread ended early and no log failed was printed
 abbrev pub IsStormDone : List ℕ → Option FilesByPath → Option (List ℕ) → Option (List ℕ) → Type 0
 IsStormDone directory files old new = (lists : Lists) × HasLoad files directory lists × IsStormPrinted lists None old new
 
--- why it isn't done: the files can't be read or are no load, or there was no storm on their load, before anything was
--- printed; or a thread ended early, behind the lines; or the output failed
-abbrev pub IsStormFault : List ℕ → Option FilesByPath → Option (List ℕ) → Option (List ℕ) → Type 0 → RunFault → Type 0
-IsStormFault directory files old new unprinted (fault.Writer error) = (lists : Lists) × HasLoad files directory lists
-IsStormFault directory files old new unprinted (fault.Refused refusal) =
+-- where a log is named, its file may be another one; no other file is
+abbrev pub KeepsAllBut : Option (List ℕ) → Option FilesByPath → Option FilesByPath → Type 0
+KeepsAllBut None old new = new ≡ old
+KeepsAllBut (Some path) old new = KeepsOthers old new path
+
+-- the log's file can't be written, or memory was refused
+abbrev pub IsWhyUnwritten : List ℕ → Error → RunFault → Type 0
+IsWhyUnwritten path error (fault.Refused refusal) = (refusal ≡ refusals.NoMemory) × IsOutOfMemory error
+IsWhyUnwritten path error (fault.CannotWriteFile written) = (written.now ≡ path) × (IsOutOfMemory error → ⊥)
+IsWhyUnwritten path error other = ⊥
+
+-- why there is no storm: it is refused, or the log's file can't be written, as the file system said
+abbrev pub IsNoStorm : Option (List ℕ) → KnownPaths × KnownPaths → RunFault → Type 0
+IsNoStorm log unwritten (fault.Refused refusal) = ⊤
+IsNoStorm log unwritten (fault.CannotWriteFile path) = (log ≡ Some path.now) × AddsPath unwritten.0 unwritten.1 path.now
+IsNoStorm log unwritten other = ⊥
+
+-- why it isn't done: the files can't be read or are no load, or the log's file can't be written, or there was no storm on
+-- their load, before anything was printed; or a thread ended early or the log failed, behind the lines; or the output failed
+abbrev pub IsStormFault : List ℕ → Option (List ℕ) → Option FilesByPath → KnownPaths × KnownPaths → Option (List ℕ) → Option (List ℕ)
+    → Type 0 → RunFault → Type 0
+IsStormFault directory log files unwritten old new unprinted (fault.Writer error) = (lists : Lists) × HasLoad files directory lists
+IsStormFault directory log files unwritten old new unprinted (fault.CannotWriteFile path) =
+    ((lists : Lists) × HasLoad files directory lists) × (log ≡ Some path.now) × AddsPath unwritten.0 unwritten.1 path.now × unprinted
+IsStormFault directory log files unwritten old new unprinted (fault.Refused refusal) =
     (IsOfFiles directory (IsReadFault files directory) (fault.Refused refusal) × unprinted)
     ⊎ ((lists : Lists) × HasLoad files directory lists × (unprinted ⊎ IsStormPrinted lists (Some refusal) old new))
-IsStormFault directory files old new unprinted why = IsOfFiles directory (IsReadFault files directory) why × unprinted
+IsStormFault directory log files unwritten old new unprinted why = IsOfFiles directory (IsReadFault files directory) why × unprinted

@@ -36,7 +36,7 @@ pub fn run_check<'a, F: FileSystem, O: Output>(
 }
 
 /// What `check` prints of the rows of a load.
-fn report(alloc: Global, tables: &Tables) -> Result<String, AllocError>
+pub(crate) fn report(alloc: Global, tables: &Tables) -> Result<String, AllocError>
     ensures { IfOk result (λ text. string_bytes text ≡ report tables.now) }
 {
     let mut text = String::new(alloc);

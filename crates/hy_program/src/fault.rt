@@ -37,12 +37,14 @@ pub enum RunFault<'a> {
     Refused(Refusal),
     /// A file can't be read.
     CannotRead(FilePath<'a>),
-    /// The file of a script can't be read.
+    /// The file of a script or a log can't be read.
     CannotReadFile(&'a str),
     /// The line of this number of a script is a bad event.
     BadEvent(u64),
     /// A file can't be written.
     CannotWrite(FilePath<'a>),
+    /// The file of a log can't be written.
+    CannotWriteFile(&'a str),
     /// The output for what is found failed.
     Writer(io::Error),
 }
@@ -107,6 +109,7 @@ impl fmt::Display for RunFault<'_> {
             RunFault::CannotReadFile(path) => write!(f, "cannot read {path}"),
             RunFault::BadEvent(line) => write!(f, "bad event on line {line}"),
             RunFault::CannotWrite(path) => write!(f, "cannot write {path}"),
+            RunFault::CannotWriteFile(path) => write!(f, "cannot write {path}"),
             RunFault::Writer(error) => write!(f, "{error}"),
         }
     }

@@ -8,6 +8,8 @@ mod fault;
 mod first;
 mod generate;
 mod query;
+mod reading;
+mod recover;
 mod run;
 mod script;
 mod storm;

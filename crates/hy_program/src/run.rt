@@ -13,6 +13,7 @@ use crate::fault::RunFault;
 use crate::first::run_first;
 use crate::generate::{Size, run_generate};
 use crate::query::run_query;
+use crate::recover::run_recover;
 use crate::script::{Limits, run_script_file};
 use crate::storm::run_storm;
 use hy_cli::{Line, LineFault, read_words};
@@ -154,13 +155,19 @@ fn run_line<'a, F: FileSystem, O: Output + Take + Drop, R: Threads + Wait + Sync
             terminals,
             sessions,
             commands,
+            log,
         } => {
             let size = StormSize {
                 terminals,
                 sessions,
                 commands,
             };
-            run_storm(rt, alloc, directory, size, system, out)
+            run_storm(rt, alloc, directory, size, log, system, out)
         }
+        Line::Recover {
+            directory,
+            log,
+            out: into,
+        } => run_recover(alloc, directory, log, into, system, out),
     }
 }

@@ -1,48 +1,143 @@
 //! The command `storm`: terminals and sessions on the database in the files of a folder.
 
-ghost use Rattle.std.specs.Prelude.{◌≡◌, ◌≤◌, IfErr, IfOk, None, OnOk, string_bytes};
+ghost use Rattle.std.specs.Prelude.{◌≡◌, ◌≤◌, Bool, IfErr, IfOk, None, OnOk, Some, string_bytes};
+ghost use Rattle.std.specs.Option.{option_copied};
+ghost use Rattle.hy_files.specs.Files.{KeepsOthers, KnownPaths};
+ghost use Rattle.hy_storm.specs.Storms.{AreFigures};
 ghost use Rattle.hy_program.specs.Faults.{IsBlamedRightly};
-ghost use Rattle.hy_program.specs.Storm.{IsStormDone, IsStormFault, rounds_text, storm_text, sums_text};
+ghost use Rattle.hy_program.specs.Storm.{IsNoStorm, IsStormDone, IsStormFault, IsWhyUnwritten, KeepsAllBut, rounds_text, storm_text, sums_text};
 
 use crate::fault::RunFault;
-use hy_files::{FileSystem, read_load};
+use hy_files::{FileSystem, MemoryLog, read_load};
+use hy_loads::Load;
 use hy_output::Output;
-use hy_storm::{Figures, Open, Size, storm};
+use hy_redo::Log;
+use hy_schema::Refusal;
+use hy_storm::{Figures, Logged, Open, Size, storm};
 use std::alloc::{AllocError, Global};
-use std::sync::Wait;
+use std::io;
+use std::sync::{Mutex, Wait};
 use std::thread::Threads;
 
-/// Runs a storm on the load in the files of a folder, and writes what it came to. Where a thread ended early, this is
-/// written too, and then the refusal ends the command.
+/// Runs a storm on the load in the files of a folder, and writes what it came to; with a log in a new file, where one is
+/// named. Where a thread ended early or the log's writer failed, this is written too, and then the refusal ends the command.
 pub fn run_storm<'a, F: FileSystem, O: Output, R: Threads + Wait + Sync>(
     rt: &R,
     alloc: Global,
     directory: &'a str,
     size: Size,
+    log: Option<&'a str>,
     system: &mut F,
     out: &mut O,
 ) -> Result<(), RunFault<'a>>
     requires terminals { (1 ≤ size.terminals) × (size.terminals ≤ 64) }
     requires sessions { size.sessions ≤ 16 }
     requires commands { size.commands ≤ 100000 }
-    ensures files { F.files system.new ≡ F.files system.old }
+    ensures files { KeepsAllBut (option_copied log.entry) (F.files system.old) (F.files system.new) }
     ensures folders { F.folders system.new ≡ F.folders system.old }
     ensures done { OnOk result (IsStormDone directory.entry.now (F.files system.old)
         (O.contents out.old) (O.contents out.new)) }
-    ensures fault { IfErr result (IsStormFault directory.entry.now (F.files system.old)
-        (O.contents out.old) (O.contents out.new) (out.new ≡ out.old)) }
+    ensures fault { IfErr result (IsStormFault directory.entry.now (option_copied log.entry) (F.files system.old)
+        (F.unwritten system.old, F.unwritten system.new) (O.contents out.old) (O.contents out.new)
+        (out.new ≡ out.old)) }
     ensures failed { IfErr result (IsBlamedRightly (O.has_failed out.new)) }
 {
     let load = match read_load(alloc, system, directory) {
         Ok(load) => load,
         Err(found) => return Err(RunFault::of_files(directory, found)),
     };
-    let figures = storm(rt, alloc, &load, size, Open)?;
+    let figures = run_on(rt, alloc, &load, size, log, system)?;
     let text = storm_text(alloc, &figures)?;
     out.write_all(text.as_bytes())?;
     match figures.refusal {
         Some(refusal) => Err(RunFault::Refused(refusal)),
         None => Ok(()),
+    }
+}
+
+/// Runs a storm on a load, with a log in a new file, where one is named.
+fn run_on<'a, F: FileSystem, R: Threads + Wait + Sync>(
+    rt: &R,
+    alloc: Global,
+    load: &Load,
+    size: Size,
+    log: Option<&'a str>,
+    system: &mut F,
+) -> Result<Figures, RunFault<'a>>
+    requires terminals { (1 ≤ size.terminals) × (size.terminals ≤ 64) }
+    requires sessions { size.sessions ≤ 16 }
+    requires commands { size.commands ≤ 100000 }
+    ensures figures { IfOk result (AreFigures load.now) }
+    ensures files { KeepsAllBut (option_copied log.entry) (F.files system.old) (F.files system.new) }
+    ensures folders { F.folders system.new ≡ F.folders system.old }
+    ensures fault { IfErr result
+        (IsNoStorm (option_copied log.entry) (F.unwritten system.old, F.unwritten system.new)) }
+    ensures unblamed { IfErr result (λ why. (has_failed : Bool) → IsBlamedRightly has_failed why) }
+{
+    match log {
+        Some(path) => run_logged(rt, alloc, load, size, path, system),
+        None => run_unlogged(rt, alloc, load, size),
+    }
+}
+
+/// The same without a log, whose writer could be any.
+fn run_unlogged<'a, R: Threads + Wait + Sync>(
+    rt: &R,
+    alloc: Global,
+    load: &Load,
+    size: Size,
+) -> Result<Figures, RunFault<'a>>
+    requires terminals { (1 ≤ size.terminals) × (size.terminals ≤ 64) }
+    requires sessions { size.sessions ≤ 16 }
+    requires commands { size.commands ≤ 100000 }
+    ensures figures { IfOk result (AreFigures load.now) }
+    ensures fault { IfErr result (λ why. (unwritten : KnownPaths × KnownPaths) → IsNoStorm None unwritten why) }
+    ensures unblamed { IfErr result (λ why. (has_failed : Bool) → IsBlamedRightly has_failed why) }
+{
+    let figures = storm(rt, alloc, load, size, Open, Logged::<MemoryLog>::None)?;
+    Ok(figures)
+}
+
+/// The same with a log.
+fn run_logged<'a, F: FileSystem, R: Threads + Wait + Sync>(
+    rt: &R,
+    alloc: Global,
+    load: &Load,
+    size: Size,
+    path: &'a str,
+    system: &mut F,
+) -> Result<Figures, RunFault<'a>>
+    requires terminals { (1 ≤ size.terminals) × (size.terminals ≤ 64) }
+    requires sessions { size.sessions ≤ 16 }
+    requires commands { size.commands ≤ 100000 }
+    ensures figures { IfOk result (AreFigures load.now) }
+    ensures files { KeepsOthers (F.files system.old) (F.files system.new) path.entry.now }
+    ensures folders { F.folders system.new ≡ F.folders system.old }
+    ensures fault { IfErr result
+        (IsNoStorm (Some path.entry.now) (F.unwritten system.old, F.unwritten system.new)) }
+    ensures unblamed { IfErr result (λ why. (has_failed : Bool) → IsBlamedRightly has_failed why) }
+{
+    let out = match system.begin_log(alloc, path) {
+        Ok(out) => out,
+        Err(error) => return Err(why_unwritten(path, error)),
+    };
+    let log = Mutex::new(Log::new(alloc, out));
+    let figures = storm(rt, alloc, load, size, Open, Some(&log));
+    let out = log.into_inner().into_out();
+    if let Err(error) = system.end_log(path, out) {
+        return Err(why_unwritten(path, error));
+    }
+    Ok(figures?)
+}
+
+/// Why a log's file wasn't written: memory was refused, or it can't be.
+fn why_unwritten<'a>(path: &'a str, error: io::Error) -> RunFault<'a>
+    ensures why { IsWhyUnwritten path.entry.now error result }
+    ensures unblamed { (has_failed : Bool) → IsBlamedRightly has_failed result }
+{
+    match error.kind() {
+        io::ErrorKind::OutOfMemory => RunFault::Refused(Refusal::NoMemory),
+        _ => RunFault::CannotWriteFile(path),
     }
 }
 

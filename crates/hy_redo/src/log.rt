@@ -42,6 +42,13 @@ impl<W: LogOut> Log<W> {
         self.pending.out()
     }
 
+    /// The writer, with which the log ends.
+    pub fn into_out(self) -> W
+        ensures { W.told result ≡ self.told }
+    {
+        self.pending.into_out()
+    }
+
     /// Writes a batch and syncs it, which acknowledges it. Refused with E14 where the writer fails, and from then on always;
     /// nothing is written any more then.
     pub fn write_batch<L: Lists>(&mut self, lists: &L) -> Result<(), Refusal>

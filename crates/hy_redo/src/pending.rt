@@ -61,6 +61,18 @@ impl<W: LogOut> Pending<W> {
         &self.out
     }
 
+    /// The writer. What is held back is lost.
+    pub(crate) fn into_out(self) -> W
+        ensures { W.told result ≡ self.told }
+    {
+        let Pending {
+            out,
+            bytes: _,
+            has_failed: _,
+        } = self;
+        out
+    }
+
     /// Whether the writer has failed.
     pub(crate) fn has_failed(&self) -> bool
         ensures { result ≡ self.now.has_failed }

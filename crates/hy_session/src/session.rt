@@ -19,7 +19,7 @@ use hy_answers::{run, text_of};
 use hy_conditions::first_broken;
 use hy_forks::{Loaded, Partition, Parts, SnapshotAll, close_all};
 use hy_query::{Query, parse_query};
-use hy_rows::{NewOrder, Warehouse};
+use hy_rows::{NewOrder, Tables, Warehouse};
 use hy_schema::Refusal;
 use std::alloc::{AllocError, Global};
 use std::marker::Model;
@@ -111,6 +111,14 @@ impl<const N: usize> Session<N> {
         ensures refused { IfErr result (λ why. why ≡ NoMemory) }
     {
         Ok(broken_in(alloc, &self.all)?)
+    }
+
+    /// The rows of all tables that lie on pages, those of each warehouse behind those of the one before. E1.
+    pub fn tables(&self, alloc: Global) -> Result<Tables, Refusal>
+        ensures tables { IfOk result (λ tables. tables ≡ (lists_of_all N self.now).tables) }
+        ensures refused { IfErr result (λ why. why ≡ NoMemory) }
+    {
+        Ok(tables_of_all(alloc, &self.all)?)
     }
 
     /// Gives the snapshot back, as `close_all` of hy_forks does: E11 where one of its parts is another warehouse's or one

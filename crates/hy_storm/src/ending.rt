@@ -40,7 +40,7 @@ pub struct Figures {
     pub shared: u64,
     /// The first broken condition.
     pub broken: Option<u8>,
-    /// Why a thread ended early, where one did.
+    /// Why a thread ended early, where one did; else why what was drained wasn't acknowledged by the log, where that is so.
     pub refusal: Option<Refusal>,
 }
 
@@ -73,7 +73,7 @@ pub fn figures_of<K: Loaded>(
         rounds: gathered.held,
         shared: shared_of(&parts),
         broken,
-        refusal: gathered.refusal,
+        refusal: gathered.refusal.or(gathered.unlogged),
     })
 }
 

@@ -5,6 +5,7 @@
 mod commands;
 mod ending;
 mod kept;
+mod logging;
 mod run;
 mod session;
 mod shape;
@@ -14,6 +15,7 @@ mod threads;
 pub use commands::command_of;
 pub use ending::Figures;
 pub use hy_engine::{Gate, Open};
+pub use logging::Logged;
 pub use run::{Size, storm};
 pub use shape::Shape;
 

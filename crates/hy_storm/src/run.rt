@@ -6,6 +6,7 @@ ghost use Rattle.hy_storm.specs.Storms.{AreFigures};
 use crate::PAGE_BYTES;
 use crate::ending::{Figures, figures_of};
 use crate::kept::Kept;
+use crate::logging::{Logged, drain_to};
 use crate::shape::Shape;
 use crate::threads::{Crew, run_threads};
 use hy_commands::Commit;
@@ -14,6 +15,7 @@ use hy_engine::{Engine, Gate};
 use hy_loads::Load;
 use hy_partition::Loaded;
 use hy_passes::{Kit, make};
+use hy_redo::LogOut;
 use hy_schema::Refusal;
 use std::alloc::Global;
 use std::marker::Brand;
@@ -43,13 +45,15 @@ pub struct Size {
     pub commands: u64,
 }
 
-/// A storm over a load.
-pub fn storm<G: Gate + Drop + Send + Sync, R: Threads + Wait + Sync>(
+/// A storm over a load. Where there is a log, what was committed is written to it each time a session has closed its snapshot,
+/// and once all threads have ended, also where that is nothing: three batches for each session, and one.
+pub fn storm<G: Gate + Drop + Send + Sync, W: LogOut + Send, R: Threads + Wait + Sync>(
     rt: &R,
     alloc: Global,
     load: &Load,
     size: Size,
     gate: G,
+    log: Logged<'_, W>,
 ) -> Result<Figures, Refusal>
     requires terminals { (1 ≤ size.terminals) × (size.terminals ≤ 64) }
     requires sessions { size.sessions ≤ 16 }
@@ -59,7 +63,7 @@ pub fn storm<G: Gate + Drop + Send + Sync, R: Threads + Wait + Sync>(
     load.sound();
     let warehouses = load.tables().warehouses.len();
     let kit = make::<Commit>(alloc, warehouses as u8, clients_of(size), KIT)?;
-    storm_in::<Brand, G, R>(rt, alloc, load, kit, size, gate)
+    storm_in::<Brand, G, W, R>(rt, alloc, load, kit, size, gate, log)
 }
 
 /// How many clients a storm of this size has: terminals, sessions, and one who looks at the end.
@@ -71,13 +75,19 @@ fn clients_of(size: Size) -> u32
 }
 
 /// The same in the world that names the load and a kit.
-fn storm_in<K: Loaded + Send + Sync, G: Gate + Drop + Send + Sync, R: Threads + Wait + Sync>(
+fn storm_in<
+    K: Loaded + Send + Sync,
+    G: Gate + Drop + Send + Sync,
+    W: LogOut + Send,
+    R: Threads + Wait + Sync,
+>(
     rt: &R,
     alloc: Global,
     load: &Load,
     kit: Kit<Commit>,
     size: Size,
     gate: G,
+    log: Logged<'_, W>,
 ) -> Result<Figures, Refusal>
     requires kit { kit ≡ K.passes }
     requires load { load.now ≡ K.load }
@@ -101,7 +111,8 @@ fn storm_in<K: Loaded + Send + Sync, G: Gate + Drop + Send + Sync, R: Threads + 
         Ok(engine) => engine,
         Err((_parts, _journal, _gate, refusal)) => return Err(refusal),
     };
-    let gathered = run_threads(rt, alloc, &engine, crew);
+    let mut gathered = run_threads(rt, alloc, &engine, log, crew);
+    gathered.unlogged = gathered.unlogged.or(drain_to(rt, alloc, &engine, log));
     let (parts, journal) = engine.finish();
     figures_of(alloc, parts, journal, last, gathered)
 }

@@ -6,10 +6,12 @@ ghost use Rattle.hy_engine.specs.Engines.{AreMine};
 
 use crate::PAGE_BYTES;
 use crate::kept::Kept;
+use crate::logging::{Logged, drain_to};
 use hy_commands::Commit;
 use hy_engine::{Engine, Gate, Held};
 use hy_partition::Loaded;
 use hy_passes::Pass;
+use hy_redo::LogOut;
 use hy_schema::Refusal;
 use hy_session::Session;
 use std::alloc::Global;
@@ -18,54 +20,74 @@ use std::sync::Wait;
 /// How many rounds a session makes.
 const ROUNDS: u64 = 3;
 
-/// How a session ended: the rounds whose conditions held, and a refusal where it ended early.
+/// How a session ended: the rounds whose conditions held, a refusal where it ended early, and one where the log wasn't
+/// written.
 #[derive(Clone, Copy, Debug, Drop)]
 pub struct SessionEnd {
     /// How many rounds held.
     pub held: u64,
     /// Why it ended early.
     pub refusal: Option<Refusal>,
+    /// Why what it drained first in vain wasn't acknowledged.
+    pub unlogged: Option<Refusal>,
 }
 
-/// Makes three rounds of a snapshot, its conditions, its report and its end.
-pub fn run_session<K: Loaded, G: Gate + Drop, R: Wait>(
-    rt: &R,
-    alloc: Global,
-    engine: &Engine<PAGE_BYTES, K, Kept<G>>,
-    mut pass: Pass<Commit, K>,
-) -> SessionEnd {
-    let mut held = 0u64;
-    for _ in 0..ROUNDS {
-        match run_round(rt, alloc, engine, &mut pass) {
-            Ok(holds) => held = held.saturating_add(u64::from(holds)),
-            Err(refusal) => {
-                return SessionEnd {
-                    held,
-                    refusal: Some(refusal),
-                };
-            }
+impl SessionEnd {
+    /// The end of sessions that made no round.
+    pub fn without_rounds(refusal: Option<Refusal>) -> SessionEnd {
+        SessionEnd {
+            held: 0,
+            refusal,
+            unlogged: None,
         }
     }
-    SessionEnd {
-        held,
-        refusal: None,
+
+    /// Puts another session's end to this one.
+    pub fn merge(&mut self, other: SessionEnd) {
+        self.held = self.held.saturating_add(other.held);
+        self.refusal = self.refusal.or(other.refusal);
+        self.unlogged = self.unlogged.or(other.unlogged);
     }
 }
 
-/// One round: whether the conditions held.
-fn run_round<K: Loaded, G: Gate + Drop, R: Wait>(
+/// Makes three rounds of a snapshot, its conditions, its report, its end and a drain.
+pub fn run_session<K: Loaded, G: Gate + Drop, W: LogOut, R: Wait>(
     rt: &R,
     alloc: Global,
     engine: &Engine<PAGE_BYTES, K, Kept<G>>,
+    log: Logged<'_, W>,
+    mut pass: Pass<Commit, K>,
+) -> SessionEnd {
+    let mut end = SessionEnd::without_rounds(None);
+    for _ in 0..ROUNDS {
+        if let Err(refusal) = run_round(rt, alloc, engine, log, &mut pass, &mut end) {
+            end.refusal = Some(refusal);
+            return end;
+        }
+    }
+    end
+}
+
+/// One round.
+fn run_round<K: Loaded, G: Gate + Drop, W: LogOut, R: Wait>(
+    rt: &R,
+    alloc: Global,
+    engine: &Engine<PAGE_BYTES, K, Kept<G>>,
+    log: Logged<'_, W>,
     pass: &mut Pass<Commit, K>,
-) -> Result<bool, Refusal> {
+    end: &mut SessionEnd,
+) -> Result<(), Refusal> {
     let room = engine.room(alloc)?;
     let session = Session::new(engine.fork_all(rt, alloc, pass)?);
     let broken = session.check_conditions(alloc);
     let report = session.report(alloc);
     close(rt, engine, room, session);
+    end.unlogged = end.unlogged.or(drain_to(rt, alloc, engine, log));
     report?;
-    Ok(broken?.is_none())
+    if broken?.is_none() {
+        end.held = end.held.saturating_add(1);
+    }
+    Ok(())
 }
 
 /// Closes a session, with room for all locks. Where the partitions weren't those of the load any more, which no thread

@@ -4,6 +4,7 @@ ghost use Rattle.std.specs.Prelude.{◌≡◌, ◌≤◌, ◌<◌};
 
 use crate::PAGE_BYTES;
 use crate::kept::Kept;
+use crate::logging::Logged;
 use crate::run::Size;
 use crate::session::{SessionEnd, run_session};
 use crate::shape::Shape;
@@ -13,14 +14,15 @@ use hy_engine::{Engine, Gate};
 use hy_ledger::Purse;
 use hy_partition::Loaded;
 use hy_passes::{Pass, Passes};
+use hy_redo::LogOut;
 use hy_schema::Refusal;
 use std::alloc::Global;
 use std::sync::Wait;
 use std::thread;
 use std::thread::{JoinHandle, Scope, Threads};
 
-/// What came of all threads: the shares that terminals got, the rounds that held, and a refusal where a thread ended
-/// early.
+/// What came of all threads: the shares that terminals got, the rounds that held, a refusal where a thread ended early, and
+/// one where the log wasn't written.
 #[derive(Drop)]
 pub struct Gathered<K: Loaded> {
     /// The shares.
@@ -29,6 +31,8 @@ pub struct Gathered<K: Loaded> {
     pub held: u64,
     /// The refusal.
     pub refusal: Option<Refusal>,
+    /// Why what was drained wasn't acknowledged.
+    pub unlogged: Option<Refusal>,
 }
 
 /// Who takes part: a terminal for each purse, and sessions.
@@ -85,10 +89,16 @@ impl<'a, K: Loaded> Crew<'a, K> {
 
 /// Runs a worker for each warehouse and the crew beside them, and closes the engine once all of the crew have ended. Where a
 /// worker can't be made the crew does nothing.
-pub fn run_threads<K: Loaded + Send + Sync, G: Gate + Drop + Send + Sync, R: Threads + Wait + Sync>(
+pub fn run_threads<
+    K: Loaded + Send + Sync,
+    G: Gate + Drop + Send + Sync,
+    W: LogOut + Send,
+    R: Threads + Wait + Sync,
+>(
     rt: &R,
     alloc: Global,
     engine: &Engine<PAGE_BYTES, K, Kept<G>>,
+    log: Logged<'_, W>,
     crew: Crew<'_, K>,
 ) -> Gathered<K> {
     thread::scope(thread::scope_env(), rt, move |scope| -> Gathered<K> {
@@ -102,7 +112,7 @@ pub fn run_threads<K: Loaded + Send + Sync, G: Gate + Drop + Send + Sync, R: Thr
         let gathered = if is_refused {
             refused(crew)
         } else {
-            run_crew(rt, alloc, engine, crew)
+            run_crew(rt, alloc, engine, log, crew)
         };
         engine.close(rt);
         gathered
@@ -125,6 +135,7 @@ fn out_of_memory<K: Loaded>(purse: Purse<K>) -> Gathered<K> {
         purse,
         held: 0,
         refusal: Some(Refusal::NoMemory),
+        unlogged: None,
     }
 }
 
@@ -144,8 +155,8 @@ fn start_terminal<
     scope.spawn(move || run_terminal(rt, engine, terminal)).ok()
 }
 
-/// Starts a session's thread. None where no thread can be made.
-fn start_session<
+/// Starts a thread for each terminal. A refusal where one can't be made.
+fn start_terminals<
     's,
     E,
     K: Loaded + Send + Sync + 's,
@@ -154,20 +165,83 @@ fn start_session<
 >(
     scope: &Scope<'s, E>,
     rt: &'s R,
+    engine: &'s Engine<PAGE_BYTES, K, Kept<G>>,
+    terminals: Vec<Terminal<'s, K>>,
+    running: &mut Vec<JoinHandle<TerminalEnd<K>>>,
+) -> Option<Refusal> {
+    let mut refusal = None;
+    for terminal in terminals {
+        match start_terminal(scope, rt, engine, terminal) {
+            Some(thread) => {
+                let _ = running.push(thread);
+            }
+            None => refusal = Some(Refusal::NoMemory),
+        }
+    }
+    refusal
+}
+
+/// Starts a session's thread. None where no thread can be made.
+fn start_session<
+    's,
+    E,
+    K: Loaded + Send + Sync + 's,
+    G: Gate + Drop + Send + Sync + 's,
+    W: LogOut + Send + 's,
+    R: Threads + Wait + Sync + 's,
+>(
+    scope: &Scope<'s, E>,
+    rt: &'s R,
     alloc: Global,
     engine: &'s Engine<PAGE_BYTES, K, Kept<G>>,
+    log: Logged<'s, W>,
     pass: Pass<Commit, K>,
 ) -> Option<JoinHandle<SessionEnd>> {
     scope
-        .spawn(move || run_session(rt, alloc, engine, pass))
+        .spawn(move || run_session(rt, alloc, engine, log, pass))
         .ok()
 }
 
+/// Starts a thread for each session. A refusal where one can't be made.
+fn start_sessions<
+    's,
+    E,
+    K: Loaded + Send + Sync + 's,
+    G: Gate + Drop + Send + Sync + 's,
+    W: LogOut + Send + 's,
+    R: Threads + Wait + Sync + 's,
+>(
+    scope: &Scope<'s, E>,
+    rt: &'s R,
+    alloc: Global,
+    engine: &'s Engine<PAGE_BYTES, K, Kept<G>>,
+    log: Logged<'s, W>,
+    sessions: Vec<Pass<Commit, K>>,
+    looking: &mut Vec<JoinHandle<SessionEnd>>,
+) -> Option<Refusal> {
+    let mut refusal = None;
+    for pass in sessions {
+        match start_session(scope, rt, alloc, engine, log, pass) {
+            Some(thread) => {
+                let _ = looking.push(thread);
+            }
+            None => refusal = Some(Refusal::NoMemory),
+        }
+    }
+    refusal
+}
+
 /// Runs a thread for each terminal, and the sessions beside them.
-fn run_crew<K: Loaded + Send + Sync, G: Gate + Drop + Send + Sync, R: Threads + Wait + Sync>(
+fn run_crew<
+    K: Loaded + Send + Sync,
+    G: Gate + Drop + Send + Sync,
+    W: LogOut + Send,
+    R: Threads + Wait + Sync,
+>(
     rt: &R,
     alloc: Global,
     engine: &Engine<PAGE_BYTES, K, Kept<G>>,
+    log: Logged<'_, W>,
     crew: Crew<'_, K>,
 ) -> Gathered<K> {
     let Crew {
@@ -179,22 +253,15 @@ fn run_crew<K: Loaded + Send + Sync, G: Gate + Drop + Send + Sync, R: Threads + 
         return out_of_memory(purse);
     };
     thread::scope(thread::scope_env(), rt, move |scope| -> Gathered<K> {
-        let mut refusal = None;
         let mut running = running;
-        for terminal in terminals {
-            let (runtime, shared) = (rt, engine);
-            match start_terminal(scope, runtime, shared, terminal) {
-                Some(thread) => {
-                    let _ = running.push(thread);
-                }
-                None => refusal = Some(Refusal::NoMemory),
-            }
-        }
-        let looked = run_sessions(rt, alloc, engine, sessions);
+        let (runtime, shared) = (rt, engine);
+        let refusal = start_terminals(scope, runtime, shared, terminals, &mut running);
+        let looked = run_sessions(rt, alloc, engine, log, sessions);
         let mut gathered = Gathered {
             purse,
             held: looked.held,
             refusal: refusal.or(looked.refusal),
+            unlogged: looked.unlogged,
         };
         for thread in running {
             let end = thread.join(rt);
@@ -205,36 +272,29 @@ fn run_crew<K: Loaded + Send + Sync, G: Gate + Drop + Send + Sync, R: Threads + 
     })
 }
 
-/// Runs a thread for each session: how many rounds held in all, and why one ended early.
-fn run_sessions<K: Loaded + Send + Sync, G: Gate + Drop + Send + Sync, R: Threads + Wait + Sync>(
+/// Runs a thread for each session: how many rounds held in all, why one ended early, and why the log wasn't written.
+fn run_sessions<
+    K: Loaded + Send + Sync,
+    G: Gate + Drop + Send + Sync,
+    W: LogOut + Send,
+    R: Threads + Wait + Sync,
+>(
     rt: &R,
     alloc: Global,
     engine: &Engine<PAGE_BYTES, K, Kept<G>>,
+    log: Logged<'_, W>,
     sessions: Vec<Pass<Commit, K>>,
 ) -> SessionEnd {
     let Ok(looking) = Vec::with_capacity(alloc, sessions.len()) else {
-        return SessionEnd {
-            held: 0,
-            refusal: Some(Refusal::NoMemory),
-        };
+        return SessionEnd::without_rounds(Some(Refusal::NoMemory));
     };
     thread::scope(thread::scope_env(), rt, move |scope| -> SessionEnd {
-        let mut refusal = None;
         let mut looking = looking;
-        for pass in sessions {
-            let (runtime, shared) = (rt, engine);
-            match start_session(scope, runtime, alloc, shared, pass) {
-                Some(thread) => {
-                    let _ = looking.push(thread);
-                }
-                None => refusal = Some(Refusal::NoMemory),
-            }
-        }
-        let mut all = SessionEnd { held: 0, refusal };
+        let (runtime, shared) = (rt, engine);
+        let refusal = start_sessions(scope, runtime, alloc, shared, log, sessions, &mut looking);
+        let mut all = SessionEnd::without_rounds(refusal);
         for thread in looking {
-            let end = thread.join(rt);
-            all.held = all.held.saturating_add(end.held);
-            all.refusal = all.refusal.or(end.refusal);
+            all.merge(thread.join(rt));
         }
         all
     })

@@ -4,10 +4,11 @@ use Rattle.std.specs.Prelude.{IfSome, IsSome, IsSomeAnd}
 use Rattle.clap.specs.Walk.{first_of}
 use Rattle.clap.specs.Words.{IsUnsignedIn, Row, Text, one_of}
 use Rattle.hy_cli.specs.CommandLine.{IsNumber, Parameter, commands}
-use Rattle.hy_cli.specs.CommandLine.{required_text, required_number, optional_number, bounded_number, required_within}
+use Rattle.hy_cli.specs.CommandLine.{required_text, optional_text, required_number, optional_number, bounded_number, required_within}
 
 abbrev pub IsGiven : List Row → Parameter → Type 0
 IsGiven rows (required_text name) = IsSome (first_of name rows)
+IsGiven rows (optional_text name) = ⊤
 IsGiven rows (required_number name) = IsSomeAnd (one_of name rows) IsNumber
 IsGiven rows (optional_number name) = IfSome (one_of name rows) IsNumber
 IsGiven rows (bounded_number low high name) = IfSome (one_of name rows) (IsUnsignedIn low high)

@@ -29,6 +29,7 @@ loop-table-preserved g c =
     record {
       files = c.in_ok-bytes.ensures.files ∙ c.loop-table.invariant.files;
       folders = c.in_ok-bytes.ensures.folders ∙ c.loop-table.invariant.folders;
+      unwritten = c.in_ok-bytes.ensures.unwritten ∙ c.loop-table.invariant.unwritten;
       texts =
           rw (take_more tables number table.Warehouse c.loop-table-test.true, c.push_reserved.ensures.items, map_push)
           pushed;

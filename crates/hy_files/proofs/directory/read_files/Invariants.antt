@@ -8,6 +8,7 @@ abbrev pub invariant-loop-table : goal.invariant-loop-table
 invariant-loop-table g l = record {
   files : g.F.FileSystem.files l.system ≡ g.F.FileSystem.files l.fn.system;
   folders : g.F.FileSystem.folders l.system ≡ g.F.FileSystem.folders l.fn.system;
+  unwritten : g.F.FileSystem.unwritten l.system ≡ g.F.FileSystem.unwritten l.fn.system;
   texts :
       AreFiles (g.F.FileSystem.files l.fn.system) l.directory (take l.table-index tables)
       (map (λ text. text.items) l.texts.items);

@@ -1,0 +1,20 @@
+-- What a drain answers is the batch of the model.
+use Rattle.std.proofs.Common.{◌≡◌, ℕ, suc, List, [], ◌∷◌, drop, map, refl, sym, ap, ◌∙◌}
+use Rattle.hy_partition.specs.Jobs.{Log}
+use Rattle.hy_partition.specs.Partition.{PartitionState, undrained}
+use Rattle.hy_schedules.specs.Schedules.{ArePlacesOf, IsWholeOf, Place, Whole}
+use Rattle.hy_durability.specs.Durability.{batch_of}
+
+undrained-placed : (n : ℕ) (log : Log) (whole : Whole) (number : ℕ) (parts : List PartitionState) (places : List Place)
+    → ArePlacesOf n log whole number parts places → map undrained parts ≡ batch_of places
+undrained-placed n log whole number [] [] are = refl
+undrained-placed n log whole number (p ∷ parts) (place ∷ places) are =
+    ap (λ rows. rows ∷ map undrained parts)
+    (sym (ap (λ k. drop k place.kept) are.0.drained ∙ ap (drop p.drained) are.0.world.kept))
+    ∙ ap (λ rows. drop place.drained place.kept ∷ rows) (undrained-placed n log whole (suc number) parts places are.1)
+undrained-placed n log whole number [] (place ∷ places) are = absurd are
+undrained-placed n log whole number (p ∷ parts) [] are = absurd are
+
+pub undrained-are : (n : ℕ) (log : Log) (parts : List PartitionState) (whole : Whole) → IsWholeOf n log parts whole
+    → map undrained parts ≡ batch_of whole.places
+undrained-are n log parts whole is = undrained-placed n log whole 1 parts whole.places is.1

@@ -1,0 +1,186 @@
+-- No log is both sound and not, and each beginning of a sound one is sound.
+use Rattle.std.proofs.Common.{◌≡◌, ◌⊎◌, ◌||◌, ◌==◌, ℕ, zero, suc, ◌+◌, ◌<◌, ◌≤◌, Bool, true, false, cond, List, [], ◌∷◌, ◌++◌, length, take, inl, inr, refl, sym, ap, ◌∙◌, subst, arith}
+use Rattle.std.specs.Prelude.{All, filter}
+use Rattle.std.specs.List.{filter_map, list_all, list_any, range_with_len}
+use Rattle.std.proofs.lemmas.Bool.{and_parts, eq-eqb, false≢true, or_cases}
+use Rattle.std.proofs.Math.Bool.{or-true}
+use Rattle.std.proofs.lemmas.List.Elements.{All-cons, All-filter, All-head, All-nil, All-tail}
+use Rattle.hy_rows.specs.Ranges.{is_between}
+use Rattle.hy_rows.proofs.BetweenLaws.{bounds}
+use Rattle.hy_rows.specs.Tables.{Lists}
+use Rattle.hy_passes.specs.SerialList.{names}
+use Rattle.hy_commands.specs.declared.command.Commit.{Commit}
+use Rattle.hy_commands.specs.declared.command.Commit.TheVariants as commits
+use Rattle.hy_commands.specs.Commands.{number_of, warehouses_of_commit}
+use Rattle.hy_sound.specs.Sound.{AreInStep, AreSound, IsFirstUnsound, IsSoundBatch, IsSoundLog, list_at, names_one_of}
+
+-- ---- what holds of those that pass a test
+
+all-passing : {Row : Type 0} (Holds : Row → Type 0) (test : Row → Bool) (rows : List Row) → All Holds (filter test rows)
+    → All (λ row. test row ≡ true → Holds row) rows
+all-passing Holds test [] all = All-nil (λ row. test row ≡ true → Holds row)
+all-passing {Row = Row} Holds test (row ∷ rows) all =
+    All-cons (λ row. test row ≡ true → Holds row) row rows (here (test row) refl all)
+    (all-passing Holds test rows (later (test row) all))
+  where
+    here : (passes : Bool) → test row ≡ passes → All Holds (cond passes (row ∷ filter test rows) (filter test rows))
+        → test row ≡ true → Holds row
+    here true is all passes = All-head Holds row (filter test rows) all
+    here false is all passes = absurd (false≢true (sym is ∙ passes))
+
+    later : (passes : Bool) → All Holds (cond passes (row ∷ filter test rows) (filter test rows))
+        → All Holds (filter test rows)
+    later true all = All-tail Holds row (filter test rows) all
+    later false all = all
+
+-- ---- numbers
+
+-- what holds of the number of a commit of several warehouses
+abbrev pub OnNumber : (ℕ → Type 0) → Commit → Type 0
+OnNumber Holds (commits.Local command) = Unit {0}
+OnNumber Holds (commits.Cross number command) = Holds number
+
+abbrev IsAtMost : ℕ → Commit → Type 0
+IsAtMost most = OnNumber (λ n. n ≤ most)
+
+-- numbers from one on that are at most so much are no more than fit
+range-few : (low count most : ℕ) → All (λ n. n ≤ most) (range_with_len low count) → (low + count ≤ suc most) ⊎ (count ≡ 0)
+range-few low zero most all = inr refl
+range-few low (suc zero) most all =
+    let here = All-head (λ n. n ≤ most) low (range_with_len (low + 1) zero) all in inl (omega (arith, here))
+range-few low (suc (suc count)) most all =
+    elim (range-few (low + 1) (suc count) most (All-tail (λ n. n ≤ most) low (range_with_len (low + 1) (suc count)) all)) [
+      | inl few ↦ inl (omega (arith, few))
+      | inr none ↦ absurd (omega (arith, none))
+    ]
+
+hold-numbers : (Holds : ℕ → Type 0) (rows : List Commit) → All (OnNumber Holds) rows → All Holds (filter_map number_of rows)
+hold-numbers Holds [] all = All-nil Holds
+hold-numbers Holds (commits.Local command ∷ rows) all =
+    hold-numbers Holds rows (All-tail (OnNumber Holds) (commits.Local command) rows all)
+hold-numbers Holds (commits.Cross number command ∷ rows) all =
+    All-cons Holds number (filter_map number_of rows)
+    (All-head (OnNumber Holds) (commits.Cross number command) rows all)
+    (hold-numbers Holds rows (All-tail (OnNumber Holds) (commits.Cross number command) rows all))
+
+pub numbers-hold : (Holds : ℕ → Type 0) (rows : List Commit) → All Holds (filter_map number_of rows)
+    → All (OnNumber Holds) rows
+numbers-hold Holds [] all = All-nil (OnNumber Holds)
+numbers-hold Holds (commits.Local command ∷ rows) all =
+    All-cons (OnNumber Holds) (commits.Local command) rows tt (numbers-hold Holds rows all)
+numbers-hold Holds (commits.Cross number command ∷ rows) all =
+    All-cons (OnNumber Holds) (commits.Cross number command) rows
+    (All-head Holds number (filter_map number_of rows) all)
+    (numbers-hold Holds rows (All-tail Holds number (filter_map number_of rows) all))
+
+range-most : (low count most : ℕ) → low + count ≤ suc most → All (λ n. n ≤ most) (range_with_len low count)
+range-most low zero most few = All-nil (λ n. n ≤ most)
+range-most low (suc count) most few =
+    All-cons (λ n. n ≤ most) low (range_with_len (low + 1) count) (omega (arith, few))
+    (range-most (low + 1) count most (omega (arith, few)))
+
+-- ---- two accounts of one batch
+
+-- a commit that names one of so many warehouses names one at a place
+named-place : (count : ℕ) (named : List ℕ) → list_any (is_between 1 count) named ≡ true
+    → (place : ℕ) × (place < count) × (list_any (λ name. name == suc place) named ≡ true)
+named-place count [] there = absurd (false≢true there)
+named-place count (name ∷ named) there =
+    elim (or_cases (is_between 1 count name) (list_any (is_between 1 count) named) there) [
+      | inl here ↦ by name (bounds 1 count name here)
+      | inr later ↦ let found = named-place count named later in (
+        found.0,
+        found.1,
+        ap (λ b. (name == suc found.0) || b) found.2 ∙ or-true (name == suc found.0),
+      )
+    ]
+  where
+    by : (name : ℕ) → (1 ≤ name) × (name ≤ count)
+        → (place : ℕ) × (place < count) × (((name == suc place) || list_any (λ name. name == suc place) named) ≡ true)
+    by zero ends = absurd (omega (arith, ends.0))
+    by (suc place) ends =
+        (place, omega (arith, ends.1), ap (λ b. b || list_any (λ name. name == suc place) named) (eq-eqb (suc place) (suc place) refl))
+
+all-below : {Row : Type 0} (Holds : ℕ → Row → Type 0) (Wanted : Row → Type 0) (test : Row → Bool) (count : ℕ)
+    (rows : List Row)
+    → ((row : Row) → test row ≡ true → (place : ℕ) × (place < count) × (Holds place row → Wanted row))
+    → list_all test rows ≡ true → ((place : ℕ) → place < count → All (Holds place) rows) → All Wanted rows
+all-below Holds Wanted test count [] leads tested all = All-nil Wanted
+all-below Holds Wanted test count (row ∷ rows) leads tested all =
+    let both = and_parts (test row) (list_all test rows) tested in
+    let found = leads row both.0 in
+    All-cons Wanted row rows (found.2 (All-head (Holds found.0) row rows (all found.0 found.1)))
+    (all-below Holds Wanted test count rows leads both.1
+    (λ place within. All-tail (Holds place) row rows (all place within)))
+
+-- the numbers of one account are within those of the other
+module _ (before one other count : ℕ) (lists : ℕ → List Commit) (first : AreInStep before one count lists)
+    (second : AreInStep before other count lists) where
+  first-most : All (IsAtMost one) first.crossings
+  first-most =
+      numbers-hold (λ n. n ≤ one) first.crossings
+      (subst (All (λ n. n ≤ one)) (sym first.numbered)
+      (range-most (suc before) (length first.crossings) one (omega (arith, first.last))))
+
+  passing-most : (place : ℕ) → place < count
+      → All (λ commit. names warehouses_of_commit (suc place) commit ≡ true → IsAtMost one commit) second.crossings
+  passing-most place within =
+      all-passing (IsAtMost one) (names warehouses_of_commit (suc place)) second.crossings
+      (subst (All (IsAtMost one)) (sym (first.each place within) ∙ second.each place within)
+      (All-filter (names warehouses_of_commit (suc place)) (IsAtMost one) first.crossings first-most))
+
+  second-most : All (IsAtMost one) second.crossings
+  second-most =
+      all-below (λ place commit. names warehouses_of_commit (suc place) commit ≡ true → IsAtMost one commit) (IsAtMost one)
+      (names_one_of count) count second.crossings
+      (λ commit named.
+      let found = named-place count (warehouses_of_commit commit) named in
+      (found.0, found.1, λ leads. leads found.2))
+      second.named passing-most
+
+  second-within : other ≤ one
+  second-within =
+      elim (range-few (suc before) (length second.crossings) one
+      (subst (All (λ n. n ≤ one)) second.numbered (hold-numbers (λ n. n ≤ one) second.crossings second-most))) [
+        | inl few ↦ omega (arith, few, second.last)
+        | inr none ↦ omega (arith, none, second.last, first.last)
+      ]
+
+same-after : (lists : Lists) (before one other : ℕ) (batch : List (List Commit)) → IsSoundBatch lists before one batch
+    → IsSoundBatch lists before other batch → one ≡ other
+same-after lists before one other batch first second =
+    omega (
+      arith,
+      second-within before one other (length batch) (list_at batch) first.in_step second.in_step,
+      second-within before other one (length batch) (list_at batch) second.in_step first.in_step,
+    )
+
+-- ---- logs
+
+-- a batch of a sound log is sound behind any account of those before it
+sound-behind : (lists : Lists) (before last after : ℕ) (front rest : List (List (List Commit))) (batch : List (List Commit))
+    → AreSound lists before last front → AreSound lists before after (front ++ batch ∷ rest)
+    → (middle : ℕ) × IsSoundBatch lists last middle batch
+sound-behind lists before last after [] rest batch is whole =
+    (whole.0, subst (λ n. IsSoundBatch lists n whole.0 batch) (sym is) whole.1)
+sound-behind lists before last after (first ∷ front) rest batch is whole =
+    let same = same-after lists before whole.0 is.0 first whole.1 is.1 in
+    sound-behind lists is.0 last after front rest batch is.2
+    (subst (λ n. AreSound lists n after (front ++ batch ∷ rest)) same whole.2)
+
+pub one-verdict : (lists : Lists) (batches : List (List (List Commit))) (place : ℕ) → IsSoundLog lists batches
+    → IsFirstUnsound lists batches place → ⊥
+one-verdict lists batches place sound unsound =
+    let whole : AreSound lists 0 sound.0 (unsound.front ++ unsound.batch ∷ unsound.rest) =
+    subst (AreSound lists 0 sound.0) unsound.batches_are sound.1 in
+    let found = sound-behind lists 0 unsound.last sound.0 unsound.front unsound.rest unsound.batch unsound.sound whole in
+    unsound.unsound found.0 found.1
+
+-- the first batches of a sound log
+pub sound-beginning : (lists : Lists) (before after : ℕ) (batches : List (List (List Commit))) (count : ℕ)
+    → AreSound lists before after batches → (last : ℕ) × AreSound lists before last (take count batches)
+sound-beginning lists before after batches zero is = (before, refl)
+sound-beginning lists before after [] (suc count) is = (before, refl)
+sound-beginning lists before after (batch ∷ batches) (suc count) is =
+    let later = sound-beginning lists is.0 after batches count is.2 in
+    (later.0, (is.0, is.1, later.1))

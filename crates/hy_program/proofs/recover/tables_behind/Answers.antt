@@ -1,0 +1,56 @@
+use Rattle.std.proofs.Common.{rules, ◌≡◌, ◌∙◌, List, true, ap, arith, length, subst, sym}
+use Rattle.std.specs.Prelude.{vec_len}
+use Rattle.std.proofs.lemmas.Bool.{false≢true}
+use Rattle.hy_rows.specs.Tables.{Lists}
+use Rattle.hy_commands.specs.declared.command.Commit.{Commit}
+use Rattle.hy_passes.specs.Worlds.{new_client}
+use Rattle.hy_partition.specs.Snapshots.{SnapshotState}
+use Rattle.hy_partition.proofs.SeatLaws.{length-numbered}
+use Rattle.hy_crossing.specs.Crossings.{database_behind}
+use Rattle.hy_database.specs.Database.{all_rows}
+use Rattle.hy_forks.proofs.ForkedLaws.{are_from-forks}
+use Rattle.hy_forks.specs.Forks.{SpellsDatabase, are_from}
+use Rattle.hy_session.specs.Snapshots.{lists_of_all}
+use Rattle.hy_program.proofs.RecoverLaws.{history_of, replayed_by, some-behind}
+use Rattle.hy_program.proofs.recover.tables_behind.Goals as goal
+
+-- one client
+pub take_last-pass-requires : goal.take_last-pass-requires
+take_last-pass-requires g c =
+    let clients : g.K.World.passes.clients ≡ 1 = ap (λ kit. kit.clients) (sym c.requires.kit) ∙ c.requires.clients in
+    let all : length c.in_ok-_passes.clients.items ≡ 1 = ap length c.in_ok-_passes.ensures.clients
+    ∙ length-numbered (new_client {C = Commit}) 0 g.K.World.passes.clients ∙ clients in
+    let count : vec_len c.in_ok-_passes.clients ≡ 1 = search (rules, all) in
+    omega (arith, count)
+
+-- the snapshots are those of these partitions
+pub unreachable-requires : goal.unreachable-requires
+unreachable-requires g c =
+    let kit = g.K.World.passes in
+    let taken = c.in_ok-fork_all.field-0 in
+    let news = c.fork_all.new.parts.items in
+    let from = are_from-forks 4_096 kit c.in_ok-parts.journal.list.log c.in_ok-parts.pass.seen taken c.in_ok-parts.parts.items news
+    c.in_ok-fork_all.ensures.forks in
+    false≢true (c.in-Err.ensures.mine.1 (subst (λ (it : List SnapshotState). are_from kit it news ≡ true)
+    (sym c.new-session.ensures) from))
+
+-- they spell the database behind the serial list
+pub returns-clause-rows : goal.returns-clause-rows
+returns-clause-rows g c =
+    let lists = c.args.load.now in
+    let batches = c.args.batches.now in
+    let log = c.in_ok-parts.journal.list.log in
+    let taken = c.in_ok-fork_all.field-0 in
+    let count : g.K.World.passes.partitions ≡ length lists.tables.warehouses =
+    ap (λ kit. kit.partitions) (sym c.requires.kit) ∙ c.requires.partitions in
+    let history = history_of lists 100_000 1_000_000 g.K.World.passes.partitions batches log c.in_ok-parts.parts.items count
+    c.in_ok-parts.ensures.recovered c.in_ok-parts.ensures.history in
+    let load : SpellsDatabase 4_096 (database_behind lists log) taken =
+    subst (λ (all : Lists). SpellsDatabase 4_096 (database_behind all log) taken) (sym c.requires.load)
+    c.in_ok-fork_all.ensures.database in
+    let spells : SpellsDatabase 4_096 (database_behind lists log) c.new-session.result =
+    subst (λ (it : List SnapshotState). SpellsDatabase 4_096 (database_behind lists log) it) (sym c.new-session.ensures) load in
+    let rows : (lists_of_all 4_096 c.new-session.result).tables ≡ all_rows (database_behind lists log) =
+    ap (λ (all : Lists). all.tables) (c.shows.ensures (database_behind lists log) (some-behind lists log c.sound.ensures) spells) in
+    replayed_by lists batches log (lists_of_all 4_096 c.new-session.result).tables history rows
+    c.in_ok-parts.ensures.consistent c.tables-tables.result c.tables-tables.ensures.tables

@@ -1,0 +1,277 @@
+-- A command of several warehouses that is run again: each warehouse that it names keeps it, under its number.
+use Rattle.std.proofs.Common.{◌≡◌, ◌⊎◌, ◌<◌, ◌==◌, ◌&&◌, ◌||◌, ℕ, zero, suc, ◌+◌, Bool, true, false, cond, List, [], ◌∷◌, ◌++◌, length, Option, Some, None, is_some, inl, inr, refl, sym, ap, ◌∙◌, subst, arith}
+use Rattle.std.specs.Prelude.{IfSome, MatchOption, nat_lt, slice_get, unwrap_or}
+use Rattle.std.specs.List.{list_any}
+use Rattle.std.proofs.lemmas.Bool.{false≢true, ne_eqb, true≢false}
+use Rattle.hy_rows.specs.Tables.{Lists, Tables}
+use Rattle.hy_rows.specs.Rows.{customer_of}
+use Rattle.hy_rows.specs.declared.customer.Customer.{Customer}
+use Rattle.hy_schema.specs.declared.refusal.Refusal.{Refusal}
+use Rattle.hy_schema.specs.declared.refusal.Refusal.TheVariants as refusals
+use Rattle.hy_passes.specs.Worlds.{PassState}
+use Rattle.hy_commands.specs.declared.command.Command.{Command}
+use Rattle.hy_commands.specs.declared.command.Command.TheVariants as commands
+use Rattle.hy_commands.specs.declared.command.Commit.{Commit}
+use Rattle.hy_commands.specs.declared.command.Commit.TheVariants as commits
+use Rattle.hy_commands.specs.declared.command.Payment.{Payment}
+use Rattle.hy_commands.specs.declared.command.Who.{Who}
+use Rattle.hy_commands.specs.declared.command.Who.TheVariants as who
+use Rattle.hy_commands.specs.declared.reply.Reply.{Reply}
+use Rattle.hy_commands.specs.declared.reply.Reply.TheVariants as replies
+use Rattle.hy_commands.specs.Customers.{customer_meant}
+use Rattle.hy_commands.specs.Parts.{Database, by_number, customer_home_of, database_of, is_by_number, refusal_in}
+use Rattle.hy_commands.specs.Transactions.{accepted, has_customer}
+use Rattle.hy_commands.proofs.AcceptedLaws.{accepted-in}
+use Rattle.hy_database.specs.Database.{act_on_all, customer_rows, kept_in, whole_outcome}
+use Rattle.hy_database.proofs.PartLaws.{number-chosen}
+use Rattle.hy_batches.specs.Grammar.{names}
+use Rattle.hy_partition.specs.Jobs.{DoneState, JobState, Log, RunningJob, told}
+use Rattle.hy_partition.specs.Partition.{PartitionState, terms_of}
+use Rattle.hy_partition.specs.Steps.{is_full}
+use Rattle.hy_crossing.specs.Crossings.{AcceptsAll, Crosses, EndsIfNamed, KeepsIfNamed, RefusesAll, TellsIfNamed, crossing_entry, crossing_refusal, database_behind, entry_of, is_named, next_number, some_is_full, with_full}
+use Rattle.hy_crossing.specs.Lists.{InTurn, Pairwise}
+use Rattle.hy_crossing.proofs.AcceptLaws.{same-refusal}
+use Rattle.hy_crossing.proofs.PairLaws.{pairs-then}
+use Rattle.hy_sound.specs.Sound.{is_known}
+use Rattle.hy_recovery.specs.inside.Ways.{CanRunCrossing, Enters, IsAtRest, IsShortage, KeepsOne, KeepsSeen, KeepsWhereNamed, crossings_in}
+use Rattle.hy_recovery.proofs.LocalLaws.{accepted-reply, none-is}
+use Rattle.hy_recovery.proofs.PlaceLaws.{pairs-each, pairs-weaker}
+
+-- ---- nothing runs, so nothing ends
+
+still-here : (command : Command) (number : ℕ) (before after : Log) (old new : PartitionState) → old.running ≡ None
+    → EndsIfNamed command number before after old new → (new ≡ old) × (after ≡ before)
+still-here command number before after old new idle ends = elim ends [
+  | inl named ↦ by old.running idle _ named.1
+  | inr other ↦ other.1
+]
+  where
+    by : (running : Option RunningJob) → running ≡ None → (Ended : RunningJob → Type 0)
+        → MatchOption running ((new ≡ old) × (after ≡ before)) Ended → (new ≡ old) × (after ≡ before)
+    by None is Ended same = same
+    by (Some job) is Ended ended = absurd (cc)
+
+pub still-all : (command : Command) (number : ℕ) (before after : Log) (olds news : List PartitionState)
+    → ((place : ℕ) → IfSome (slice_get olds place) IsAtRest)
+    → InTurn (EndsIfNamed command) number before after olds news → (news ≡ olds) × (after ≡ before)
+still-all command number before after [] [] rest turn = (refl, turn)
+still-all command number before after (old ∷ olds) (new ∷ news) rest turn =
+    let first = still-here command number before turn.0 old new (rest 0).running turn.1 in
+    let later = still-all command (suc number) turn.0 after olds news (λ place. rest (suc place)) turn.2 in
+    (cc (first.0, later.0), later.1 ∙ first.1)
+still-all command number before after [] (new ∷ news) rest turn = absurd turn
+still-all command number before after (old ∷ olds) [] rest turn = absurd turn
+
+-- ---- a command that names its customer by number is kept as it is
+
+module _ (database : Database) (command : Command) (unrefused : refusal_in database command ≡ None) where
+  abbrev rows : Tables
+  rows = customer_rows command database
+
+  there : has_customer command rows ≡ true
+  there = (accepted-in database command unrefused).customer
+
+pub kept-same : (database : Database) (command : Command) → refusal_in database command ≡ None
+    → is_by_number command ≡ true → kept_in database command ≡ command
+kept-same database (commands.NewOrder order) unrefused numbered = refl
+kept-same database (commands.Delivery delivery) unrefused numbered = refl
+kept-same database (commands.OrderStatus status) unrefused numbered = refl
+kept-same database (commands.StockLevel level) unrefused numbered = refl
+kept-same database (commands.Payment payment) unrefused numbered = by payment.who refl
+  where
+    tables : Tables
+    tables = customer_rows (commands.Payment payment) database
+
+    by : (whom : Who) → payment.who ≡ whom → kept_in database (commands.Payment payment) ≡ commands.Payment payment
+    by (who.Last name) is =
+        absurd (false≢true (sym (ap (λ w. is_by_number (commands.Payment record payment { who = w })) is) ∙ numbered))
+    by (who.Number number) is =
+        let meant : Who → Customer =
+        λ w. unwrap_or (customer_meant payment.customer_warehouse payment.customer_district w tables.customers) (customer_of []) in
+        let found : is_some (customer_meant payment.customer_warehouse payment.customer_district (who.Number number)
+        tables.customers) ≡ true =
+        ap (λ w. is_some (customer_meant payment.customer_warehouse payment.customer_district w tables.customers)) (sym is)
+        ∙ there database (commands.Payment payment) unrefused in
+        let same : (meant payment.who).id ≡ number =
+        ap (λ w. (meant w).id) is
+        ∙ number-chosen payment.customer_warehouse payment.customer_district tables.customers number found in
+        ap (λ n. commands.Payment record payment { who = who.Number n }) same
+        ∙ ap (λ w. commands.Payment record payment { who = w }) (sym is)
+
+-- ---- which are full
+
+none-full : (command : Command) (number : ℕ) (rows : List PartitionState)
+    → ((place : ℕ) → IfSome (slice_get rows place) (λ p.
+    names command (number + place) ≡ true → length p.kept < p.max_kept))
+    → some_is_full command number rows ≡ false
+none-full command number [] few = refl
+none-full command number (p ∷ rows) few =
+    let later = none-full command (suc number) rows (λ place.
+    let next : number + suc place ≡ suc number + place = omega arith in
+    subst (λ n. IfSome (slice_get rows place) (λ p. names command n ≡ true → length p.kept < p.max_kept)) next
+    (few (suc place))) in
+    let same : number + 0 ≡ number = omega arith in
+    ap (λ b. b || some_is_full command (suc number) rows)
+    (here (names command number) refl (subst (λ n. names command n ≡ true → length p.kept < p.max_kept) same (few 0)))
+    ∙ later
+  where
+    here : (named : Bool) → names command number ≡ named → (names command number ≡ true → length p.kept < p.max_kept)
+        → (is_named command number && is_full p) ≡ false
+    here true is few =
+        let less = few is in
+        ap (λ b. b && is_full p) is ∙ ne_eqb (length p.kept) p.max_kept (λ same. absurd (omega (arith, same, less)))
+    here false is few = ap (λ b. b && is_full p) is
+
+-- ---- the whole command
+
+module _ (lists : Lists) (number : ℕ) (command : Command) (pass : PassState Commit) (before after : Log)
+    (olds news : List PartitionState) (answer : DoneState) (can : CanRunCrossing lists number command before olds)
+    (crosses : Crosses lists (record { command = command; pass = pass }) before after olds news answer) where
+  abbrev job : JobState
+  job = record { command = command; pass = pass }
+
+  abbrev middle : List PartitionState
+  middle = crosses.middle
+
+  still : (crosses.informs.ended ≡ olds) × (crosses.log ≡ before)
+  still = still-all command 1 before crosses.log olds crosses.informs.ended can.rest crosses.informs.ends
+
+  tells : Pairwise (TellsIfNamed command before) 1 olds middle
+  tells =
+      subst (λ log. Pairwise (TellsIfNamed command log) 1 olds middle) still.1
+      (subst (λ rows. Pairwise (TellsIfNamed command crosses.log) 1 rows middle) still.0 crosses.informs.tells)
+
+  does : AcceptsAll lists job before after middle news answer ⊎ RefusesAll lists job before after middle news answer
+  does = subst (λ log. AcceptsAll lists job log after middle news answer ⊎ RefusesAll lists job log after middle news answer)
+      still.1 crosses.does
+
+  unrefused : refusal_in (database_behind lists before) command ≡ None
+  unrefused = same-refusal lists before command ∙ none-is (refusal_in (database_of lists) command) can.known
+
+  abbrev HasRoom : ℕ → PartitionState → Type 0
+  HasRoom place p = names command (suc place) ≡ true → length p.kept < p.max_kept
+
+  still-room : (place : ℕ) (old new : PartitionState) → TellsIfNamed command before (suc place) old new
+      → HasRoom place old → HasRoom place new
+  still-room place old new tells few = elim tells [
+    | inl named ↦ λ is. subst (λ (p : PartitionState). length p.kept < p.max_kept) (sym named.1.0) (few is)
+    | inr other ↦ λ is. subst (λ (p : PartitionState). length p.kept < p.max_kept) (sym other.1) (few is)
+  ]
+
+  not-full : some_is_full command 1 middle ≡ false
+  not-full =
+      none-full command 1 middle (λ place.
+      let first : suc place ≡ 1 + place = omega arith in
+      subst (λ n. IfSome (slice_get middle place) (λ p. names command n ≡ true → length p.kept < p.max_kept)) first
+      (pairs-each (TellsIfNamed command before) HasRoom HasRoom olds middle
+      (λ place old new tells at there few. still-room place old new tells few) tells can.few place))
+
+  no-reason : crossing_refusal lists before middle command ≡ None
+  no-reason =
+      ap (λ full. with_full full (refusal_in (database_behind lists before) command)) not-full
+      ∙ ap (with_full false) unrefused
+
+  replies-not : (why : Refusal) → (act_on_all command (database_behind lists before)).reply ≡ replies.Refused why → ⊥
+  replies-not why is =
+      let database : Database = database_behind lists before in
+      accepted-reply database.items (customer_home_of command) command (customer_rows command database) why
+      (sym (ap (λ r. (whole_outcome r command database).reply) unrefused) ∙ is)
+
+  same-why : (one other : Refusal) → replies.Refused one ≡ replies.Refused other → one ≡ other
+  same-why one other is = cc
+
+  -- where it is refused, a frame or memory lacked
+  pub lacked : (why : Refusal) → answer.reply ≡ replies.Refused why → IsShortage why
+  lacked why refused = elim does [
+    | inl accepts ↦
+        absurd (replies-not why (sym (ap (λ (d : DoneState). d.reply) accepts.answer_is) ∙ refused))
+    | inr refuses ↦
+        let same : refuses.why ≡ why =
+        same-why refuses.why why (sym (ap (λ (d : DoneState). d.reply) refuses.answer_is) ∙ refused) in
+        subst IsShortage same (elim refuses.reason [
+          | inl reason ↦ let some : None ≡ Some refuses.why = sym no-reason ∙ reason in absurd (cc)
+          | inr lacks ↦ elim lacks.1 [ inl frame ↦ inl frame.0 | inr memory ↦ inr memory ]
+        ])
+  ]
+
+  -- where it isn't, it is kept
+  module _ (unless : (why : Refusal) → answer.reply ≡ replies.Refused why → ⊥) where
+    accepts : AcceptsAll lists job before after middle news answer
+    accepts = elim does [
+      | inl is ↦ is
+      | inr refuses ↦ absurd (unless refuses.why (ap (λ (d : DoneState). d.reply) refuses.answer_is))
+    ]
+
+    abbrev commit : Commit
+    commit = commits.Cross number command
+
+    entry-commit : (entry_of lists job before).commit ≡ commit
+    entry-commit =
+        let same : next_number before ≡ number = omega (arith, can.next) in
+        ap (λ n. commits.Cross n (kept_in (database_behind lists before) command)) same
+        ∙ ap (λ command. commits.Cross number command)
+        (kept-same (database_behind lists before) command unrefused can.by_number)
+
+    kept-here : (n : ℕ) (old between new : PartitionState) → TellsIfNamed command before n old between
+        → KeepsIfNamed command (entry_of lists job before).commit after n between new
+        → IsAtRest old → KeepsWhereNamed command commit n old new
+    kept-here n old between new tells keeps rest = elim tells [
+      | inl named ↦
+          let told = named.1.0 in
+          elim keeps [
+            | inl kept ↦
+                let k = kept.1 in
+                inl (
+                  named.0,
+                  record {
+                    terms = k.beside.terms ∙ ap terms_of told;
+                    kept =
+                        k.kept ∙ ap (λ (p : PartitionState). p.kept ++ (entry_of lists job before).commit ∷ []) told
+                        ∙ ap (λ commit. old.kept ++ commit ∷ []) entry-commit;
+                    drained = k.beside.drained ∙ ap (λ (p : PartitionState). p.drained) told;
+                    rest = record {
+                      running = k.beside.running ∙ ap (λ (p : PartitionState). p.running) told ∙ rest.running;
+                      part = k.part;
+                      finished = k.beside.finished ∙ ap (λ (p : PartitionState). p.finished) told ∙ rest.finished;
+                    };
+                    max_frames = k.beside.max_frames ∙ ap (λ (p : PartitionState). p.space.frames.max) told;
+                    snapshots = k.beside.snapshots ∙ ap (λ (p : PartitionState). p.snapshots) told;
+                  },
+                )
+            | inr other ↦ absurd (true≢false (sym named.0 ∙ other.0))
+          ]
+      | inr other ↦ elim keeps [
+        | inl kept ↦ absurd (true≢false (sym kept.0 ∙ other.0))
+        | inr same ↦
+            let all : new ≡ old = same.1 ∙ other.1 in
+            inr (
+              other.0,
+              record {
+                terms = ap terms_of all;
+                kept = ap (λ (p : PartitionState). p.kept) all;
+                drained = ap (λ (p : PartitionState). p.drained) all;
+                rest = subst IsAtRest (sym all) rest;
+                max_frames = ap (λ (p : PartitionState). p.space.frames.max) all;
+                snapshots = ap (λ (p : PartitionState). p.snapshots) all;
+              },
+            )
+      ]
+    ]
+
+    pub keeps-crossing : Pairwise (KeepsWhereNamed command commit) 1 olds news
+    keeps-crossing =
+        pairs-weaker (λ n old new. IsAtRest old → KeepsWhereNamed command commit n old new)
+        (KeepsWhereNamed command commit) IsAtRest (λ n old new rest leads. leads rest) 1 olds news can.rest
+        (pairs-then (TellsIfNamed command before) (KeepsIfNamed command (entry_of lists job before).commit after)
+        (λ n old new. IsAtRest old → KeepsWhereNamed command commit n old new) kept-here 1 olds middle news tells
+        accepts.parts)
+
+    pub enters-crossing : Enters commit before after
+    enters-crossing = (
+      length pass.seen,
+      accepts.log_is
+          ∙ ap (λ commit. before ++ record { commit = commit; stamp = length pass.seen } ∷ []) entry-commit,
+    )
+
+    pub crossed-client : answer.pass.client ≡ pass.client
+    crossed-client = ap (λ (d : DoneState). d.pass.client) accepts.answer_is

@@ -1,0 +1,253 @@
+-- The batches of a log one behind another.
+use Rattle.std.proofs.Common.{◌≡◌, ◌<◌, ◌≤◌, ◌+◌, ◌&&◌, ℕ, zero, suc, true, List, [], ◌∷◌, ◌++◌, take, drop, length, Option, Some, None, refl, sym, ap, ◌∙◌, subst, arith, length-append}
+use Rattle.std.specs.Prelude.{IfSome, IsSomeAnd, nat_le, slice_get, slice_index_or}
+use Rattle.std.specs.List.{flat_map, list_all}
+use Rattle.std.proofs.lemmas.Bool.{and_parts}
+use Rattle.std.proofs.lemmas.List.{append-nil}
+use Rattle.std.proofs.lemmas.List.Concat.{flat_map-cons}
+use Rattle.hy_rows.specs.Limits.{max_warehouses}
+use Rattle.hy_rows.specs.Ranges.{is_between}
+use Rattle.hy_rows.specs.Tables.{Lists}
+use Rattle.hy_commands.specs.declared.command.Commit.{Commit}
+use Rattle.hy_batches.specs.Grammar.{are_lists, fits, is_batch, is_commit, is_list}
+use Rattle.hy_batches.proofs.ListLaws.{flat_map-taken}
+use Rattle.hy_partition.specs.Jobs.{Log}
+use Rattle.hy_partition.specs.Partition.{PartitionState, terms_of}
+use Rattle.hy_partition.specs.Steps.{Begins}
+use Rattle.hy_crossing.specs.Crossings.{next_number}
+use Rattle.hy_crossing.specs.Lists.{Pairwise}
+use Rattle.hy_crossing.specs.Making.{AllBegin}
+use Rattle.hy_forks.specs.Drains.{TellsHere}
+use Rattle.hy_sound.specs.Sound.{AreSound, IsSoundBatch, list_at}
+use Rattle.hy_sound.specs.Merges.{count_of, left_of}
+use Rattle.hy_sound.specs.inside.Steps.{IsSoundFrom}
+use Rattle.hy_sound.proofs.ListLaws.{take-all}
+use Rattle.hy_sound.proofs.LogLaws.{sound-next}
+use Rattle.hy_sound.proofs.MergeLaws.{left-first}
+use Rattle.hy_sound.proofs.SoundLaws.{sound-from}
+use Rattle.hy_recovery.specs.Recovering.{AreRecovered, GoesOn, IsRecovered, NoneAreTooMany, joined}
+use Rattle.hy_recovery.specs.inside.Ways.{Aim, AreOnWay, AreThere, IsBound, Marked, Marks, crossings_in, untouched}
+use Rattle.hy_recovery.proofs.PlaceLaws.{at-place, each-from, get-some, get-within, pairs-at}
+
+-- ---- lists
+
+joined-cons : (batch : List (List Commit)) (batches : List (List (List Commit))) (place : ℕ)
+    → length (joined (batch ∷ batches) place) ≡ length (list_at batch place) + length (joined batches place)
+joined-cons batch batches place =
+    ap length (flat_map-cons (λ batch. list_at batch place) batch batches)
+    ∙ length-append (list_at batch place) (joined batches place)
+
+pub joined-taken : (count : ℕ) (batches : List (List (List Commit))) (place : ℕ)
+    → length (joined (take count batches) place) ≤ length (joined batches place)
+joined-taken zero batches place = omega arith
+joined-taken (suc count) [] place = omega arith
+joined-taken (suc count) (batch ∷ batches) place =
+    omega (
+      arith,
+      joined-taken count batches place,
+      joined-cons batch batches place,
+      joined-cons batch (take count batches) place,
+    )
+
+pub drop-at : {Row : Type 0} (rows : List Row) (place : ℕ) (row : Row) → slice_get rows place ≡ Some row
+    → drop place rows ≡ row ∷ drop (place + 1) rows
+drop-at {Row = Row} rows place row at =
+    let after : suc place ≡ place + 1 = omega arith in
+    from rows place at ∙ ap (λ after. row ∷ drop after rows) after
+  where
+    from : (rows : List Row) (place : ℕ) → slice_get rows place ≡ Some row → drop place rows ≡ row ∷ drop (suc place) rows
+    from [] place at = absurd (cc)
+    from (first ∷ rows) zero at = let same : first ≡ row = cc in ap (λ first. first ∷ rows) same
+    from (first ∷ rows) (suc place) at = from rows place at
+
+all-at : {Row : Type 0} (test : Row → _) (rows : List Row) (place : ℕ) (row : Row) → list_all test rows ≡ true
+    → slice_get rows place ≡ Some row → test row ≡ true
+all-at test [] place row all at = absurd (cc)
+all-at test (first ∷ rows) zero row all at =
+    let same : first ≡ row = cc in
+    ap test (sym same) ∙ (and_parts (test first) (list_all test rows) all).0
+all-at test (first ∷ rows) (suc place) row all at =
+    all-at test rows place row (and_parts (test first) (list_all test rows) all).1 at
+
+lists-allowed : (number : ℕ) (batch : List (List Commit)) (place : ℕ) → are_lists number batch ≡ true
+    → place < length batch → list_all (is_commit (number + place)) (list_at batch place) ≡ true
+lists-allowed number [] place are within = absurd (omega (arith, within))
+lists-allowed number (commits ∷ batch) zero are within =
+    let same : number ≡ number + 0 = omega arith in
+    let here = (and_parts (is_list number commits) (are_lists (number + 1) batch) are).0 in
+    subst (λ n. list_all (is_commit n) commits ≡ true) same
+    (and_parts (fits 4 (length commits)) (list_all (is_commit number) commits) here).1
+lists-allowed number (commits ∷ batch) (suc place) are within =
+    let next : number + 1 + place ≡ number + suc place = omega arith in
+    subst (λ n. list_all (is_commit n) (list_at batch place) ≡ true) next
+    (lists-allowed (number + 1) batch place (and_parts (is_list number commits) (are_lists (number + 1) batch) are).1
+    (omega (arith, within)))
+
+pub batch-allowed : (batch : List (List Commit)) (place : ℕ) → is_batch batch ≡ true → place < length batch
+    → list_all (is_commit (suc place)) (list_at batch place) ≡ true
+batch-allowed batch place is within =
+    let first : 1 + place ≡ suc place = omega arith in
+    subst (λ n. list_all (is_commit n) (list_at batch place) ≡ true) first
+    (lists-allowed 1 batch place
+    (and_parts (is_between 1 max_warehouses (length batch)) (are_lists 1 batch) is).1 within)
+
+-- ---- on the way through a log
+
+abbrev pub aim_of : List (List (List Commit)) → ℕ → ℕ → ℕ → ℕ → Aim
+aim_of batches frames most count last =
+    record { frames = frames; most = most; goal = joined (take count batches); last = last }
+
+-- the batches before a place were run
+pub record AreRun (lists : Lists) (batches : List (List (List Commit))) (frames most place : ℕ) (log : Log)
+    (parts : List PartitionState) : Type 0 where
+  pub last : ℕ
+  pub total : ℕ
+  pub there : AreThere lists (aim_of batches frames most place last) log parts
+  pub done : AreSound lists 0 last (take place batches)
+  pub later : AreSound lists last total (drop place batches)
+
+pub run-none : (lists : Lists) (batches : List (List (List Commit))) (frames most total : ℕ) (log : Log)
+    (parts : List PartitionState) → AllBegin lists frames most parts → log ≡ [] → AreSound lists 0 total batches
+    → AreRun lists batches frames most 0 log parts
+run-none lists batches frames most total log parts begin none sound = record {
+  last = 0;
+  total = total;
+  there = record {
+    count = begin.count;
+    each = λ place. each-from _ (slice_get parts place) (λ p at.
+        let is = at-place (Begins lists (suc place) frames most) parts place p at (begin.each place) in
+        record {
+          terms = is.terms;
+          kept = append-nil p.kept ∙ is.kept;
+          drained = is.drained;
+          rest = record { running = is.running; part = is.part; finished = is.finished };
+          max_frames = is.max_frames;
+          snapshots = is.snapshots;
+        });
+    last = ap crossings_in none;
+  };
+  done = refl;
+  later = sound;
+}
+
+module _ (lists : Lists) (batches : List (List (List Commit))) (frames most place : ℕ) (log : Log)
+    (parts : List PartitionState) (run : AreRun lists batches frames most place log parts)
+    (batch : List (List Commit)) (at : slice_get batches place ≡ Some batch) where
+  split : AreSound lists run.last run.total (batch ∷ drop (place + 1) batches)
+  split = subst (λ rows. AreSound lists run.last run.total rows) (drop-at batches place batch at) run.later
+
+  pub next_aim : Aim
+  next_aim = aim_of batches frames most (place + 1) split.0
+
+  goal-is : (k : ℕ) → joined (take (place + 1) batches) k ≡ joined (take place batches) k ++ list_at batch k
+  goal-is k = flat_map-taken (λ batch. list_at batch k) batches place batch at
+
+  left-is : (k : ℕ) → left_of (untouched batch) k ≡ list_at batch k
+  left-is k = left-first (untouched batch) k refl
+
+  pub run-batch : list_all is_batch batches ≡ true → NoneAreTooMany lists batches most
+      → AreOnWay lists next_aim (untouched batch) log parts
+  unfolding next_aim
+  run-batch are few = record {
+    count = run.there.count;
+    lists_are = split.1.count ∙ sym run.there.count;
+    each = λ k. each-from _ (slice_get parts k) (λ p there.
+        let is = at-place (IsBound lists (aim_of batches frames most place run.last) [] k) parts k p there
+        (run.there.each k) in
+        record {
+          terms = is.terms;
+          kept =
+              ap (λ rows. p.kept ++ rows) (left-is k)
+              ∙ ap (λ rows. rows ++ list_at batch k) (sym (append-nil p.kept) ∙ is.kept)
+              ∙ sym (goal-is k);
+          drained = is.drained;
+          rest = is.rest;
+          max_frames = is.max_frames;
+          snapshots = is.snapshots;
+        });
+    few = λ k within.
+        let whole = few k (omega (arith, within, run.there.count)) in
+        let less = joined-taken (place + 1) batches k in
+        omega arith;
+    allowed = λ k within.
+        ap (list_all (is_commit (suc k))) (left-is k)
+        ∙ batch-allowed batch k (all-at is_batch batches place batch are at) within;
+    sound =
+        subst (λ n. IsSoundFrom lists n split.0 (untouched batch)) (sym run.there.last)
+        (sound-from lists run.last split.0 batch (untouched batch) refl left-is split.1);
+  }
+
+  pub run-more : (later : Log) (news : List PartitionState) → AreThere lists next_aim later news
+      → AreRun lists batches frames most (place + 1) later news
+  unfolding next_aim
+  run-more later news there = record {
+    last = split.0;
+    total = run.total;
+    there = there;
+    done = sound-next lists run.last split.0 place batches batch at run.done split.1;
+    later = split.2;
+  }
+
+-- ---- at the end
+
+module _ (lists : Lists) (batches : List (List (List Commit))) (frames most place : ℕ) (log : Log)
+    (parts : List PartitionState) (run : AreRun lists batches frames most place log parts)
+    (all : length batches ≤ place) where
+  whole : take place batches ≡ batches
+  whole = take-all place batches all
+
+  pub goes-on : GoesOn lists batches log
+  goes-on = (
+    run.last,
+    subst (λ rows. AreSound lists 0 run.last rows) whole run.done,
+    (omega (arith, run.there.last)),
+  )
+
+  pub recovered : (marked told : List PartitionState) → Marks parts marked → Pairwise (TellsHere log) 1 marked told
+      → length told ≡ length marked → AreRecovered lists frames most batches told
+  recovered marked told marks tells count = record {
+    count = count ∙ marks.count ∙ run.there.count;
+    each = λ k. each-from _ (slice_get told k) (λ new there.
+        by k new there (slice_get marked k) refl
+        (at-place (λ new. IsSomeAnd (slice_get marked k) (λ old. TellsHere log (1 + k) old new)) told k new there
+        (pairs-at (TellsHere log) 1 marked told tells k)));
+  }
+    where
+      by : (k : ℕ) (new : PartitionState) → slice_get told k ≡ Some new → (found : Option PartitionState)
+          → slice_get marked k ≡ found → IsSomeAnd found (λ old. TellsHere log (1 + k) old new)
+          → IsRecovered lists frames most (joined batches k) (suc k) new
+      by k new there None at has = absurd has
+      by k new there (Some middle) at has =
+          let within : k < length parts = omega (arith, get-within marked k middle at, marks.count) in
+          let first = get-some parts k within in
+          let is = at-place (IsBound lists (aim_of batches frames most place run.last) [] k) parts k first.0 first.1
+          (run.there.each k) in
+          let mark : Marked first.0 middle = marks.each k first.0 middle first.1 at in
+          let same : new ≡ record first.0 { seen = log; drained = length first.0.kept } =
+          has.0 ∙ ap (λ (p : PartitionState). record p { seen = log }) mark in
+          let goal : first.0.kept ≡ joined batches k =
+          sym (append-nil first.0.kept) ∙ is.kept ∙ ap (λ rows. joined rows k) whole in
+          record {
+            terms = ap terms_of same ∙ is.terms;
+            kept = ap (λ (p : PartitionState). p.kept) same ∙ goal;
+            drained =
+                ap (λ (p : PartitionState). p.drained) same
+                ∙ sym (ap (λ (p : PartitionState). length p.kept) same);
+            running = ap (λ (p : PartitionState). p.running) same ∙ is.rest.running;
+            part = ap (λ (p : PartitionState). p.part) same ∙ is.rest.part;
+            finished = ap (λ (p : PartitionState). p.finished) same ∙ is.rest.finished;
+            max_frames = ap (λ (p : PartitionState). p.space.frames.max) same ∙ is.max_frames;
+            snapshots = λ child.
+                ap (λ (p : PartitionState). slice_index_or p.snapshots child None) same ∙ is.snapshots child;
+          }
+
+-- the commits of the batches before, and of the one at a place, are no more than all
+pub joined-next : (batches : List (List (List Commit))) (number place : ℕ) (batch : List (List Commit))
+    → slice_get batches number ≡ Some batch
+    → length (joined (take number batches) place) + length (list_at batch place) ≤ length (joined batches place)
+joined-next batches number place batch at =
+    let whole : length (joined (take (number + 1) batches) place)
+    ≡ length (joined (take number batches) place) + length (list_at batch place) =
+    ap length (flat_map-taken (λ batch. list_at batch place) batches number batch at)
+    ∙ length-append (joined (take number batches) place) (list_at batch place) in
+    omega (arith, whole, joined-taken (number + 1) batches place)

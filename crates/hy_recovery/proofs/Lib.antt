@@ -1,0 +1,8 @@
+pub mod PlaceLaws
+pub mod LocalLaws
+pub mod CrossedLaws
+pub mod WayLaws
+pub mod JoinedLaws
+pub mod ResultLaws
+pub mod MarkLaws
+pub mod EndLaws

@@ -1,0 +1,250 @@
+-- A command of one warehouse that is run again: it begins, it ends accepted or for want of frames or memory, and is kept.
+use Rattle.std.proofs.Common.{◌≡◌, ◌⊎◌, ◌<◌, ◌==◌, ◌&&◌, ◌||◌, ℕ, suc, ◌+◌, Bool, true, false, cond, not, List, [], ◌∷◌, ◌++◌, length, map, Option, Some, None, is_none, is_some, inl, inr, refl, sym, ap, ◌∙◌, subst, arith}
+use Rattle.std.specs.Prelude.{MatchOption, nat_lt}
+use Rattle.std.specs.List.{list_all, list_any}
+use Rattle.std.specs.Option.{option_or}
+use Rattle.std.proofs.lemmas.Bool.{and_parts, eqb-true, ltb-false, ne_eqb, false≢true}
+use Rattle.hy_rows.specs.Tables.{Lists, Tables, of_warehouse}
+use Rattle.hy_rows.specs.declared.item.Item.{Item}
+use Rattle.hy_schema.specs.declared.refusal.Refusal.{Refusal}
+use Rattle.hy_schema.specs.declared.refusal.Refusal.TheVariants as refusals
+use Rattle.hy_passes.specs.Worlds.{PassState}
+use Rattle.hy_commands.specs.declared.command.Command.{Command}
+use Rattle.hy_commands.specs.declared.command.Command.TheVariants as commands
+use Rattle.hy_commands.specs.declared.command.Commit.{Commit}
+use Rattle.hy_commands.specs.declared.command.Commit.TheVariants as commits
+use Rattle.hy_commands.specs.declared.reply.Reply.{Reply}
+use Rattle.hy_commands.specs.declared.reply.Reply.TheVariants as replies
+use Rattle.hy_commands.specs.Commands.{is_in_range, is_reader, kept_of, warehouses_of}
+use Rattle.hy_commands.specs.Customers.{identity_of}
+use Rattle.hy_commands.specs.Parts.{customer_home_of, database_of, is_there, refusal_in, rows_of}
+use Rattle.hy_commands.specs.Transactions.{accepted, begin_refusal_of, has_customer, has_districts, has_items, outcome_of, refusal_of}
+use Rattle.hy_commands.proofs.AcceptedLaws.{IsAcceptedIn, accepted-in}
+use Rattle.hy_commands.proofs.DatabaseLaws.{rows-load, there-load}
+use Rattle.hy_commands.proofs.SameCustomers.{has_customer-same, same-customers}
+use Rattle.hy_database.proofs.PartLaws.{named-customer_home}
+use Rattle.hy_batches.specs.Grammar.{command_fits, is_allowed, is_commit, names, names_several}
+use Rattle.hy_partition.specs.Jobs.{DoneState, JobState, Log, RunningJob, accepted_answer, begun, entered_by, refused_answer, told}
+use Rattle.hy_partition.specs.Partition.{PartitionState, outcome_now, refusal_now, rows_now, terms_of}
+use Rattle.hy_partition.specs.Steps.{Accepts, Ends, IsUnbegun, Refuses, begin_refusal, is_busy, is_full, with_job}
+use Rattle.hy_sound.specs.Sound.{is_known}
+use Rattle.hy_recovery.specs.inside.Ways.{CanRunLocal, Enters, IsAtRest, IsShortage, KeepsOne}
+
+-- ---- what such a command has passed
+
+pub none-is : {Row : Type 0} (found : Option Row) → is_none found ≡ true → found ≡ None
+none-is None is = refl
+none-is (Some row) is = absurd (cc)
+
+-- one name, which is this
+only-name : (named : List ℕ) (warehouse : ℕ) → nat_lt 1 (length named) ≡ false
+    → list_any (λ name. name == warehouse) named ≡ true → list_all (λ name. name == warehouse) named ≡ true
+only-name [] warehouse few there = absurd (false≢true there)
+only-name (name ∷ []) warehouse few there = by (name == warehouse) there
+  where
+    by : (is : Bool) → (is || false) ≡ true → (is && true) ≡ true
+    by true there = refl
+    by false there = there
+only-name (name ∷ other ∷ named) warehouse few there =
+    let most = ltb-false 1 (length (name ∷ other ∷ named)) few in
+    absurd (omega (arith, most))
+
+pub reads-not : (command : Command) → command_fits command ≡ true → is_reader command ≡ false
+reads-not (commands.NewOrder order) fits = refl
+reads-not (commands.Payment payment) fits = refl
+reads-not (commands.Delivery delivery) fits = refl
+reads-not (commands.OrderStatus status) fits = absurd (false≢true fits)
+reads-not (commands.StockLevel level) fits = absurd (false≢true fits)
+
+pub kept-one : (command : Command) → is_reader command ≡ false → kept_of command ≡ commits.Local command ∷ []
+kept-one command writes = ap (λ b. cond b [] (commits.Local command ∷ [])) writes
+
+not-false : (b : Bool) → not b ≡ true → b ≡ false
+not-false true is = absurd (cc)
+not-false false is = refl
+
+module _ (command : Command) (p : PartitionState) (can : CanRunLocal command p) where
+  abbrev w : ℕ
+  w = p.warehouse
+
+  both : (is_allowed w (commits.Local command) ≡ true) × (command_fits command ≡ true)
+  both = and_parts (is_allowed w (commits.Local command)) (command_fits command) can.allowed
+
+  several : ((is_in_range command && names command w) ≡ true) × (not (names_several command) ≡ true)
+  several = and_parts (is_in_range command && names command w) (not (names_several command)) both.0
+
+  named : list_all (λ name. name == w) (warehouses_of command) ≡ true
+  named = only-name (warehouses_of command) w (not-false (names_several command) several.1)
+      (and_parts (is_in_range command) (names command w) several.0).1
+
+  pub writes : is_reader command ≡ false
+  writes = reads-not command both.1
+
+  loaded : IsAcceptedIn (database_of p.load) command
+  loaded = accepted-in (database_of p.load) command (none-is (refusal_in (database_of p.load) command) can.known)
+
+  home : customer_home_of command ≡ w
+  home = eqb-true (customer_home_of command) w (named-customer_home (λ name. name == w) command named)
+
+  rows-are : rows_of (customer_home_of command) (database_of p.load) ≡ of_warehouse w p.load.tables
+  rows-are =
+      rows-load p.load (customer_home_of command)
+      (there-load p.load (customer_home_of command)
+      (named-customer_home (is_there (database_of p.load)) command loaded.named))
+      ∙ ap (λ n. of_warehouse n p.load.tables) home
+
+  customer : has_customer command (rows_now p) ≡ true
+  customer =
+      has_customer-same command (rows_now p) (rows_of (customer_home_of command) (database_of p.load))
+      (same-customers p.load w p.kept ∙ sym (ap (λ (tables : Tables). map identity_of tables.customers) rows-are))
+      ∙ loaded.customer
+
+  begins-of : begin_refusal_of w command (rows_now p) ≡ None
+  begins-of =
+      let in_range = loaded.in_range in
+      let districts = loaded.districts in
+      rw (in_range, named, districts, customer) refl
+
+  items : has_items p.load.items command ≡ true
+  items = loaded.known
+
+  pub unrefused : refusal_now p command ≡ None
+  unrefused = rw (begins-of, items) refl
+
+  has-room : is_full p ≡ false
+  has-room = ne_eqb (length p.kept) p.max_kept (λ same. absurd (omega (arith, same, can.few)))
+
+  pub begins : begin_refusal p command ≡ None
+  begins =
+      let running = can.rest.running in
+      let part = can.rest.part in
+      let finished = can.rest.finished in
+      rw (running, part, finished, begins-of, writes, has-room) refl
+
+  -- a begin that is refused lacks memory
+  pub unbegun : (why : Refusal) → IsUnbegun p command why → IsShortage why
+  unbegun why refused = elim refused [
+    | inl reason ↦ let some : None ≡ Some why = sym begins ∙ reason in absurd (cc)
+    | inr lacks ↦ inr lacks.2
+  ]
+
+-- ---- replies
+
+pub accepted-reply : (items : List Item) (warehouse : ℕ) (command : Command) (tables : Tables) (why : Refusal)
+    → (accepted items warehouse command tables).reply ≡ replies.Refused why → ⊥
+accepted-reply items warehouse (commands.NewOrder order) tables why is = absurd (cc)
+accepted-reply items warehouse (commands.Payment payment) tables why is = absurd (cc)
+accepted-reply items warehouse (commands.OrderStatus status) tables why is = absurd (cc)
+accepted-reply items warehouse (commands.Delivery delivery) tables why is = absurd (cc)
+accepted-reply items warehouse (commands.StockLevel level) tables why is = absurd (cc)
+
+-- ---- how it ends
+
+module _ (command : Command) (pass : PassState Commit) (p ended new : PartitionState) (before after : Log)
+    (can : CanRunLocal command p) where
+  abbrev job : JobState
+  job = record { command = command; pass = pass }
+
+  abbrev started : PartitionState
+  started = with_job p job
+
+  abbrev HasEnded : Type 0
+  HasEnded = Accepts (begun job) (Some before) (Some after) started ended
+      ⊎ Refuses (begun job) (Some before) (Some after) started ended
+
+  module _ (how : HasEnded) where
+    -- it has an answer
+    pub answers : ended.finished ≡ None → ⊥
+    answers none = elim how [
+      | inl accepts ↦ by _ accepts.does.ends.finished
+      | inr refuses ↦ elim refuses.refused.reason [
+        | inl item ↦ by _ item.2.finished
+        | inr other ↦ elim other [ inl frame ↦ by _ frame.2.finished | inr memory ↦ by _ memory.1.finished ]
+      ]
+    ]
+      where
+        by : (answer : DoneState) → ended.finished ≡ Some answer → ⊥
+        by answer some = let same : None ≡ Some answer = sym none ∙ some in absurd (cc)
+
+    module _ (done : DoneState) (found : ended.finished ≡ Some done) where
+      answer-is : (answer : DoneState) → ended.finished ≡ Some answer → done ≡ answer
+      answer-is answer some = let same : Some done ≡ Some answer = sym found ∙ some in cc (same)
+
+      -- where it is refused, a frame or memory lacked
+      pub lacked : (why : Refusal) → done.reply ≡ replies.Refused why → IsShortage why
+      lacked why refused = elim how [
+        | inl accepts ↦
+            let none = unrefused command p can in
+            let answer = answer-is _ accepts.does.ends.finished in
+            let reply : (outcome_now started command).reply ≡ replies.Refused why =
+            sym (ap (λ (d : DoneState). d.reply) answer) ∙ refused in
+            absurd (accepted-reply p.load.items p.warehouse command (rows_now p) why
+            (sym (ap (λ r. (outcome_of r p.load.items p.warehouse command (rows_now p)).reply) none) ∙ reply))
+        | inr refuses ↦ elim refuses.refused.reason [
+          | inl item ↦
+              let some : None ≡ Some refusals.NoSuchItem = sym (unrefused command p can) ∙ item.1 in
+              absurd (cc)
+          | inr other ↦ elim other [
+            | inl frame ↦
+                let reply : replies.Refused refusals.NoFrame ≡ replies.Refused why =
+                sym (ap (λ (d : DoneState). d.reply) (answer-is _ frame.2.finished)) ∙ refused in
+                inl (same-why reply)
+            | inr memory ↦
+                let reply : replies.Refused refusals.NoMemory ≡ replies.Refused why =
+                sym (ap (λ (d : DoneState). d.reply) (answer-is _ memory.1.finished)) ∙ refused in
+                inr (same-why reply)
+          ]
+        ]
+      ]
+        where
+          same-why : {one other : Refusal} → replies.Refused one ≡ replies.Refused other → other ≡ one
+          same-why is = cc
+
+      -- where it isn't, it is kept
+      module _ (unless : (why : Refusal) → done.reply ≡ replies.Refused why → ⊥)
+          (taken : new ≡ record ended { finished = None }) where
+        accepts : Accepts (begun job) (Some before) (Some after) started ended
+        accepts = elim how [
+          | inl is ↦ is
+          | inr refuses ↦ elim refuses.refused.reason [
+            | inl item ↦ absurd (unless _ (ap (λ (d : DoneState). d.reply) (answer-is _ item.2.finished)))
+            | inr other ↦ elim other [
+              | inl frame ↦ absurd (unless _ (ap (λ (d : DoneState). d.reply) (answer-is _ frame.2.finished)))
+              | inr memory ↦ absurd (unless _ (ap (λ (d : DoneState). d.reply) (answer-is _ memory.1.finished)))
+            ]
+          ]
+        ]
+
+        pub keeps-one : KeepsOne (commits.Local command) p new
+        keeps-one =
+            let does = accepts.does in
+            record {
+              terms = ap terms_of taken ∙ does.ends.rest.terms;
+              kept =
+                  ap (λ (p : PartitionState). p.kept) taken ∙ does.kept
+                  ∙ ap (λ rows. p.kept ++ rows) (kept-one command (writes command p can));
+              drained = ap (λ (p : PartitionState). p.drained) taken ∙ does.ends.rest.drained;
+              rest = record {
+                running = ap (λ (p : PartitionState). p.running) taken ∙ does.ends.running;
+                part = ap (λ (p : PartitionState). p.part) taken ∙ does.ends.rest.part ∙ can.rest.part;
+                finished = ap (λ (p : PartitionState). p.finished) taken;
+              };
+              max_frames = ap (λ (p : PartitionState). p.space.frames.max) taken ∙ does.ends.rest.max_frames;
+              snapshots = ap (λ (p : PartitionState). p.snapshots) taken ∙ does.ends.rest.snapshots;
+            }
+
+        pub enters-one : Enters (commits.Local command) before after
+        enters-one =
+            let first : before ≡ accepts.log = some-same accepts.before_is in
+            let last : after ≡ accepts.log ++ entered_by command pass = some-same accepts.after_is in (
+              length pass.seen,
+              last ∙ ap (λ log. log ++ entered_by command pass) (sym first)
+                  ∙ ap (λ rows. before ++ map (λ commit. record { commit = commit; stamp = length pass.seen }) rows)
+                  (kept-one command (writes command p can)),
+            )
+          where
+            some-same : {one other : Log} → Some one ≡ Some other → one ≡ other
+            some-same is = cc
+
+        pub same-client : done.pass.client ≡ pass.client
+        same-client = ap (λ (d : DoneState). d.pass.client) (answer-is _ accepts.does.ends.finished)

@@ -1,0 +1,37 @@
+-- What an answer to the command tells.
+use Rattle.std.proofs.Common.{subst}
+use Rattle.hy_partition.specs.Jobs.{JobState}
+use Rattle.hy_crossing.specs.Crossings.{Crosses}
+use Rattle.hy_recovery.proofs.CrossedLaws.{crossed-client, enters-crossing, keeps-crossing, lacked}
+use Rattle.hy_recovery.proofs.ResultLaws.{err-gives, ok-gives, ok-then}
+use Rattle.hy_recovery.proofs.running.run_crossing.Goals as goal
+
+pub returns-clause-kept : goal.returns-clause-kept
+returns-clause-kept g c =
+    let crosses = subst (λ (job : JobState). Crosses g.K.Loaded.load job c.args.journal.now.list.log
+    c.cross-done.new.journal.list.log c.args.parts.now.items c.cross-done.new.parts.items c.cross-done.result)
+    c.new.ensures c.cross-done.ensures.crosses in
+    ok-then c.pass_of.result _ _ c.pass_of.ensures.accepted (λ pass is.
+    keeps-crossing g.K.Loaded.load c.args.number c.args.command c.args.pass c.args.journal.now.list.log
+    c.cross-done.new.journal.list.log c.args.parts.now.items c.cross-done.new.parts.items c.cross-done.result
+    c.requires.can crosses is.1)
+
+pub returns-clause-log : goal.returns-clause-log
+returns-clause-log g c =
+    let crosses = subst (λ (job : JobState). Crosses g.K.Loaded.load job c.args.journal.now.list.log
+    c.cross-done.new.journal.list.log c.args.parts.now.items c.cross-done.new.parts.items c.cross-done.result)
+    c.new.ensures c.cross-done.ensures.crosses in
+    ok-then c.pass_of.result _ _ c.pass_of.ensures.accepted (λ pass is.
+    enters-crossing g.K.Loaded.load c.args.number c.args.command c.args.pass c.args.journal.now.list.log
+    c.cross-done.new.journal.list.log c.args.parts.now.items c.cross-done.new.parts.items c.cross-done.result
+    c.requires.can crosses is.1)
+
+pub returns-clause-refused : goal.returns-clause-refused
+returns-clause-refused g c =
+    let crosses = subst (λ (job : JobState). Crosses g.K.Loaded.load job c.args.journal.now.list.log
+    c.cross-done.new.journal.list.log c.args.parts.now.items c.cross-done.new.parts.items c.cross-done.result)
+    c.new.ensures c.cross-done.ensures.crosses in
+    err-gives c.pass_of.result _ _ c.pass_of.ensures.refused (λ why is.
+    lacked g.K.Loaded.load c.args.number c.args.command c.args.pass c.args.journal.now.list.log
+    c.cross-done.new.journal.list.log c.args.parts.now.items c.cross-done.new.parts.items c.cross-done.result
+    c.requires.can crosses why is)

@@ -1,0 +1,2 @@
+-- What parts of this crate's own contracts say; nothing here is part of what is promised.
+pub mod Ways

@@ -1,0 +1,126 @@
+-- Partitions on their way through the commits of a batch.
+use Rattle.std.specs.Prelude.{◌≡◌, ◌⊎◌, ℕ, suc, ◌<◌, ◌≤◌, ◌+◌, true, false, List, [], ◌∷◌, ◌++◌, length, slice_get, IfSome, None, Some, nat_lt}
+use Rattle.std.specs.List.{list_all}
+use Rattle.hy_rows.specs.Tables.{Lists}
+use Rattle.hy_schema.specs.declared.refusal.Refusal.{Refusal}
+use Rattle.hy_schema.specs.declared.refusal.Refusal.TheVariants as refusals
+use Rattle.hy_passes.specs.SerialList.{numbers_of}
+use Rattle.hy_commands.specs.declared.command.Command.{Command}
+use Rattle.hy_commands.specs.declared.command.Commit.{Commit}
+use Rattle.hy_commands.specs.declared.command.Commit.TheVariants as commits
+use Rattle.hy_commands.specs.Commands.{number_of, warehouses_of, warehouses_of_commit}
+use Rattle.hy_commands.specs.Parts.{is_by_number}
+use Rattle.hy_batches.specs.Grammar.{is_commit, names}
+use Rattle.hy_partition.specs.Jobs.{Log}
+use Rattle.hy_partition.specs.Partition.{PartitionState, commits_of, terms_of}
+use Rattle.hy_sound.specs.Sound.{is_known}
+use Rattle.hy_sound.specs.Merges.{MergeState, count_of, left_of}
+use Rattle.hy_sound.specs.inside.Steps.{IsSoundFrom}
+
+-- ---- one commit
+
+-- nothing runs, and no answer waits
+pub record IsAtRest (p : PartitionState) : Type 0 where
+  pub running : p.running ≡ None
+  pub part : p.part ≡ None
+  pub finished : p.finished ≡ None
+
+-- a partition has kept one commit more, and is at rest again
+pub record KeepsOne (commit : Commit) (old new : PartitionState) : Type 0 where
+  pub terms : terms_of new ≡ terms_of old
+  pub kept : new.kept ≡ old.kept ++ commit ∷ []
+  pub drained : new.drained ≡ old.drained
+  pub rest : IsAtRest new
+  pub max_frames : new.space.frames.max ≡ old.space.frames.max
+  pub snapshots : new.snapshots ≡ old.snapshots
+
+-- each warehouse that a command names has; the others have nothing new, but may know more of the serial list
+pub record KeepsSeen (old new : PartitionState) : Type 0 where
+  pub terms : terms_of new ≡ terms_of old
+  pub kept : new.kept ≡ old.kept
+  pub drained : new.drained ≡ old.drained
+  pub rest : IsAtRest new
+  pub max_frames : new.space.frames.max ≡ old.space.frames.max
+  pub snapshots : new.snapshots ≡ old.snapshots
+
+abbrev pub KeepsWhereNamed : Command → Commit → ℕ → PartitionState → PartitionState → Type 0
+KeepsWhereNamed command commit number old new =
+    ((names command number ≡ true) × KeepsOne commit old new) ⊎ ((names command number ≡ false) × KeepsSeen old new)
+
+-- a commit entered the end of the serial list, with some stamp
+abbrev pub Enters : Commit → Log → Log → Type 0
+Enters commit old new = (stamp : ℕ) × (new ≡ old ++ record { commit = commit; stamp = stamp } ∷ [])
+
+-- a frame or memory lacked
+abbrev pub IsShortage : Refusal → Type 0
+IsShortage why = (why ≡ refusals.NoFrame) ⊎ (why ≡ refusals.NoMemory)
+
+-- what a command of one warehouse has passed that is run again there
+pub record CanRunLocal (command : Command) (p : PartitionState) : Type 0 where
+  pub rest : IsAtRest p
+  pub allowed : is_commit p.warehouse (commits.Local command) ≡ true
+  pub known : is_known p.load command ≡ true
+  pub few : length p.kept < p.max_kept
+
+-- how many commits of several warehouses a serial list has
+abbrev pub crossings_in : Log → ℕ
+crossings_in log = length (numbers_of warehouses_of_commit number_of log)
+
+-- what one of several warehouses has passed
+pub record CanRunCrossing (lists : Lists) (number : ℕ) (command : Command) (log : Log) (parts : List PartitionState)
+    : Type 0 where
+  pub several : nat_lt 1 (length (warehouses_of command)) ≡ true
+  pub by_number : is_by_number command ≡ true
+  pub known : is_known lists command ≡ true
+  pub next : number ≡ suc (crossings_in log)
+  pub rest : (place : ℕ) → IfSome (slice_get parts place) IsAtRest
+  pub few : (place : ℕ) → IfSome (slice_get parts place) (λ p.
+      names command (suc place) ≡ true → length p.kept < p.max_kept)
+
+-- ---- many
+
+-- where a way leads: the limits of each partition, the commits that it is to keep, and the last number of a commit of
+-- several warehouses
+pub record Aim : Type 0 where
+  pub frames : ℕ
+  pub most : ℕ
+  pub goal : ℕ → List Commit
+  pub last : ℕ
+
+-- the partition at a place is at rest, with no snapshot; what it has kept and what is left are what it is to keep
+pub record IsBound (lists : Lists) (aim : Aim) (left : List Commit) (place : ℕ) (p : PartitionState) : Type 0 where
+  pub terms : terms_of p ≡ record { load = lists; warehouse = suc place; max_kept = aim.most }
+  pub kept : p.kept ++ left ≡ aim.goal place
+  pub drained : p.drained ≡ 0
+  pub rest : IsAtRest p
+  pub max_frames : p.space.frames.max ≡ aim.frames
+  pub snapshots : (child : ℕ) → commits_of p child ≡ None
+
+-- the partitions of a load are on their way through what is left of a batch
+pub record AreOnWay (lists : Lists) (aim : Aim) (merge : MergeState) (log : Log) (parts : List PartitionState)
+    : Type 0 where
+  pub count : length parts ≡ length lists.tables.warehouses
+  pub lists_are : count_of merge ≡ length parts
+  pub each : (place : ℕ) → IfSome (slice_get parts place) (IsBound lists aim (left_of merge place) place)
+  pub few : (place : ℕ) → place < length parts → length (aim.goal place) ≤ aim.most
+  pub allowed : (place : ℕ) → place < count_of merge → list_all (is_commit (suc place)) (left_of merge place) ≡ true
+  pub sound : IsSoundFrom lists (crossings_in log) aim.last merge
+
+-- they have come to its end
+pub record AreThere (lists : Lists) (aim : Aim) (log : Log) (parts : List PartitionState) : Type 0 where
+  pub count : length parts ≡ length lists.tables.warehouses
+  pub each : (place : ℕ) → IfSome (slice_get parts place) (IsBound lists aim [] place)
+  pub last : crossings_in log ≡ aim.last
+
+-- a batch of which nothing was passed
+abbrev pub untouched : List (List Commit) → MergeState
+untouched batch = record { batch = batch; passed = [] }
+
+-- all commits of each partition count as drained, and nothing else changes
+abbrev pub Marked : PartitionState → PartitionState → Type 0
+Marked old new = new ≡ record old { drained = length old.kept }
+
+pub record Marks (olds news : List PartitionState) : Type 0 where
+  pub count : length news ≡ length olds
+  pub each : (place : ℕ) (old new : PartitionState) → slice_get olds place ≡ Some old → slice_get news place ≡ Some new
+      → Marked old new

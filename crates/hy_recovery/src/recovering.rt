@@ -1,0 +1,89 @@
+//! A database is recovered from a log.
+
+ghost use Rattle.std.specs.Prelude.{◌≡◌, ◌<◌, ◌≤◌, ℕ, [], None, true, IfErr, IfOk, IfSome, length, map, slice_get};
+ghost use Rattle.std.specs.List.{list_all, range_with_len};
+ghost use Rattle.hy_frames.specs.FrameTable.{IsPageSize, max_frames as most_frames};
+ghost use Rattle.hy_passes.specs.Worlds.{new_partition};
+ghost use Rattle.hy_schema.specs.Conditions.{first_broken};
+ghost use Rattle.hy_database.specs.Database.{all_rows};
+ghost use Rattle.hy_batches.specs.Grammar.{is_batch};
+ghost use Rattle.hy_partition.specs.Limits.{most_kept};
+ghost use Rattle.hy_partition.specs.Partition.{PartitionState};
+ghost use Rattle.hy_crossing.specs.Crossings.{ArePartitions, HaveNoPart, database_behind};
+ghost use Rattle.hy_forks.specs.Histories.{IsOneHistory};
+ghost use Rattle.hy_recovery.specs.Recovering.{AreRecovered, GoesOn, IsWhyUnrecovered};
+ghost use Rattle.hy_recovery.specs.inside.Ways.{Marks};
+
+use crate::counting::some_are_too_many;
+use crate::replaying::run_batch;
+use hy_batches::Batches;
+use hy_commands::Commit;
+use hy_crossing::partitions_of;
+use hy_database::every_database_is_consistent;
+use hy_forks::find_history;
+use hy_loads::Load;
+use hy_partition::{Loaded, Partition};
+use hy_passes::{Journal, PartitionSeat, Pass};
+use hy_schema::Refusal;
+use hy_sound::check_log;
+use std::alloc::Global;
+
+/// Notes for each partition that all its commits were drained.
+fn mark_all<const N: usize, K: Loaded>(parts: &mut Vec<Partition<N, K>>)
+    ensures { Marks parts.old.items parts.new.items }
+{
+    for place in 0..parts.len() {
+        parts[place].mark_drained();
+    }
+}
+
+/// The partitions of all warehouses of a load once the batches of a log were run again, with the journal and the pass of
+/// the client who runs them. Each has kept its lists of all batches, one behind another, as drained. Refused by the first
+/// of these: `LogMalformed` at the first batch that doesn't fit the load or those before it, as `check_log` says; E3
+/// where a warehouse would keep more than `max_kept` commits; E2; E1, which may come instead of each. Takes time in
+/// proportion to the commits, beside what `check_log` and `partitions_of` take.
+pub fn recover<const N: usize, K: Loaded>(
+    alloc: Global,
+    load: &Load,
+    batches: &Batches,
+    mut journal: Journal<Commit, K>,
+    seats: Vec<PartitionSeat<Commit, K>>,
+    mut pass: Pass<Commit, K>,
+    max_frames: u64,
+    max_kept: u64,
+) -> Result<(Vec<Partition<N, K>>, Journal<Commit, K>, Pass<Commit, K>), Refusal>
+    requires size { IsPageSize N }
+    requires some_frames { 1 ≤ max_frames }
+    requires frames { max_frames ≤ most_frames }
+    requires some_kept { 1 ≤ max_kept }
+    requires kept { max_kept ≤ most_kept }
+    requires load { load.now ≡ K.load }
+    requires seats { seats.items ≡ map new_partition (range_with_len 1 (length load.now.tables.warehouses)) }
+    requires log { journal.list.log ≡ [] }
+    requires batches { list_all is_batch batches.now ≡ true }
+    ensures recovered { IfOk result
+        (λ made. AreRecovered load.now max_frames max_kept batches.now made.0.items) }
+    ensures history { IfOk result
+        (λ made. IsOneHistory K.passes.partitions made.1.list.log made.0.items) }
+    ensures goes_on { IfOk result (λ made. GoesOn load.now batches.now made.1.list.log) }
+    ensures consistent { IfOk result
+        (λ made. first_broken (all_rows (database_behind load.now made.1.list.log)) ≡ None) }
+    ensures client { IfOk result (λ made. made.2.client ≡ pass.client) }
+    ensures parts { IfOk result (λ made. ArePartitions load.now made.0.items) }
+    ensures whole { IfOk result (λ made. HaveNoPart made.0.items) }
+    ensures refused { IfErr result (IsWhyUnrecovered load.now batches.now max_kept) }
+{
+    check_log(alloc, load, batches)?;
+    if some_are_too_many(load, batches, max_kept) {
+        return Err(Refusal::HistoryFull);
+    }
+    let mut parts = partitions_of::<N, K>(alloc, load, seats, max_frames, max_kept)?;
+    for place in 0..batches.count() as usize {
+        pass = run_batch(alloc, &mut parts, &mut journal, batches.batch(place), pass)?;
+    }
+    mark_all(&mut parts);
+    find_history(&mut parts, &mut journal);
+    load.sound();
+    every_database_is_consistent();
+    Ok((parts, journal, pass))
+}

@@ -1,0 +1,92 @@
+//! The commits of a batch are run again, in a serial order.
+
+ghost use Rattle.std.specs.Prelude.{◌≡◌, ◌≢◌, ◌<◌, ℕ, IfErr, IfOk, OnOk, length};
+ghost use Rattle.hy_sound.specs.Merges.{count_of, left_of};
+ghost use Rattle.hy_sound.specs.inside.Steps.{IsAtCrossing};
+ghost use Rattle.hy_recovery.specs.inside.Ways.{Aim, AreOnWay, AreThere, IsShortage, crossings_in, untouched};
+
+use crate::running::{run_crossing, run_local};
+use hy_batches::ReadBatch;
+use hy_commands::Commit;
+use hy_partition::{Loaded, Partition};
+use hy_passes::{Journal, Pass};
+use hy_schema::Refusal;
+use hy_sound::Merge;
+use std::alloc::Global;
+
+/// Runs the commits of one warehouse in the list at a place, up to the next one of several. E2 or E1.
+fn run_locals<const N: usize, K: Loaded>(
+    parts: &mut Vec<Partition<N, K>>,
+    journal: &mut Journal<Commit, K>,
+    merge: &mut Merge<'_>,
+    place: usize,
+    mut pass: Pass<Commit, K>,
+) -> Result<Pass<Commit, K>, Refusal>
+    requires within { place < count_of merge.old }
+    requires way { (aim : Aim) × AreOnWay K.load aim merge.old journal.old.list.log parts.old.items }
+    ensures way { OnOk result ((aim : Aim) → AreOnWay K.load aim merge.old journal.old.list.log parts.old.items
+        → AreOnWay K.load aim merge.new journal.new.list.log parts.new.items) }
+    ensures stops { OnOk result (IsAtCrossing (left_of merge.new place)) }
+    ensures others { (other : ℕ) → other ≢ place → left_of merge.new other ≡ left_of merge.old other }
+    ensures count { count_of merge.new ≡ count_of merge.old }
+    ensures numbers { OnOk result (crossings_in journal.new.list.log ≡ crossings_in journal.old.list.log) }
+    ensures client { IfOk result (λ after. after.client ≡ pass.client) }
+    ensures refused { IfErr result IsShortage }
+{
+    'commits: while let Some(Commit::Local(command)) = merge.next(place) {
+        pass = run_local(&mut parts[place], journal, command.copy()?, pass)?;
+        merge.pass(place);
+    }
+    Ok(pass)
+}
+
+/// The same in all lists.
+fn run_all_locals<const N: usize, K: Loaded>(
+    parts: &mut Vec<Partition<N, K>>,
+    journal: &mut Journal<Commit, K>,
+    merge: &mut Merge<'_>,
+    mut pass: Pass<Commit, K>,
+) -> Result<Pass<Commit, K>, Refusal>
+    requires way { (aim : Aim) × AreOnWay K.load aim merge.old journal.old.list.log parts.old.items }
+    ensures way { OnOk result ((aim : Aim) → AreOnWay K.load aim merge.old journal.old.list.log parts.old.items
+        → AreOnWay K.load aim merge.new journal.new.list.log parts.new.items) }
+    ensures stops { OnOk result ((place : ℕ) → place < count_of merge.new → IsAtCrossing (left_of merge.new place)) }
+    ensures numbers { OnOk result (crossings_in journal.new.list.log ≡ crossings_in journal.old.list.log) }
+    ensures client { IfOk result (λ after. after.client ≡ pass.client) }
+    ensures refused { IfErr result IsShortage }
+{
+    for place in 0..merge.count() {
+        pass = run_locals(parts, journal, merge, place, pass)?;
+    }
+    Ok(pass)
+}
+
+/// Runs all commits of a batch: those of one warehouse up to the next one of several, then that one, and so on. E2 or
+/// E1.
+pub(crate) fn run_batch<const N: usize, K: Loaded>(
+    alloc: Global,
+    parts: &mut Vec<Partition<N, K>>,
+    journal: &mut Journal<Commit, K>,
+    batch: &ReadBatch,
+    mut pass: Pass<Commit, K>,
+) -> Result<Pass<Commit, K>, Refusal>
+    requires way { (aim : Aim) × AreOnWay K.load aim (untouched batch.now) journal.old.list.log parts.old.items }
+    ensures way { OnOk result ((aim : Aim)
+        → AreOnWay K.load aim (untouched batch.now) journal.old.list.log parts.old.items
+        → AreThere K.load aim journal.new.list.log parts.new.items) }
+    ensures client { IfOk result (λ after. after.client ≡ pass.client) }
+    ensures refused { IfErr result IsShortage }
+{
+    let mut merge = Merge::new(alloc, batch)?;
+    'crossings: loop {
+        pass = run_all_locals(parts, journal, &mut merge, pass)?;
+        let last = journal.list.next_crossing() - 1;
+        let Some((number, command)) = merge.find_crossing(last) else {
+            return Ok(pass);
+        };
+        pass = run_crossing(parts, journal, number, command.copy()?, pass)?;
+        if !merge.pass_crossing(number, command) {
+            unreachable!();
+        }
+    }
+}

@@ -1,0 +1,74 @@
+//! One commit is run again.
+
+ghost use Rattle.std.specs.Prelude.{◌≡◌, IfErr, IfOk, None, OnOk};
+ghost use Rattle.hy_commands.specs.declared.command.Commit.TheVariants as commits;
+ghost use Rattle.hy_commands.specs.declared.reply.Reply.TheVariants as replies;
+ghost use Rattle.hy_schema.specs.declared.refusal.Refusal.{Refusal};
+ghost use Rattle.hy_partition.specs.Steps.{begin_refusal};
+ghost use Rattle.hy_crossing.specs.Crossings.{ArePartitions, HaveNoPart};
+ghost use Rattle.hy_crossing.specs.Lists.{Pairwise};
+ghost use Rattle.hy_recovery.specs.inside.Ways.{CanRunCrossing, CanRunLocal, Enters, IsShortage, KeepsOne, KeepsWhereNamed};
+
+use hy_commands::{Command, Commit, Reply};
+use hy_crossing::cross;
+use hy_partition::{Done, Job, Loaded, Partition};
+use hy_passes::{Journal, Pass};
+use hy_schema::Refusal;
+
+/// The pass of an accepted command, or why it was refused.
+fn pass_of<K: Loaded>(done: Done<K>) -> Result<Pass<Commit, K>, Refusal>
+    ensures accepted { IfOk result (λ pass. (pass ≡ done.pass)
+        × ((why : Refusal) → done.reply ≡ replies.Refused why → ⊥)) }
+    ensures refused { IfErr result (λ why. done.reply ≡ replies.Refused why) }
+{
+    let (reply, pass, _share) = done.open();
+    match reply {
+        Reply::Refused(refusal) => Err(refusal),
+        _ => Ok(pass),
+    }
+}
+
+/// Runs a command of one warehouse, which keeps it. E2 or E1.
+pub(crate) fn run_local<const N: usize, K: Loaded>(
+    part: &mut Partition<N, K>,
+    journal: &mut Journal<Commit, K>,
+    command: Command,
+    pass: Pass<Commit, K>,
+) -> Result<Pass<Commit, K>, Refusal>
+    requires can { CanRunLocal command part.old }
+    requires begins { begin_refusal part.old command ≡ None }
+    ensures kept { OnOk result (KeepsOne (commits.Local command) part.old part.new) }
+    ensures log { OnOk result (Enters (commits.Local command) journal.old.list.log journal.new.list.log) }
+    ensures client { IfOk result (λ after. after.client ≡ pass.client) }
+    ensures refused { IfErr result IsShortage }
+{
+    if let Err((_job, refusal)) = part.begin(Job::new(command, pass)) {
+        return Err(refusal);
+    }
+    part.finish_running(journal);
+    let Some(done) = part.take_done() else {
+        unreachable!();
+    };
+    pass_of(done)
+}
+
+/// Runs a command of several warehouses, which keep it under the next number. E2 or E1.
+pub(crate) fn run_crossing<const N: usize, K: Loaded>(
+    parts: &mut Vec<Partition<N, K>>,
+    journal: &mut Journal<Commit, K>,
+    number: u64,
+    command: Command,
+    pass: Pass<Commit, K>,
+) -> Result<Pass<Commit, K>, Refusal>
+    requires parts { ArePartitions K.load parts.old.items }
+    requires whole { HaveNoPart parts.old.items }
+    requires can { CanRunCrossing K.load number command journal.old.list.log parts.old.items }
+    ensures kept { OnOk result
+        (Pairwise (KeepsWhereNamed command (commits.Cross number command)) 1 parts.old.items parts.new.items) }
+    ensures log { OnOk result (Enters (commits.Cross number command) journal.old.list.log journal.new.list.log) }
+    ensures client { IfOk result (λ after. after.client ≡ pass.client) }
+    ensures refused { IfErr result IsShortage }
+{
+    let done = cross(parts, journal, Job::new(command, pass));
+    pass_of(done)
+}

@@ -1,0 +1,157 @@
+//! A log that is cut anywhere, and one that goes on behind a recovery.
+
+ghost use Rattle.std.specs.Prelude.{◌≡◌, length, true};
+ghost use Rattle.std.specs.List.{list_all};
+ghost use Rattle.hy_batches.specs.Grammar.{is_batch};
+
+use crate::logs::{payment, read, written};
+use crate::recovery_tests::{WIDE, recovered_of};
+use hy_batches::{Batches, Lists, Text, write_batch};
+use hy_commands::{Commit, Reply};
+use hy_crossing::are_partitions;
+use hy_forks::{Batch, drain};
+use hy_loads::Load;
+use hy_partition::{Job, Loaded, Partition};
+use hy_passes::{Journal, Kit, Pass, make};
+use hy_recovery::recover;
+use hy_tables::generate;
+use std::marker::Brand;
+use std::process::Abort;
+
+/// What a drain gave.
+#[derive(Drop)]
+struct Drained {
+    batch: Batch,
+}
+
+impl Lists for Drained {
+    ghost lists = { λ drained. drained.batch };
+
+    fn len(&self) -> usize {
+        self.batch.len()
+    }
+
+    fn list(&self, place: usize) -> &[Commit] {
+        self.batch.part(place)
+    }
+}
+
+/// Pays 1.00 once more in the first of some partitions.
+fn pay_again<K: Loaded>(
+    rt: &impl Abort,
+    part: &mut Partition<4096, K>,
+    journal: &mut Journal<Commit, K>,
+    pass: Pass<Commit, K>,
+) {
+    match part.begin(Job::new(payment(1, 1, 1, 100), pass)) {
+        Ok(()) => {}
+        Err(_) => panic!(rt; "the payment begins"),
+    }
+    part.finish_running(journal);
+    let Some(done) = part.take_done() else {
+        panic!(rt; "an answer")
+    };
+    let (reply, _pass, _share) = done.open();
+    match reply {
+        Reply::Payment { .. } => {}
+        _ => panic!(rt; "the payment is accepted"),
+    }
+}
+
+/// The bytes of what was kept since the last drain.
+fn drained_bytes<K: Loaded, R: Abort + AllocGlobal>(
+    rt: &R,
+    parts: &mut Vec<Partition<4096, K>>,
+    journal: &mut Journal<Commit, K>,
+) -> Text {
+    assert!(rt; are_partitions(parts));
+    let batch = drain(rt.alloc(), parts, journal).expect(rt, "a batch");
+    let mut text = Text::new(rt.alloc());
+    write_batch(&mut text, &Drained { batch });
+    text
+}
+
+/// Recovers a database, pays once more, and gives the batch of that.
+fn live_on<K: Loaded, R: Abort + AllocGlobal>(
+    rt: &R,
+    load: &Load,
+    kit: Kit<Commit>,
+    batches: &Batches,
+) -> Text
+    requires load { load.now ≡ K.load }
+    requires kit { kit ≡ K.passes }
+    requires partitions { kit.partitions ≡ length load.now.tables.warehouses }
+    requires batches { list_all is_batch batches.now ≡ true }
+{
+    let (_passes, journal, seats, mut clients) = kit.open::<K>().expect(rt, "passes");
+    let Some(pass) = clients.pop() else {
+        panic!(rt; "a client")
+    };
+    let Ok((mut parts, mut journal, pass)) = recover::<4096, K>(
+        rt.alloc(),
+        load,
+        batches,
+        journal,
+        seats,
+        pass,
+        2000,
+        100,
+    ) else {
+        panic!(rt; "it is recovered")
+    };
+    assert!(rt; 0 < parts.len());
+    pay_again(rt, &mut parts[0], &mut journal, pass);
+    drained_bytes(rt, &mut parts, &mut journal)
+}
+
+/// The same on a generated load of two warehouses.
+fn second_batch<R: Abort + AllocGlobal>(rt: &R, batches: &Batches) -> Text
+    requires { list_all is_batch batches.now ≡ true }
+{
+    let load = generate(rt.alloc(), 2, 3, 20).expect(rt, "a load");
+    assert!(rt; load.tables().warehouses.len() == 2);
+    let kit = make::<Commit>(rt.alloc(), 2, 1, 1).expect(rt, "a kit");
+    live_on::<Brand, R>(rt, &load, kit, batches)
+}
+
+/// So many of the first bytes.
+fn first<'a>(rt: &impl Abort, bytes: &'a [u8], size: usize) -> &'a [u8] {
+    assert!(rt; size <= bytes.len());
+    &bytes[..size]
+}
+
+/// Each beginning of a log of three batches of 43 bytes, each with a payment of 1.00 in warehouse 1 of two, is recovered as
+/// the batches that are whole in it.
+fn recovers_each_beginning<R: Abort + AllocGlobal>(rt: &R, bytes: &[u8]) {
+    assert!(rt; bytes.len() == 129);
+    for size in 0..=129usize {
+        let batches = read(rt, first(rt, bytes, size));
+        let whole = size as u64 / 43;
+        assert!(rt; batches.count() == whole);
+        assert!(rt; batches.bytes() == whole * 43);
+        let seen = recovered_of(rt, 2, &batches, WIDE).expect(rt, "a database");
+        assert!(rt; seen.taken_in.as_slice() == [30000 + 100 * whole as i64, 30000].as_slice());
+        assert!(rt; seen.kept.as_slice() == [whole, 0].as_slice());
+    }
+}
+
+#[test]
+fn a_log_is_cut_anywhere(rt: HostRuntime) {
+    let text = written(&rt, 2, 3);
+    recovers_each_beginning(&rt, text.bytes().expect(&rt, "memory lasts"));
+}
+
+#[test]
+fn second_life(rt: HostRuntime) {
+    let text = written(&rt, 2, 3);
+    let bytes = text.bytes().expect(&rt, "memory lasts");
+    assert!(&rt; bytes.len() == 129);
+    let batches = read(&rt, first(&rt, bytes, 100));
+    assert!(&rt; batches.bytes() == 86);
+    let more = second_batch(&rt, &batches);
+    let mut all = Vec::from_slice(rt.alloc(), first(&rt, bytes, 86)).expect(&rt, "bytes");
+    all.extend_from_slice(more.bytes().expect(&rt, "memory lasts"))
+        .expect(&rt, "bytes");
+    assert!(&rt; all.as_slice() == bytes);
+    recovers_each_beginning(&rt, &all);
+}

@@ -1,0 +1,6 @@
+pub mod ListLaws
+pub mod MergeLaws
+pub mod SoundLaws
+pub mod KnownLaws
+pub mod LogLaws
+mod WorkedLogs

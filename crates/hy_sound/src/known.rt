@@ -1,0 +1,186 @@
+//! What a load says of commands.
+
+ghost use Rattle.std.specs.Prelude.{◌≡◌, ◌&&◌, true, IfOk, length};
+ghost use Rattle.std.specs.List.{list_all};
+ghost use Rattle.hy_rows.specs.Ranges.{is_between};
+ghost use Rattle.hy_commands.specs.Commands.{is_in_range, warehouses_of};
+ghost use Rattle.hy_commands.specs.Parts.{customer_home_of};
+ghost use Rattle.hy_commands.specs.NewOrders.{has_item};
+ghost use Rattle.hy_commands.specs.Transactions.{has_customer, has_districts, has_items, is_district_number};
+ghost use Rattle.hy_layout.specs.Layout.{own_rows};
+ghost use Rattle.hy_sound.specs.Sound.{is_known};
+ghost use Rattle.hy_sound.specs.inside.Places.{knows_customer};
+
+use hy_commands::{Command, PurchaseLines};
+use hy_layout::Layout;
+use hy_loads::Load;
+use hy_rows::{DISTRICTS_PER_WAREHOUSE, Warehouse};
+use std::alloc::{AllocError, Global};
+use std::marker::Model;
+
+/// The warehouses of a load, with the places of their customers.
+#[derive(Drop)]
+pub(crate) struct Known {
+    load: Load,
+    layouts: Vec<Layout>,
+}
+
+// Clauses see the load.
+impl Model for Known {
+    ghost use Rattle.hy_rows.specs.Tables.{Lists};
+    ghost use Rattle.hy_sound.specs.inside.Places.{AreLayouts};
+
+    ghost Value = { Lists };
+
+    ghost view = { λ known. known.load };
+
+    ghost invariant = { λ known. AreLayouts known.load known.layouts.items };
+}
+
+impl Known {
+    /// What this load says. Takes time n log n for its n customers.
+    pub(crate) fn new(alloc: Global, load: &Load) -> Result<Known, AllocError>
+        ensures { IfOk result (λ known. known ≡ load.now) }
+    {
+        let count = count_of(load);
+        let mut layouts = Vec::with_capacity(alloc, usize::from(count))?;
+        for before in 0..count {
+            layouts.push_reserved(Layout::new(alloc, load, before + 1)?);
+        }
+        let load = load.share()?;
+        Ok(Known { load, layouts })
+    }
+
+    /// How many warehouses there are.
+    pub(crate) fn count(&self) -> usize
+        ensures { result ≡ length self.now.tables.warehouses }
+    {
+        self.layouts.len()
+    }
+
+    /// Whether the database of the load refuses a command for no reason.
+    pub(crate) fn accepts(&self, command: &Command) -> bool
+        ensures { result ≡ is_known self.now command.now }
+    {
+        if command.check().is_err() {
+            return false;
+        }
+        if !are_there(command, self.count()) {
+            return false;
+        }
+        self.has_all(command)
+    }
+
+    /// Whether the districts, the customer and the items that a command names are there; a command whose warehouses are.
+    fn has_all(&self, command: &Command) -> bool
+        requires { list_all (is_between 1 (length self.now.tables.warehouses)) (warehouses_of command.now) ≡ true }
+        ensures { result ≡ (has_districts command.now && knows_customer self.now command.now
+            && has_items self.now.items command.now) }
+    {
+        has_districts(command) && self.has_customer(command) && self.has_items(command)
+    }
+
+    /// Whether the customer whom a command names is there; a command whose warehouses are.
+    fn has_customer(&self, command: &Command) -> bool
+        requires { list_all (is_between 1 (length self.now.tables.warehouses)) (warehouses_of command.now) ≡ true }
+        ensures { result ≡ knows_customer self.now command.now }
+    {
+        is_customer_of(self.layout_for(command), command)
+    }
+
+    /// Whether the items that a command names are there; a command whose warehouses are.
+    fn has_items(&self, command: &Command) -> bool
+        requires { list_all (is_between 1 (length self.now.tables.warehouses)) (warehouses_of command.now) ≡ true }
+        ensures { result ≡ has_items self.now.items command.now }
+    {
+        let layout = self.layout_for(command);
+        match command {
+            Command::NewOrder(order) => has_lines(layout, &order.lines),
+            _ => true,
+        }
+    }
+
+    /// The warehouse of the customer whom a command names; a command whose warehouses are there.
+    fn layout_for(&self, command: &Command) -> &Layout
+        requires { list_all (is_between 1 (length self.now.tables.warehouses)) (warehouses_of command.now) ≡ true }
+        ensures layout { result.now ≡ record { load = self.now; warehouse = customer_home_of command.now } }
+        ensures rows { has_customer command.now (own_rows result.now) ≡ knows_customer self.now command.now }
+    {
+        let home = command.customer_home() as usize;
+        &self.layouts[home - 1]
+    }
+}
+
+/// Whether all warehouses that a command in range names are there.
+fn are_there(command: &Command, count: usize) -> bool
+    requires { is_in_range command.now ≡ true }
+    ensures { result ≡ list_all (is_between 1 count) (warehouses_of command.now) }
+{
+    let last = count as u64;
+    command
+        .warehouses()
+        .iter()
+        .all(|named| (1..=last).contains(named))
+}
+
+/// How many warehouses a load has.
+fn count_of(load: &Load) -> u8
+    ensures { result ≡ length load.now.tables.warehouses }
+{
+    load.sound();
+    load.list::<Warehouse>().len() as u8
+}
+
+/// Whether a district has this number.
+fn is_district(number: u64) -> bool
+    ensures { result ≡ is_district_number number }
+{
+    (1..=u64::from(DISTRICTS_PER_WAREHOUSE)).contains(&number)
+}
+
+/// Whether the districts that a command names are there.
+fn has_districts(command: &Command) -> bool
+    ensures { result ≡ has_districts command.now }
+{
+    match command {
+        Command::NewOrder(order) => is_district(order.district),
+        Command::Payment(payment) => {
+            is_district(payment.district) && is_district(payment.customer_district)
+        }
+        Command::OrderStatus(status) => is_district(status.district),
+        Command::Delivery(_) => true,
+        Command::StockLevel(level) => is_district(level.district),
+    }
+}
+
+/// Whether the customer whom a command names is one of a warehouse, which is the customer's.
+fn is_customer_of(layout: &Layout, command: &Command) -> bool
+    requires { customer_home_of command.now ≡ layout.now.warehouse }
+    ensures { result ≡ has_customer command.now (own_rows layout.now) }
+{
+    layout.know_places();
+    match command {
+        Command::NewOrder(order) => layout
+            .place_of_number(order.district, order.customer)
+            .is_some(),
+        Command::Payment(payment) => layout
+            .place_of_customer(payment.customer_district, &payment.who)
+            .is_some(),
+        Command::OrderStatus(status) => layout
+            .place_of_customer(status.district, &status.who)
+            .is_some(),
+        Command::Delivery(_) | Command::StockLevel(_) => true,
+    }
+}
+
+/// Whether the items of all lines are there.
+fn has_lines(layout: &Layout, lines: &PurchaseLines) -> bool
+    ensures { result ≡ list_all (has_item layout.now.load.items) lines.now }
+{
+    for place in 0..lines.len() {
+        if layout.item(lines.line(place).item).is_none() {
+            return false;
+        }
+    }
+    true
+}

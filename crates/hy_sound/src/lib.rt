@@ -1,0 +1,11 @@
+//! Whether a database can be recovered from the batches of a log.
+#![tactic(auto)]
+
+mod known;
+mod lengths;
+mod looking;
+mod merge;
+mod same;
+
+pub use looking::check_log;
+pub use merge::Merge;

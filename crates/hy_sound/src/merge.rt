@@ -1,0 +1,138 @@
+//! The lists of a batch on their way into one.
+
+ghost use Rattle.std.specs.Prelude.{◌≡◌, ◌↔◌, suc, IsTrue, Some};
+ghost use Rattle.std.specs.Option.{option_copied};
+ghost use Rattle.hy_commands.specs.declared.command.Commit.TheVariants as commits;
+
+use crate::same::same_command;
+use hy_batches::{Lists, ReadBatch};
+use hy_commands::{Command, Commit};
+use std::alloc::{AllocError, Global};
+use std::marker::Model;
+
+/// A batch, of each list of which some commits were passed.
+#[derive(Drop)]
+pub struct Merge<'a> {
+    batch: &'a ReadBatch,
+    passed: Vec<usize>,
+}
+
+// Clauses see both.
+impl<'a> Model for Merge<'a> {
+    ghost use Rattle.std.specs.Prelude.{◌≡◌, length};
+    ghost use Rattle.hy_sound.specs.Merges.{MergeState};
+
+    ghost Value = { MergeState };
+
+    ghost view = { λ merge. record { batch = merge.batch.now; passed = merge.passed.items } };
+
+    ghost invariant = { λ merge. length merge.passed.items ≡ length merge.batch.now };
+}
+
+impl<'a> Merge<'a> {
+    ghost use Rattle.std.specs.Prelude.{◌≡◌, ◌≢◌, ◌<◌, ℕ, IfOk, drop, length, slice_get};
+    ghost use Rattle.std.specs.Option.{option_copied};
+    ghost use Rattle.hy_sound.specs.Sound.{list_at};
+    ghost use Rattle.hy_sound.specs.Merges.{count_of, left_of};
+
+    /// A batch of which nothing was passed.
+    pub fn new(alloc: Global, batch: &'a ReadBatch) -> Result<Merge<'a>, AllocError>
+        ensures count { IfOk result (λ merge. count_of merge ≡ length batch.entry.now) }
+        ensures left { IfOk result (λ merge. (place : ℕ) → left_of merge place ≡ list_at batch.entry.now place) }
+    {
+        let passed = Vec::from_elem(alloc, 0usize, batch.len())?;
+        Ok(Merge { batch, passed })
+    }
+
+    /// How many lists there are.
+    pub fn count(&self) -> usize
+        ensures { result ≡ count_of self.now }
+    {
+        self.passed.len()
+    }
+
+    /// The next commit of the list at a place, from 0.
+    pub fn next(&self, place: usize) -> Option<&'a Commit>
+        requires { place < count_of self.now }
+        ensures { option_copied result ≡ slice_get (left_of self.now place) 0 }
+    {
+        self.batch.list(place).get(self.passed[place])
+    }
+
+    /// Passes the next commit of the list at a place, if one is left.
+    pub fn pass(&mut self, place: usize)
+        requires { place < count_of self.old }
+        ensures count { count_of self.new ≡ count_of self.old }
+        ensures here { left_of self.new place ≡ drop 1 (left_of self.old place) }
+        ensures others { (other : ℕ) → other ≢ place → left_of self.new other ≡ left_of self.old other }
+    {
+        if self.passed[place] < self.batch.list(place).len() {
+            self.passed[place] += 1;
+        }
+    }
+}
+
+/// Whether a commit is this command under this number.
+fn is_crossing(commit: &Commit, number: u64, command: &Command) -> bool
+    ensures { IsTrue result ↔ (commit.now ≡ commits.Cross number command.now) }
+{
+    match commit {
+        Commit::Local(_) => false,
+        Commit::Cross(other, same) => *other == number && same_command(same, command),
+    }
+}
+
+/// Whether a list goes on with this command under this number.
+fn goes_on(next: Option<&Commit>, number: u64, command: &Command) -> bool
+    ensures { IsTrue result ↔ (option_copied next.entry ≡ Some (commits.Cross number command.now)) }
+{
+    match next {
+        Some(commit) => is_crossing(commit, number, command),
+        None => false,
+    }
+}
+
+impl<'a> Merge<'a> {
+    ghost use Rattle.std.specs.Prelude.{MatchBool, MatchOption};
+    ghost use Rattle.hy_sound.specs.Merges.{FindsCrossing, FindsNone, LacksCrossing, PassesCrossing};
+
+    /// The command of several warehouses with which some list goes on, under the number behind the last one; and the
+    /// number.
+    pub fn find_crossing(&self, last: u64) -> Option<(u64, &'a Command)>
+        ensures { MatchOption result (FindsNone self.now last)
+            (λ found. FindsCrossing self.now last found.0 found.1.now) }
+    {
+        for place in 0..self.count() {
+            if let Some(Commit::Cross(number, command)) = self.next(place) {
+                if is_behind(*number, last) && command.names(place as u64 + 1) {
+                    return Some((*number, command));
+                }
+            }
+        }
+        None
+    }
+
+    /// Passes a command of several warehouses in all lists whose warehouses it names. False where one of them goes on
+    /// otherwise.
+    pub fn pass_crossing(&mut self, number: u64, command: &Command) -> bool
+        ensures { MatchBool result (PassesCrossing number command.now self.old self.new)
+            (LacksCrossing number command.now self.old) }
+    {
+        for place in 0..self.count() {
+            if command.names(place as u64 + 1) {
+                if !goes_on(self.next(place), number, command) {
+                    return false;
+                }
+                self.pass(place);
+            }
+        }
+        true
+    }
+}
+
+/// Whether a number is the one behind another.
+fn is_behind(number: u64, last: u64) -> bool
+    ensures { IsTrue result ↔ (number ≡ suc last) }
+{
+    number > 0 && number - 1 == last
+}
