@@ -72,15 +72,6 @@ found-there {Row = Row} Holds test (row ∷ rows) found all =
     by true is some later = (row, is, All-head Holds row rows all)
     by false is some later = later some
 
-all-mapped : {Row : Type 0} (one other : Row → Bool) (rows : List Row) → ((row : Row) → one row ≡ true → other row ≡ true)
-    → list_all one rows ≡ true → list_all other rows ≡ true
-all-mapped one other [] leads all = refl
-all-mapped one other (row ∷ rows) leads all =
-    let both = and_parts (one row) (list_all one rows) all in
-    let first = leads row both.0 in
-    let later = all-mapped one other rows leads both.1 in
-    rw (first, later) refl
-
 all-lines : (one other third wanted : PurchaseLine → Bool) (rows : List PurchaseLine)
     → ((row : PurchaseLine) → one row ≡ true → other row ≡ true → third row ≡ true → wanted row ≡ true)
     → list_all one rows ≡ true → list_all other rows ≡ true → All (λ row. third row ≡ true) rows
