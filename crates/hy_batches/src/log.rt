@@ -21,20 +21,22 @@ pub struct Batches {
 }
 
 impl Model for Batches {
-    ghost use Rattle.std.specs.Prelude.{◌≡◌, List, length};
     ghost use Rattle.hy_commands.specs.declared.command.Commit.{Commit};
-    ghost use Rattle.hy_batches.specs.Encoding.{log_bytes};
+    ghost use Rattle.std.specs.Prelude.{List};
+    ghost use Rattle.hy_batches.specs.inside.Logs.{AreBatches};
 
     ghost Value = { List (List (List Commit)) };
 
     ghost view = { λ log. log.batches.items };
 
-    ghost invariant = { λ log. log.bytes ≡ length (log_bytes log.batches.items) };
+    ghost invariant = { λ log. AreBatches log.batches.items log.bytes };
 }
 
 impl Batches {
-    ghost use Rattle.std.specs.Prelude.{◌≡◌, ◌<◌, [], length, slice_index_or};
+    ghost use Rattle.std.specs.Prelude.{◌≡◌, ◌<◌, [], true, length, slice_index_or};
+    ghost use Rattle.std.specs.List.{list_all};
     ghost use Rattle.hy_batches.specs.Encoding.{log_bytes};
+    ghost use Rattle.hy_batches.specs.Grammar.{is_batch};
 
     /// How many batches there are.
     pub fn count(&self) -> u64
@@ -48,6 +50,13 @@ impl Batches {
         ensures { result ≡ length (log_bytes self.now) }
     {
         self.bytes as u64
+    }
+
+    /// Each of them is a batch, whatever log they were read from. Does nothing.
+    pub fn sound(&self)
+        ensures { list_all is_batch self.now ≡ true }
+    {
+        let _batches = &self.batches;
     }
 
     /// The batch at a place, from 0.

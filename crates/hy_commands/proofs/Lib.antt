@@ -4,6 +4,7 @@ pub mod NumberLaws
 pub mod MeetsLaws
 pub mod AcceptedLaws
 pub mod NamedLaws
+pub mod FirstLaws
 pub mod OnceLaws
 pub mod SameCustomers
 pub mod DatabaseLaws

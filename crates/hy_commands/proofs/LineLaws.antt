@@ -4,7 +4,7 @@ use Rattle.std.specs.Prelude.{fold}
 use Rattle.std.specs.List.{list_all, list_any}
 
 -- the row at a place begins what is left
-drop-row : {Row : Type 0} (rows : List Row) (place : ℕ) (row : Row) → slice_get rows place ≡ Some row
+pub drop-row : {Row : Type 0} (rows : List Row) (place : ℕ) (row : Row) → slice_get rows place ≡ Some row
     → drop place rows ≡ row ∷ drop (place + 1) rows
 drop-row {Row = Row} rows place row at =
     let after : suc place ≡ place + 1 = omega arith in

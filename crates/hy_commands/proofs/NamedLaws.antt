@@ -23,7 +23,7 @@ or-false true = refl
 or-false false = refl
 
 -- a number more
-named-with : (warehouse : ℕ) (named : List ℕ) (number : ℕ)
+pub named-with : (warehouse : ℕ) (named : List ℕ) (number : ℕ)
     → list_any (λ one. one == warehouse) (with_named named number)
     ≡ (list_any (λ one. one == warehouse) named || (number == warehouse))
 named-with warehouse named number =

@@ -1,21 +1,17 @@
 //! Commands and commits.
 
-ghost use Rattle.std.specs.Prelude.{◌≡◌, ◌==◌, ◌<◌, ◌≤◌, ◌+◌, ◌↔◌, IsTrue, IsOk, IsErrOf, IfOk, fold, length, nat_lt, not};
+ghost use Rattle.std.specs.Prelude.{◌≡◌, ◌==◌, ◌↔◌, IsTrue, IsOk, IsErrOf, IfOk, length, nat_lt, not};
 ghost use Rattle.std.specs.List.{list_all, list_any};
 ghost use Rattle.hy_rows.specs.Ranges.{is_between};
 ghost use Rattle.hy_commands.specs.declared.command.Command.TheVariants as commands;
-ghost use Rattle.hy_commands.specs.Commands.{command_of, home_of, is_in_range, is_line_in_range, is_moment, is_name, is_reader, is_who, number_of, warehouses_of, warehouses_of_commit, with_named};
+ghost use Rattle.hy_commands.specs.Commands.{command_of, home_of, is_in_range, is_line_in_range, is_moment, is_name, is_reader, is_who, number_of, warehouses_of, warehouses_of_commit};
 ghost use Rattle.hy_commands.specs.Parts.{customer_home_of, with_number};
 
 use crate::PurchaseLines;
-use arrayvec::ArrayVec;
-use hy_rows::{MAX_MOMENT, MAX_WAREHOUSES};
+use hy_rows::MAX_MOMENT;
 use hy_schema::Refusal;
 use std::alloc::AllocError;
 use std::marker::Model;
-
-/// How many warehouses a command can name.
-pub const MAX_NAMED: usize = MAX_WAREHOUSES as usize;
 
 /// How many characters a last name may have.
 pub const MAX_NAME: usize = 16;
@@ -461,22 +457,6 @@ impl Command {
         }
     }
 
-    /// The warehouses that the command names, its home first, each once. Takes no memory. At most `MAX_NAMED` are named,
-    /// since a command in range has at most 15 lines.
-    pub fn warehouses(&self) -> ArrayVec<u64, MAX_NAMED>
-        requires { IsTrue (is_in_range self.now) }
-        ensures { result.items ≡ warehouses_of self.now }
-    {
-        let mut named = ArrayVec::new();
-        named.push(self.home());
-        match self {
-            Command::NewOrder(order) => name_suppliers(&mut named, &order.lines),
-            Command::Payment(payment) => name_warehouse(&mut named, payment.customer_warehouse),
-            _ => {}
-        }
-        named
-    }
-
     /// The same command once more. An error where it finds no memory.
     pub fn copy(&self) -> Result<Command, AllocError>
         ensures { IfOk result (λ copy. copy ≡ self.now) }
@@ -488,26 +468,6 @@ impl Command {
             Command::Delivery(delivery) => Ok(Command::Delivery(*delivery)),
             Command::StockLevel(level) => Ok(Command::StockLevel(*level)),
         }
-    }
-}
-
-/// Names a warehouse, where it isn't named yet.
-fn name_warehouse(named: &mut ArrayVec<u64, MAX_NAMED>, warehouse: u64)
-    requires { length named.old.items < 16 }
-    ensures { named.new.items ≡ with_named named.old.items warehouse }
-{
-    if !named.contains(&warehouse) {
-        named.push(warehouse);
-    }
-}
-
-/// Names the warehouses that supply lines.
-fn name_suppliers(named: &mut ArrayVec<u64, MAX_NAMED>, lines: &PurchaseLines)
-    requires { length named.old.items + length lines.now ≤ 16 }
-    ensures { named.new.items ≡ fold (λ named line. with_named named line.supply_warehouse) named.old.items lines.now }
-{
-    for place in 0..lines.len() {
-        name_warehouse(named, lines.line(place).supply_warehouse);
     }
 }
 

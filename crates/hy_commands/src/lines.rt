@@ -1,6 +1,6 @@
 //! The lines of a purchase, in as little memory as they need.
 
-ghost use Rattle.std.specs.Prelude.{◌≡◌, ◌==◌, ◌<◌, ◌^◌, IfOk, true, length, map, slice_get, vec_capacity};
+ghost use Rattle.std.specs.Prelude.{◌≡◌, ◌==◌, ◌<◌, ◌^◌, IfOk, IfSome, true, length, map, slice_get, vec_capacity};
 ghost use Rattle.std.specs.List.{list_all, list_any};
 ghost use Rattle.hy_commands.specs.Commands.{is_line_in_range};
 ghost use Rattle.hy_commands.specs.inside.Lines.{are_short, is_short, line_of, lines_of};
@@ -152,6 +152,18 @@ impl PurchaseLines {
         match &self.kept {
             KeptLines::Short(lines) => lines[place].widen(),
             KeptLines::Wide(lines) => lines[place],
+        }
+    }
+
+    /// The warehouse that supplies the line at a place, if there is one.
+    pub(crate) fn supplier(&self, place: usize) -> Option<u64>
+        ensures number { result ≡ slice_get (map (λ line. line.supply_warehouse) self.now) place }
+        ensures few { IfSome result (λ number. place < 2 ^ 63) }
+    {
+        if place < self.len() {
+            Some(self.line(place).supply_warehouse)
+        } else {
+            None
         }
     }
 

@@ -1,9 +1,7 @@
 //! What comes before the parts of a command: what runs in its warehouses is ended, and the command is looked at.
 
 ghost use Rattle.std.specs.Prelude.{◌≡◌, ◌-◌, ◌==◌, ◌<◌, ◌≤◌, ℕ, suc, true, None, Some, IfErr, IfOk, IsSome, OnOk, length};
-ghost use Rattle.std.specs.List.{list_all};
-ghost use Rattle.hy_rows.specs.Ranges.{IsBetween, is_between};
-ghost use Rattle.hy_commands.specs.Commands.{is_in_range, warehouses_of};
+ghost use Rattle.hy_rows.specs.Ranges.{IsBetween};
 ghost use Rattle.hy_commands.specs.Parts.{customer_home_of};
 ghost use Rattle.hy_commands.specs.Transactions.{has_items};
 ghost use Rattle.hy_crossing.specs.Crossings.{AreIdle, ArePartitions, EndsJobs, FindsPayerIn, IsPayerIn, TellsNamed, loaded_refusal, some_is_full};
@@ -46,18 +44,6 @@ pub fn tell_named<const N: usize, K: Loaded, P: Parts<Part = Partition<N, K>>>(
     }
 }
 
-/// Whether all warehouses that a command in range names are there.
-fn are_there(command: &Command, count: usize) -> bool
-    requires { is_in_range command.now ≡ true }
-    ensures { result ≡ list_all (is_between 1 count) (warehouses_of command.now) }
-{
-    let last = count as u64;
-    command
-        .warehouses()
-        .iter()
-        .all(|named| (1..=last).contains(named))
-}
-
 /// Whether one of the warehouses that a command names keeps as many commits as it may.
 fn is_some_full<const N: usize, K: Loaded, P: Parts<Part = Partition<N, K>>>(
     parts: &mut P,
@@ -88,7 +74,7 @@ pub fn prepare<const N: usize, K: Loaded, P: Parts<Part = Partition<N, K>>>(
     ensures same { P.states parts.new ≡ P.states parts.old }
 {
     command.check()?;
-    if !are_there(command, parts.len()) {
+    if !command.names_up_to(parts.len() as u64) {
         return Err(Refusal::NoSuchWarehouse);
     }
     if !has_districts(command) {

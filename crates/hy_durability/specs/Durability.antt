@@ -41,10 +41,10 @@ pub record AreDurable (lists : Lists) (whole : Whole) (batches : List (List (Lis
   pub told : length whole.log < 2 ^ 32 → list_all is_batch batches ≡ true
   pub joined_are : (place : ℕ) → IfSome (place_at whole.places (suc place)) (λ p. joined batches place ≡ take p.drained p.kept)
 
--- What a stop left of a log into which a database's drains went. It is read as the first of the batches, at least so many, or
--- memory lacks. These are sound, and no other answer of recovery comes than that a frame or memory lacks, where as many
--- commits may be kept as the database had kept. Of each warehouse they have, one behind another, the first of what it had
--- kept, at least what the batches had that were acknowledged
+-- What a stop left of a log into which a database's drains went. It is read as the first of the batches, at least so
+-- many, or memory lacks. These are sound, and where as many commits may be kept as the database had kept, recovery may
+-- refuse them with E2 and E1 alone. Of each warehouse they have, one behind another, the first of what it had kept, at
+-- least what the batches had that were acknowledged
 pub record IsRecoverable (lists : Lists) (whole : Whole) (batches : List (List (List Commit))) (least : ℕ) (left : List ℕ)
     : Type 0 where
   pub count : ℕ

@@ -57,8 +57,8 @@ AnswersJob job old new answer =
 abbrev pub IsHome : EngineState → ℕ → Type 0
 IsHome engine number = (1 ≤ number) × (number ≤ engine.warehouses)
 
--- why a job of one of the engine's clients comes back: the engine is closed; its home isn't there, or it is one of several
--- warehouses and the partitions aren't those of the load; or it is one of one warehouse, whose queue was full
+-- with what a job of one of the engine's clients may come back: E16; E4, where its home isn't there or it names several
+-- warehouses; or E17, where its home is there and it names one
 abbrev pub IsWhyUntaken : EngineState → Command → Refusal → Type 0
 IsWhyUntaken engine command why =
     (why ≡ refusals.Closed)
@@ -93,7 +93,7 @@ IsWhyUnseen why = (why ≡ refusals.NoSuchWarehouse) ⊎ (why ≡ refusals.NoFra
 
 -- ---- drains
 
--- a batch has what the partitions of a load, whatever they had done, had kept since the last drain
+-- a batch has what some partitions of a load had kept since a drain, whatever that is: so a list for each warehouse
 abbrev pub IsDrainOf : Lists → List (List Commit) → Type 0
 IsDrainOf lists batch = (parts : List PartitionState) × ArePartitions lists parts × (batch ≡ map undrained parts)
 

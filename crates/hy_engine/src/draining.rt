@@ -50,7 +50,8 @@ impl<const N: usize, K: Loaded, G: Gate + Drop> Engine<N, K, G> {
         self.drain_into(rt, alloc, &mut log)
     }
 
-    /// The same for a log that nobody else has.
+    /// The same for a log that nobody else has. A batch has a list for each warehouse of the load; what these lists are
+    /// is said by `drain` of hy_forks, which is called behind the locks.
     fn drain_into<R: Wait, W: LogOut>(
         &self,
         rt: &R,

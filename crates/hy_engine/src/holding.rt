@@ -32,8 +32,9 @@ impl<const N: usize, K: Loaded, G: Gate + Drop> Engine<N, K, G> {
         Ok(Vec::with_capacity(alloc, self.parts.len())?)
     }
 
-    /// The partitions of all warehouses, with all of their locks, which are taken in rising order of warehouse and lie in
-    /// this room. E4 where they aren't those of the load, or a part of a command is done in one.
+    /// The partitions of all warehouses, with all of their locks, which are taken in rising order of warehouse and lie
+    /// in this room: they are those of the load, in order, and no part of a command is done in any. Refused with E4
+    /// alone.
     pub fn hold<'a, R: Wait>(
         &'a self,
         rt: &R,
@@ -55,9 +56,10 @@ impl<const N: usize, K: Loaded, G: Gate + Drop> Engine<N, K, G> {
         Ok(held)
     }
 
-    /// A snapshot of the whole database behind the serial list, for a client, who is told all of the list. Whoever has the
-    /// partitions of the load can close it. E4 where the partitions aren't those of the load; E2 where one of them has
-    /// fewer frames free than its job has touched pages; E1.
+    /// A snapshot of all warehouses, for a client: it spells the database behind a serial list that begins with all
+    /// that the client had seen and that the client then knows, and its rows meet the consistency conditions. It says
+    /// that it is one of this kit and of any partitions of the load, so that whoever has these can close it. Refused
+    /// with E4, E2 or E1 alone, of which no clause says why. The pass is that of the same client, refused or not.
     pub fn fork_all<R: Wait>(
         &self,
         rt: &R,
@@ -76,9 +78,9 @@ impl<const N: usize, K: Loaded, G: Gate + Drop> Engine<N, K, G> {
         fork_all(alloc, &mut held, &mut journal, pass)
     }
 
-    /// Closes a snapshot of all warehouses, with room for their locks. It comes back with E11 where it is one of other
-    /// partitions, or with E4 where the partitions aren't those of the load; then nothing is closed. A snapshot with the
-    /// kit's name has to be one of that kit. Takes no memory.
+    /// Closes a snapshot of all warehouses, with room for their locks. Refused with E11 or E4 alone, it comes back as
+    /// it was. A snapshot with the kit's name has to be one of that kit. Takes no memory. What becomes of the
+    /// partitions behind their locks is said by `close_all` of hy_forks, which is called there, and by no clause here.
     pub fn close_all<'a, R: Wait>(
         &'a self,
         rt: &R,

@@ -16,10 +16,11 @@ use std::sync::Wait;
 
 impl<const N: usize, K: Loaded, G: Gate + Drop> Engine<N, K, G> {
     /// Hands a job in. That of one warehouse waits in its queue for the worker; that of several is done at once, on the
-    /// caller's thread. Either answer comes by `answer`. Else the job comes back: with E8 exactly where its client isn't
-    /// one of the engine's; else with E16 where the engine is closed; else with E4 where its home isn't there, or it is
-    /// one of several warehouses and the partitions aren't those of the load; else with E17 where it is one of one
-    /// warehouse, whose queue was full.
+    /// caller's thread. Either answer comes by `answer`. A job that is taken has a client and a home that are the
+    /// engine's. Another one comes back as it was: with E8 exactly where its client isn't one of the engine's; else
+    /// with E16; or with E4, where its home isn't there or it names several warehouses; or with E17, where its home is
+    /// there and it names one. No clause says that the engine was closed behind E16 or the queue full behind E17, as
+    /// the code does.
     pub fn submit<R: Wait>(
         &self,
         rt: &R,
@@ -94,7 +95,8 @@ impl<const N: usize, K: Loaded, G: Gate + Drop> Engine<N, K, G> {
         }
     }
 
-    /// Waits for an answer of a client: one to a job that this client handed in. What is another client's is handed on.
+    /// Waits for an answer that has a pass of this client, by its number, which is all that the clause says of it. What
+    /// is another client's is handed on.
     pub fn answer<R: Wait>(&self, rt: &R, client: u32) -> Done<K>
         requires { client < self.now.clients }
         ensures { result.pass.client ≡ client }

@@ -305,7 +305,39 @@ fn names_warehouses(
         lines,
     });
     assert!(rt; order.check().is_ok());
-    order.warehouses().as_slice() == expected
+    names_these(&order, expected)
+}
+
+/// Whether a command names these warehouses in this order, and no others.
+fn names_these(command: &Command, expected: &[u64]) -> bool {
+    let mut named = command.warehouses();
+    for number in expected {
+        if named.next() != Some(*number) {
+            return false;
+        }
+    }
+    named.next().is_none()
+}
+
+/// A command that no check has seen, with 20 lines from as many warehouses, and one from its home.
+#[test]
+fn commands_name_many_warehouses(rt: HostRuntime) {
+    let mut lines = [line_of(1, 7); 21];
+    let mut expected = [7; 21];
+    for place in 0..20usize {
+        lines[place] = line_of(1, place as u64 + 100);
+        expected[place + 1] = place as u64 + 100;
+    }
+    let lines = PurchaseLines::new(rt.alloc(), &lines).expect(&rt, "lines");
+    let order = Command::NewOrder(Purchase {
+        warehouse: 7,
+        district: 11,
+        customer: 0,
+        at: 0,
+        lines,
+    });
+    assert!(rt; order.check().is_err());
+    assert!(rt; names_these(&order, &expected));
 }
 
 #[test]
@@ -321,7 +353,7 @@ fn commands_name_warehouses(rt: HostRuntime) {
         amount: 100,
         at: 1,
     });
-    assert!(rt; payment.warehouses().as_slice() == [1, 2].as_slice());
+    assert!(rt; names_these(&payment, &[1, 2]));
 }
 
 #[test]

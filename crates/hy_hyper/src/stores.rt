@@ -294,6 +294,12 @@ impl<const N: usize> Store<N> {
         (slot, reads.count())
     }
 
+    /// How many pages stand above each leaf of the index: its first page says it in the bytes 2 and 3.
+    pub fn pages_above(&self, rt: &impl Abort) -> u64 {
+        assert!(rt; 0 < self.space.pages(INDEX_SEGMENT));
+        self.space.read(INDEX_SEGMENT, 0, 2, 2)
+    }
+
     /// Gives a key a slot, and answers whether it could. Where a frame lacks, all is what it was at the last commit.
     pub fn try_insert(&mut self, rt: &impl Abort, key: &NewOrderKey, slot: u64) -> bool {
         let Err(shortage) = index().insert(&mut self.space, &mut self.undo, key, slot) else {

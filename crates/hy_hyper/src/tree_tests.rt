@@ -55,14 +55,16 @@ fn digits_of(number: u64) -> u64 {
     u64::from(u64::BITS.saturating_sub(number.leading_zeros()))
 }
 
-/// Each look-up finds what the list has, and reads no more than 2 pages and one for each binary digit of how many there
-/// are.
+/// Each look-up finds what the list has, and reads 2 pages and as many as stand above each leaf: those are no more than the
+/// binary digits of how many keys there are, and 2 at least where pages are small.
 fn look_ups_agree<const N: usize>(rt: &(impl Abort + AllocGlobal), store: &Store<N>, keys: &Keys) {
-    let most = digits_of(keys.entries(rt).len() as u64).saturating_add(2);
+    let above = store.pages_above(rt);
+    assert!(rt; above <= digits_of(keys.entries(rt).len() as u64));
+    assert!(rt; 256 < N || 2 <= above);
     for number in 0..KEYS {
         let (slot, reads) = store.find_counted(&key_at(number.into()));
         assert!(rt; slot == keys.find(number as usize));
-        assert!(rt; reads <= most);
+        assert!(rt; reads == above.saturating_add(2));
     }
 }
 

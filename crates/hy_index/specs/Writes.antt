@@ -10,6 +10,10 @@ use Rattle.hy_index.specs.declared.key.Entry.{Entry}
 abbrev pub leaf_items : ℕ → List (List ℕ) → List Item
 leaf_items key_width pages = entries_under (nodes_of key_width pages) (height_of (nodes_of key_width pages)) 0
 
+-- how many pages stand above each leaf of the tree
+abbrev pub pages_above : ℕ → List (List ℕ) → ℕ
+pages_above key_width pages = height_of (nodes_of key_width pages)
+
 -- an item as an entry
 abbrev pub entry_of : {Key : Type 0} → (List ℕ → Key) → Item → Entry Key
 entry_of key_of_bytes item = record { key = key_of_bytes item.key; slot = item.number }

@@ -7,7 +7,7 @@ ghost use Rattle.hy_space.specs.Space.{page_count};
 ghost use Rattle.hy_undo.specs.PrivatePages.{IsUndoLog};
 ghost use Rattle.hy_undo.specs.Writes.{HasChild, IsOutOfFrames};
 ghost use Rattle.hy_index.specs.Index.{IsInOrder, between, first_from, found, with_entry, without};
-ghost use Rattle.hy_index.specs.Writes.{FillsPages, IsIndex, KeepsPagesFor, entries, entries as entries_of};
+ghost use Rattle.hy_index.specs.Writes.{FillsPages, IsIndex, KeepsPagesFor, entries, entries as entries_of, pages_above};
 ghost use Rattle.hy_nodes.specs.Writes.{WritesSegment, pages_of};
 
 use hy_frames::Shortage;
@@ -96,8 +96,8 @@ impl<K: Key> Index<K> {
         self.find_counted(space, key, &mut Reads::new())
     }
 
-    /// The slot of a key, if the key is there. The pages that are read are counted: where so many binary digits spell
-    /// the number of entries, they are no more than 2 and these.
+    /// The slot of a key, if the key is there. The pages that are read are counted: they are as many as stand above each
+    /// leaf, and 2. Where so many binary digits spell the number of entries, they are no more than 2 and these.
     pub fn find_counted<const N: usize>(
         &self,
         space: &Space<N>,
@@ -109,6 +109,8 @@ impl<K: Key> Index<K> {
             (pages_of space.now self.now) }
         ensures value { result ≡ found K.is_less key.now
             (entries N K.BYTES K.key_of_bytes (pages_of space.now self.now)) }
+        ensures counted { reads.old + (pages_above K.BYTES (pages_of space.now self.now) + 2) < 2 ^ 64
+            → reads.new ≡ reads.old + (pages_above K.BYTES (pages_of space.now self.now) + 2) }
         ensures reads { (digits : ℕ) → length (entries N K.BYTES K.key_of_bytes (pages_of space.now self.now))
             < 2 ^ digits → reads.new ≤ reads.old + 2 + digits }
     {

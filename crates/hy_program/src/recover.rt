@@ -1,14 +1,12 @@
 //! The command `recover`: what a log has, run again on the database in the files of a folder.
 
-ghost use Rattle.std.specs.Prelude.{◌≡◌, ◌⊎◌, Bool, IfErr, IfOk, MatchResult, OnOk, length, string_bytes, true};
-ghost use Rattle.std.specs.List.{list_all};
+ghost use Rattle.std.specs.Prelude.{◌≡◌, ◌⊎◌, Bool, IfErr, IfOk, MatchResult, OnOk, length, string_bytes};
 ghost use Rattle.std.specs.Option.{option_copied};
 ghost use Rattle.hy_schema.specs.Loads.{IsLoad, all_whole};
 ghost use Rattle.hy_loads.specs.Checks.{IsRefusalOf};
 ghost use Rattle.hy_tables.specs.Files.{texts_of};
 ghost use Rattle.hy_files.specs.Directory.{AreFiles, KeepsOtherFiles, tables as tables_in_order};
 ghost use Rattle.hy_files.specs.Files.{AddsPath};
-ghost use Rattle.hy_batches.specs.Grammar.{is_batch};
 ghost use Rattle.hy_program.specs.Faults.{IsBlamedRightly};
 ghost use Rattle.hy_program.specs.Recover.{IsBehind, IsRecoverDone, IsRecoverFault, IsReplayed, IsSaveFault, IsSaved, IsUnsaved, IsWhyLost, IsWhyUnreplayed, KeepsFolder, Makes, batches_text, recovered_text, with_rows};
 
@@ -105,7 +103,6 @@ fn tables_behind<K: Loaded>(
     requires load { load.now ≡ K.load }
     requires partitions { kit.partitions ≡ length load.now.tables.warehouses }
     requires clients { kit.clients ≡ 1 }
-    requires batches { list_all is_batch batches.now ≡ true }
     ensures rows { IfOk result (IsReplayed load.now batches.now) }
     ensures refused { IfErr result (IsWhyUnreplayed load.now batches.now) }
 {

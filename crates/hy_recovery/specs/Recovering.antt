@@ -46,8 +46,8 @@ abbrev pub NoneAreTooMany : Lists → List (List (List Commit)) → ℕ → Type
 NoneAreTooMany lists batches most =
     (place : ℕ) → place < length lists.tables.warehouses → length (joined batches place) ≤ most
 
--- why nothing is recovered, the first that holds of these: a batch isn't sound; a warehouse would keep too many commits; a
--- frame lacks. Memory may lack before each
+-- why nothing is recovered: a batch isn't sound; or all are, and a warehouse would keep too many commits; or none
+-- would, and the refusal is E2, which says no more. E1 may come of any batches
 abbrev pub IsWhyUnrecovered : Lists → List (List (List Commit)) → ℕ → Refusal → Type 0
 IsWhyUnrecovered lists batches most (refusals.LogMalformed place) = IsFirstUnsound lists batches place
 IsWhyUnrecovered lists batches most refusals.HistoryFull = IsSoundLog lists batches × SomeAreTooMany lists batches most

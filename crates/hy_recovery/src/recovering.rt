@@ -1,12 +1,11 @@
 //! A database is recovered from a log.
 
-ghost use Rattle.std.specs.Prelude.{◌≡◌, ◌<◌, ◌≤◌, ℕ, [], None, true, IfErr, IfOk, IfSome, length, map, slice_get};
-ghost use Rattle.std.specs.List.{list_all, range_with_len};
+ghost use Rattle.std.specs.Prelude.{◌≡◌, ◌<◌, ◌≤◌, ℕ, [], None, IfErr, IfOk, IfSome, length, map, slice_get};
+ghost use Rattle.std.specs.List.{range_with_len};
 ghost use Rattle.hy_frames.specs.FrameTable.{IsPageSize, max_frames as most_frames};
 ghost use Rattle.hy_passes.specs.Worlds.{new_partition};
 ghost use Rattle.hy_schema.specs.Conditions.{first_broken};
 ghost use Rattle.hy_database.specs.Database.{all_rows};
-ghost use Rattle.hy_batches.specs.Grammar.{is_batch};
 ghost use Rattle.hy_partition.specs.Limits.{most_kept};
 ghost use Rattle.hy_partition.specs.Partition.{PartitionState};
 ghost use Rattle.hy_crossing.specs.Crossings.{ArePartitions, HaveNoPart, database_behind};
@@ -60,7 +59,6 @@ pub fn recover<const N: usize, K: Loaded>(
     requires load { load.now ≡ K.load }
     requires seats { seats.items ≡ map new_partition (range_with_len 1 (length load.now.tables.warehouses)) }
     requires log { journal.list.log ≡ [] }
-    requires batches { list_all is_batch batches.now ≡ true }
     ensures recovered { IfOk result
         (λ made. AreRecovered load.now max_frames max_kept batches.now made.0.items) }
     ensures history { IfOk result
@@ -73,6 +71,7 @@ pub fn recover<const N: usize, K: Loaded>(
     ensures whole { IfOk result (λ made. HaveNoPart made.0.items) }
     ensures refused { IfErr result (IsWhyUnrecovered load.now batches.now max_kept) }
 {
+    batches.sound();
     check_log(alloc, load, batches)?;
     if some_are_too_many(load, batches, max_kept) {
         return Err(Refusal::HistoryFull);

@@ -1,8 +1,6 @@
 //! A log that is cut anywhere, and one that goes on behind a recovery.
 
-ghost use Rattle.std.specs.Prelude.{◌≡◌, length, true};
-ghost use Rattle.std.specs.List.{list_all};
-ghost use Rattle.hy_batches.specs.Grammar.{is_batch};
+ghost use Rattle.std.specs.Prelude.{◌≡◌, length};
 
 use crate::logs::{payment, read, written};
 use crate::recovery_tests::{WIDE, recovered_of};
@@ -81,7 +79,6 @@ fn live_on<K: Loaded, R: Abort + AllocGlobal>(
     requires load { load.now ≡ K.load }
     requires kit { kit ≡ K.passes }
     requires partitions { kit.partitions ≡ length load.now.tables.warehouses }
-    requires batches { list_all is_batch batches.now ≡ true }
 {
     let (_passes, journal, seats, mut clients) = kit.open::<K>().expect(rt, "passes");
     let Some(pass) = clients.pop() else {
@@ -105,9 +102,7 @@ fn live_on<K: Loaded, R: Abort + AllocGlobal>(
 }
 
 /// The same on a generated load of two warehouses.
-fn second_batch<R: Abort + AllocGlobal>(rt: &R, batches: &Batches) -> Text
-    requires { list_all is_batch batches.now ≡ true }
-{
+fn second_batch<R: Abort + AllocGlobal>(rt: &R, batches: &Batches) -> Text {
     let load = generate(rt.alloc(), 2, 3, 20).expect(rt, "a load");
     assert!(rt; load.tables().warehouses.len() == 2);
     let kit = make::<Commit>(rt.alloc(), 2, 1, 1).expect(rt, "a kit");

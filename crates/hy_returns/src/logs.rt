@@ -1,9 +1,5 @@
 //! For tests: logs of payments, orders and deliveries.
 
-ghost use Rattle.std.specs.Prelude.{◌≡◌, true};
-ghost use Rattle.std.specs.List.{list_all};
-ghost use Rattle.hy_batches.specs.Grammar.{is_batch};
-
 use hy_batches::{Batches, Lists, Text, read_log, write_batch};
 use hy_commands::{Command, Commit, Delivery, Payment, Purchase, PurchaseLine, PurchaseLines, Who};
 use std::alloc::Global;
@@ -93,9 +89,7 @@ pub fn delivery(warehouse: u64) -> Command {
 }
 
 /// The batches of a log.
-pub fn read<R: Abort + AllocGlobal>(rt: &R, bytes: &[u8]) -> Batches
-    ensures { list_all is_batch result ≡ true }
-{
+pub fn read<R: Abort + AllocGlobal>(rt: &R, bytes: &[u8]) -> Batches {
     match read_log(rt.alloc(), bytes) {
         Ok(batches) => batches,
         Err(_) => panic!(rt; "no log"),

@@ -1,8 +1,6 @@
 //! Databases that are recovered from logs, and logs that are refused.
 
-ghost use Rattle.std.specs.Prelude.{◌≡◌, length, true};
-ghost use Rattle.std.specs.List.{list_all};
-ghost use Rattle.hy_batches.specs.Grammar.{is_batch};
+ghost use Rattle.std.specs.Prelude.{◌≡◌, length};
 
 use crate::logs::{Sheet, delivery, order, page, payment, read, write};
 use hy_batches::{Batches, Text};
@@ -67,7 +65,6 @@ fn recover_in<K: Loaded, R: Abort + AllocGlobal>(
     requires load { load.now ≡ K.load }
     requires kit { kit ≡ K.passes }
     requires partitions { kit.partitions ≡ length load.now.tables.warehouses }
-    requires batches { list_all is_batch batches.now ≡ true }
 {
     let alloc = rt.alloc();
     assert!(rt; (1..=10_000).contains(&limits.frames));
@@ -124,9 +121,7 @@ pub fn recovered_of<R: Abort + AllocGlobal>(
     warehouses: u8,
     batches: &Batches,
     limits: Limits,
-) -> Result<Seen, Refusal>
-    requires { list_all is_batch batches.now ≡ true }
-{
+) -> Result<Seen, Refusal> {
     assert!(rt; (1..=16).contains(&warehouses));
     let load = generate(rt.alloc(), u64::from(warehouses), 3, 20).expect(rt, "a load");
     assert!(rt; load.tables().warehouses.len() == warehouses as usize);

@@ -9,3 +9,4 @@ pub mod HeldLaws
 pub mod RunLaws
 pub mod WorkedScripts
 pub mod AskedLaws
+pub mod HomeLaws

@@ -96,20 +96,29 @@ Grants (requests.Limit more) before after old new text =
     ⊎ ((¬ IsLimitFor old.space.frames (limit_for old.space.frames more)) × (new ≡ old)
     × (text ≡ refused_text refusals.OutOfRange)))
 
+-- what is done where the warehouse of a number is there; where it isn't, that is the answer, and nothing is done
+abbrev pub IfThere : ℕ → DatabaseState → DatabaseState → List ℕ → (PartitionState → Type 0) → Type 0
+IfThere number old new text Does =
+    MatchOption (part_at old number) ((new ≡ old) × (text ≡ refused_text refusals.NoSuchWarehouse)) Does
+
+-- a request to the warehouse of a number, whose partition this is
+abbrev pub AsksPart : ℕ → Request → DatabaseState → DatabaseState → List ℕ → PartitionState → Type 0
+AsksPart number request old new text p =
+    (next : PartitionState) × Grants request old.log new.log p next text
+    × (new ≡ record (with_part old number next) { log = new.log })
+
 -- a request to the warehouse of a number, which may not be there
 abbrev pub Asks : ℕ → Request → DatabaseState → DatabaseState → List ℕ → Type 0
-Asks number request old new text =
-    MatchOption (part_at old number) ((new ≡ old) × (text ≡ refused_text refusals.NoSuchWarehouse)) (λ p.
-    (next : PartitionState) × Grants request old.log new.log p next text
-    × (new ≡ record (with_part old number next) { log = new.log }))
+Asks number request old new text = IfThere number old new text (AsksPart number request old new text)
 
 -- ---- commands
 
--- a command was run, and its reply printed: over several warehouses where it names several, else by its home
+-- a command whose home is there was run, and its reply printed: over several warehouses where it names several, else by its
+-- home, whose partition this is. Where its home isn't there, nothing is run, and nothing that runs is ended
 abbrev pub RunsWhole : Command → DatabaseState → DatabaseState → List ℕ → Type 0
-RunsWhole command old new text =
+RunsWhole command old new text = IfThere (home_of command) old new text (λ p.
     ((is_crossing command ≡ true) × (reply : Reply) × RunsAcross command old new reply × (text ≡ reply_text reply))
-    ⊎ ((is_crossing command ≡ false) × Asks (home_of command) (requests.Run command) old new text)
+    ⊎ ((is_crossing command ≡ false) × AsksPart (home_of command) (requests.Run command) old new text p))
 
 -- ---- snapshots of all warehouses
 

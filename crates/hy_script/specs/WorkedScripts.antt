@@ -42,16 +42,23 @@ snapshot_of_nothing = refl
 -- ---- commands over several warehouses
 
 -- warehouse 1 takes a payment of a customer of a warehouse
-abbrev pub payment_of : ℕ → Command
-payment_of warehouse = commands.Payment (record {
+abbrev payment_in : ℕ → ℕ → Command
+payment_in warehouse amount = commands.Payment (record {
   warehouse = 1;
   district = 1;
   customer_warehouse = warehouse;
   customer_district = 1;
   who = who.Number 1;
-  amount = 100;
+  amount = amount;
   at = 3;
 })
+
+abbrev pub payment_of : ℕ → Command
+payment_of warehouse = payment_in warehouse 100
+
+-- and one of a cent too little
+abbrev pub small_payment_of : ℕ → Command
+small_payment_of warehouse = payment_in warehouse 99
 
 payment_of_its_own_customer : is_crossing (payment_of 1) ≡ false
 payment_of_its_own_customer = refl

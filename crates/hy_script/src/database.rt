@@ -1,6 +1,6 @@
 //! The database of a script: its partitions, and the snapshots that are open.
 
-ghost use Rattle.std.specs.Prelude.{◌≡◌, ℕ, suc, ◌+◌, ◌<◌, ◌≤◌, ◌++◌, ◌∷◌, [], true, IfErr, IfOk, IsSomeAnd, IsTrue, MatchOption, None, OnErr, OnOk, length, map, remove, slice_get};
+ghost use Rattle.std.specs.Prelude.{◌≡◌, ℕ, suc, ◌+◌, ◌<◌, ◌≤◌, ◌++◌, ◌∷◌, [], true, IfErr, IfOk, IsSomeAnd, IsTrue, MatchOption, None, OnErr, OnOk, is_some, length, map, remove, slice_get};
 ghost use Rattle.std.specs.List.{flat_map, range_with_len};
 ghost use Rattle.std.specs.Io.KnownBytes.{Appends};
 ghost use Rattle.hy_passes.specs.Worlds.{new_partition};
@@ -126,6 +126,13 @@ impl<'a, const N: usize, K: Loaded> Database<'a, N, K> {
         } else {
             None
         }
+    }
+
+    /// Whether the warehouse of a number is there.
+    pub fn has_warehouse(&self, number: u64) -> bool
+        ensures { result ≡ is_some (part_at self.now number) }
+    {
+        self.place_of(number).is_some()
     }
 
     /// Runs a command over several warehouses as a whole. Its reply is the refusal where it is refused.

@@ -13,6 +13,7 @@ use hy_commands::Command;
 use hy_events::{Event, QueryText, SnapshotName, write_reply};
 use hy_output::Output;
 use hy_partition::Loaded;
+use hy_schema::Refusal;
 use std::io;
 
 /// Why an event has no answer.
@@ -66,7 +67,8 @@ pub fn answer<'a, const N: usize, K: Loaded, O: Output>(
     Ok(())
 }
 
-/// Runs a command as a whole, over several warehouses where it names several, else in its home, and writes its reply.
+/// Runs a command as a whole, over several warehouses where it names several, else in its home, and writes its reply. A
+/// home that isn't there comes before all else.
 fn run<const N: usize, K: Loaded, O: Output>(
     database: &mut Database<'_, N, K>,
     command: Command,
@@ -76,11 +78,14 @@ fn run<const N: usize, K: Loaded, O: Output>(
         (IsAnswered N (events.Run command) database.old database.new (O.contents out.old) (O.contents out.new)) }
     ensures failed { OnErr result (IsTrue (O.has_failed out.new)) }
 {
+    let home = command.home();
+    if !database.has_warehouse(home) {
+        return write_refused(out, Refusal::NoSuchWarehouse);
+    }
     if command.is_crossing() {
         let reply = database.cross(command);
         return write_reply(out, &reply);
     }
-    let home = command.home();
     database.ask(home, Request::Run(command), out)
 }
 

@@ -3,7 +3,7 @@
 ghost use Rattle.std.specs.Prelude.{◌≡◌, ◌&&◌, true, IfOk, length};
 ghost use Rattle.std.specs.List.{list_all};
 ghost use Rattle.hy_rows.specs.Ranges.{is_between};
-ghost use Rattle.hy_commands.specs.Commands.{is_in_range, warehouses_of};
+ghost use Rattle.hy_commands.specs.Commands.{warehouses_of};
 ghost use Rattle.hy_commands.specs.Parts.{customer_home_of};
 ghost use Rattle.hy_commands.specs.NewOrders.{has_item};
 ghost use Rattle.hy_commands.specs.Transactions.{has_customer, has_districts, has_items, is_district_number};
@@ -65,7 +65,7 @@ impl Known {
         if command.check().is_err() {
             return false;
         }
-        if !are_there(command, self.count()) {
+        if !command.names_up_to(self.count() as u64) {
             return false;
         }
         self.has_all(command)
@@ -109,18 +109,6 @@ impl Known {
         let home = command.customer_home() as usize;
         &self.layouts[home - 1]
     }
-}
-
-/// Whether all warehouses that a command in range names are there.
-fn are_there(command: &Command, count: usize) -> bool
-    requires { is_in_range command.now ≡ true }
-    ensures { result ≡ list_all (is_between 1 count) (warehouses_of command.now) }
-{
-    let last = count as u64;
-    command
-        .warehouses()
-        .iter()
-        .all(|named| (1..=last).contains(named))
 }
 
 /// How many warehouses a load has.

@@ -39,9 +39,9 @@ HaveKept log parts = (place : ℕ) → IfSome (slice_get parts place) (λ p. p.k
 abbrev pub HaveBooks : Lists → Log → ℕ → Totals → Type 0
 HaveBooks lists log count books = (books.commits ≡ kept_up_to log count) × (pos books.cents ≡ grown_up_to lists log count)
 
--- there is one serial list of all that was committed: the figures have its commits, each at its home, and what W_YTD has
--- grown by with them. The shares of the terminals are no more than these commits, and where they are as many they have the
--- same cents. The database behind the list meets the consistency conditions
+-- there is a serial list: the figures have its commits, each at its home, and what W_YTD grows by with them. Of two
+-- more figures, in the code what the terminals' shares come to, the commits are no more than these, and where they are
+-- as many the cents are that growth. The database behind the list meets the consistency conditions
 pub record AreFigures (lists : Lists) (figures : Figures) : Type 0 where
   pub log : Log
   pub serial : IsSerial warehouses_of_commit number_of (warehouses_of_load lists) log

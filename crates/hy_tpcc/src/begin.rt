@@ -1,9 +1,7 @@
 //! Why a warehouse doesn't begin a command, and where its customer stands.
 
-ghost use Rattle.std.specs.Prelude.{◌≡◌, ◌==◌, None, Some, true, IfErr, IfOk, OnOk};
-ghost use Rattle.std.specs.List.{list_all};
+ghost use Rattle.std.specs.Prelude.{◌≡◌, None, Some, true, IfErr, IfOk, OnOk};
 ghost use Rattle.hy_rows.specs.Tables.{Tables};
-ghost use Rattle.hy_commands.specs.Commands.{is_in_range, warehouses_of};
 ghost use Rattle.hy_commands.specs.Parts.{customer_home_of};
 ghost use Rattle.hy_commands.specs.Transactions.{begin_refusal_of, has_districts, is_district_number};
 ghost use Rattle.hy_layout.specs.Layout.{KeepsPlaces, own_rows};
@@ -42,15 +40,6 @@ pub fn has_districts(command: &Command) -> bool
     }
 }
 
-/// Whether a command in range names one warehouse alone.
-fn names_only(command: &Command, warehouse: u8) -> bool
-    requires { is_in_range command.now ≡ true }
-    ensures { result ≡ list_all (λ named. named == warehouse) (warehouses_of command.now) }
-{
-    let home = u64::from(warehouse);
-    command.warehouses().iter().all(|named| *named == home)
-}
-
 /// The place of the customer whom a command names, who is one of this warehouse, and 0 where it names none; none where
 /// there is no such customer.
 pub(crate) fn customer_place(layout: &Layout, command: &Command) -> Option<u64>
@@ -85,7 +74,7 @@ pub(crate) fn begin_place<const N: usize>(
 {
     know_store(space);
     command.check()?;
-    if !names_only(command, layout.warehouse()) {
+    if !command.names_only(layout.warehouse() as u64) {
         return Err(Refusal::NoSuchWarehouse);
     }
     if !has_districts(command) {

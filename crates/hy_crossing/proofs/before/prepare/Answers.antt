@@ -7,15 +7,15 @@ use Rattle.hy_crossing.specs.Crossings.{some_is_full}
 use Rattle.hy_crossing.proofs.RefusedLaws.{all-there, finds-customer, home-there, no-customer, no-district, no-item, no-refusal, no-room, no-warehouse}
 use Rattle.hy_crossing.proofs.before.prepare.Goals as goal
 
-pub returns-then-not-are_there-clause-refused : goal.returns-then-not-are_there-clause-refused
-returns-then-not-are_there-clause-refused g c =
+pub returns-then-not-names_up_to-clause-refused : goal.returns-then-not-names_up_to-clause-refused
+returns-then-not-names_up_to-clause-refused g c =
     let lists = g.K.Loaded.load in
     let command = c.args.command.now in
     let parts = g.P.Parts.states c.args.parts.now in
     let in_range = c.in_ok-check.ensures.ok.0 refl in
-    let all = all-there lists command parts c.len.result c.are_there.result c.requires.parts c.len.ensures
-    c.are_there.ensures in
-    no-warehouse lists command parts in_range (sym all ∙ c.if-not-are_there.true)
+    let all = all-there lists command parts c.len.result c.names_up_to.result c.requires.parts c.len.ensures
+    c.names_up_to.ensures in
+    no-warehouse lists command parts in_range (sym all ∙ c.if-not-names_up_to.true)
 
 pub returns-then-not-has_districts-clause-refused : goal.returns-then-not-has_districts-clause-refused
 returns-then-not-has_districts-clause-refused g c =
@@ -23,15 +23,15 @@ returns-then-not-has_districts-clause-refused g c =
     let command = c.args.command.now in
     let parts = g.P.Parts.states c.args.parts.now in
     let in_range = c.in_ok-check.ensures.ok.0 refl in
-    let all = all-there lists command parts c.len.result c.are_there.result c.requires.parts c.len.ensures
-    c.are_there.ensures in
-    let there = sym all ∙ c.if-not-are_there.false in
+    let all = all-there lists command parts c.len.result c.names_up_to.result c.requires.parts c.len.ensures
+    c.names_up_to.ensures in
+    let there = sym all ∙ c.if-not-names_up_to.false in
     no-district lists command parts in_range there (sym c.has_districts.ensures ∙ c.if-not-has_districts.true)
 
 pub find_payer-requires-clause-there : goal.find_payer-requires-clause-there
 find_payer-requires-clause-there g c =
     home-there c.args.command.now (g.P.Parts.states c.args.parts.now) c.len.result c.len.ensures
-    (sym c.are_there.ensures ∙ c.if-not-are_there.false)
+    (sym c.names_up_to.ensures ∙ c.if-not-names_up_to.false)
 
 pub returns-in_default-clause-refused : goal.returns-in_default-clause-refused
 returns-in_default-clause-refused g c =
@@ -39,9 +39,9 @@ returns-in_default-clause-refused g c =
     let command = c.args.command.now in
     let parts = g.P.Parts.states c.args.parts.now in
     let in_range = c.in_ok-check.ensures.ok.0 refl in
-    let all = all-there lists command parts c.len.result c.are_there.result c.requires.parts c.len.ensures
-    c.are_there.ensures in
-    let there = sym all ∙ c.if-not-are_there.false in
+    let all = all-there lists command parts c.len.result c.names_up_to.result c.requires.parts c.len.ensures
+    c.names_up_to.ensures in
+    let there = sym all ∙ c.if-not-names_up_to.false in
     let districts : has_districts command ≡ true = sym c.has_districts.ensures ∙ c.if-not-has_districts.false in
     no-customer lists command parts in_range there districts
     (finds-customer lists command parts c.find_payer.result c.requires.parts there c.find_payer.ensures.found
@@ -53,9 +53,9 @@ returns-then-is_some_full-clause-refused g c =
     let command = c.args.command.now in
     let parts = g.P.Parts.states c.args.parts.now in
     let in_range = c.in_ok-check.ensures.ok.0 refl in
-    let all = all-there lists command parts c.len.result c.are_there.result c.requires.parts c.len.ensures
-    c.are_there.ensures in
-    let there = sym all ∙ c.if-not-are_there.false in
+    let all = all-there lists command parts c.len.result c.names_up_to.result c.requires.parts c.len.ensures
+    c.names_up_to.ensures in
+    let there = sym all ∙ c.if-not-names_up_to.false in
     let districts : has_districts command ≡ true = sym c.has_districts.ensures ∙ c.if-not-has_districts.false in
     let payer : has_customer command (rows_of (customer_home_of command) (database_of lists)) ≡ true =
     finds-customer lists command parts c.find_payer.result c.requires.parts there c.find_payer.ensures.found
@@ -70,7 +70,7 @@ has_items-requires-clause-there g c =
     let parts = g.P.Parts.states c.args.parts.now in
     let home : ℕ = customer_home_of c.args.command.now in
     let ends = bounds 1 (length parts) home (home-there c.args.command.now parts c.len.result c.len.ensures
-    (sym c.are_there.ensures ∙ c.if-not-are_there.false)) in
+    (sym c.names_up_to.ensures ∙ c.if-not-names_up_to.false)) in
     let same = c.is_some_full.ensures.same ∙ c.find_payer.ensures.same in
     subst (λ (rows : List PartitionState). 1 ≤ length rows) (sym same) (omega (arith, ends.0, ends.1))
 
@@ -80,9 +80,9 @@ returns-then-not-has_items-clause-refused g c =
     let command = c.args.command.now in
     let parts = g.P.Parts.states c.args.parts.now in
     let in_range = c.in_ok-check.ensures.ok.0 refl in
-    let all = all-there lists command parts c.len.result c.are_there.result c.requires.parts c.len.ensures
-    c.are_there.ensures in
-    let there = sym all ∙ c.if-not-are_there.false in
+    let all = all-there lists command parts c.len.result c.names_up_to.result c.requires.parts c.len.ensures
+    c.names_up_to.ensures in
+    let there = sym all ∙ c.if-not-names_up_to.false in
     let districts : has_districts command ≡ true = sym c.has_districts.ensures ∙ c.if-not-has_districts.false in
     let payer : has_customer command (rows_of (customer_home_of command) (database_of lists)) ≡ true =
     finds-customer lists command parts c.find_payer.result c.requires.parts there c.find_payer.ensures.found
@@ -100,9 +100,9 @@ returns-clause-accepted g c =
     let command = c.args.command.now in
     let parts = g.P.Parts.states c.args.parts.now in
     let in_range = c.in_ok-check.ensures.ok.0 refl in
-    let all = all-there lists command parts c.len.result c.are_there.result c.requires.parts c.len.ensures
-    c.are_there.ensures in
-    let there = sym all ∙ c.if-not-are_there.false in
+    let all = all-there lists command parts c.len.result c.names_up_to.result c.requires.parts c.len.ensures
+    c.names_up_to.ensures in
+    let there = sym all ∙ c.if-not-names_up_to.false in
     let districts : has_districts command ≡ true = sym c.has_districts.ensures ∙ c.if-not-has_districts.false in
     let payer : has_customer command (rows_of (customer_home_of command) (database_of lists)) ≡ true =
     finds-customer lists command parts c.find_payer.result c.requires.parts there c.find_payer.ensures.found

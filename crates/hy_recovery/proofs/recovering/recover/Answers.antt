@@ -24,7 +24,7 @@ run_batch-requires g c =
     let run = c.loop-place.invariant.run in
     let aim = next_aim load c.args.batches.now c.args.max_frames c.args.max_kept c.loop-place.place log parts run batch at in
     let way = run-batch load c.args.batches.now c.args.max_frames c.args.max_kept c.loop-place.place log parts run batch at
-    c.requires.batches c.if-some_are_too_many.ensures in
+    c.sound.ensures c.if-some_are_too_many.ensures in
     (omega arith, (aim, subst (λ (lists : Lists). AreOnWay lists aim (untouched batch) log parts) c.requires.load way))
 
 pub loop-place-preserved : goal.loop-place-preserved
@@ -41,7 +41,7 @@ loop-place-preserved g c =
     let run = c.loop-place.invariant.run in
     let aim = next_aim load c.args.batches.now c.args.max_frames c.args.max_kept c.loop-place.place log parts run batch at in
     let way = run-batch load c.args.batches.now c.args.max_frames c.args.max_kept c.loop-place.place log parts run batch at
-    c.requires.batches c.if-some_are_too_many.ensures in
+    c.sound.ensures c.if-some_are_too_many.ensures in
     let there : AreThere load aim later news =
     subst (λ (lists : Lists). AreThere lists aim later news) (sym c.requires.load)
     (c.in_ok-pass.ensures.way aim
