@@ -85,7 +85,7 @@ def checked():
         return CHECKED
     with alone("checking"):
         if not is_fresh(CHECKED):
-            say(BUILDING.format(minutes=3, long=40))
+            say(BUILDING.format(minutes=3, long=30))
             began = time.time()
             os.makedirs(os.path.dirname(CHECKED), exist_ok=True)
             made = subprocess.run([f"{TOP}/tools/unproved_program", f"{CHECKED}.new"], stdin=subprocess.DEVNULL,
