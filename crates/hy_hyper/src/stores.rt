@@ -296,7 +296,7 @@ impl<const N: usize> Store<N> {
 
     /// How many pages stand above each leaf of the index: its first page says it in the bytes 2 and 3.
     pub fn pages_above(&self, rt: &impl Abort) -> u64 {
-        assert!(rt; 0 < self.space.pages(INDEX_SEGMENT));
+        assert!(rt; 4 <= N && 0 < self.space.pages(INDEX_SEGMENT));
         self.space.read(INDEX_SEGMENT, 0, 2, 2)
     }
 
