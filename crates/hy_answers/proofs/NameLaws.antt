@@ -5,7 +5,7 @@ use Rattle.std.proofs.lemmas.List.Folds.{list_any-append}
 use borrow.Author.Tests.{eqb-true, eq-eqb}
 use Rattle.std.specs.List.{AllByRecursion, flat_map, list_all, list_any}
 use Rattle.hy_rows.specs.Tables.{Lists}
-use Rattle.hy_schema.specs.declared.refusal.Table.{Table}
+use Rattle.hy_rows.specs.declared.catalogue.Table.{Table}
 use Rattle.hy_columns.specs.Columns.{column_at, values_of}
 use Rattle.hy_query.specs.declared.column.Column.{Column}
 use Rattle.hy_query.specs.declared.column.Kind.{Kind}

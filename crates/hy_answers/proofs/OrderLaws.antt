@@ -12,10 +12,11 @@ use Rattle.std.specs.Ordering.{int_cmp, is_eq, is_ge, is_gt, is_le, is_lt, is_ne
 use Rattle.hy_query.specs.declared.query.Comparison.{Comparison}
 use Rattle.hy_query.specs.declared.query.Comparison.TheVariants as comparisons
 use Rattle.hy_query.specs.declared.query.SortKey.{SortKey}
-use Rattle.hy_query.specs.declared.value.Value.{Value}
-use Rattle.hy_query.specs.declared.value.Value.TheVariants.{Text, Whole}
+use Rattle.hy_rows.specs.declared.value.Value.{Value}
+use Rattle.hy_rows.specs.declared.value.Value.TheVariants.{Text, Whole}
 use Rattle.hy_query.specs.Meaning.{comes_before}
-use Rattle.hy_query.specs.Rows.{Row, value_at}
+use Rattle.hy_query.specs.Rows.{Row}
+use Rattle.hy_rows.specs.Rows.{value_at}
 use Rattle.hy_query.specs.Values.{compares, is_equal, is_less, is_text_less}
 use Rattle.hy_answers.specs.inside.Orders.{key_order, rows_order, value_order}
 

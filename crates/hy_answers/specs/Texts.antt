@@ -3,8 +3,8 @@ use Rattle.std.specs.Prelude.{ℕ, List, ◌++◌, codes, decimal, length, map}
 use Rattle.std.specs.Fmt.{signed_decimal}
 use Rattle.std.specs.List.{flat_map}
 use Rattle.csv.specs.Writing.{default_writer, row_text}
-use Rattle.hy_query.specs.declared.value.Value.{Value}
-use Rattle.hy_query.specs.declared.value.Value.TheVariants.{Text, Whole}
+use Rattle.hy_rows.specs.declared.value.Value.{Value}
+use Rattle.hy_rows.specs.declared.value.Value.TheVariants.{Text, Whole}
 use Rattle.hy_query.specs.Rows.{Row}
 
 -- a value as the field of a record: a whole number in decimal digits, a text by its bytes

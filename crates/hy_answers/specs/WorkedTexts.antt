@@ -2,7 +2,7 @@
 use Rattle.std.specs.Prelude.{◌≡◌, ◌++◌, ◌^◌, ◌-◌, [], ◌∷◌, pos, negsuc, codes, refl}
 use Rattle.std.specs.Fmt.{digits}
 use Rattle.csv.specs.Writing.{escaped, fields_text, is_blank}
-use Rattle.hy_query.specs.declared.value.Value.TheVariants.{Text, Whole}
+use Rattle.hy_rows.specs.declared.value.Value.TheVariants.{Text, Whole}
 use Rattle.hy_answers.specs.Texts.{answer_text, record_text}
 
 -- numbers in decimal digits, those below zero behind a minus

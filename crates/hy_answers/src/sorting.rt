@@ -2,7 +2,7 @@
 
 ghost use Rattle.std.specs.Prelude.{◌≡◌, IfOk};
 ghost use Rattle.hy_query.specs.Meaning.{comes_before};
-ghost use Rattle.hy_query.specs.Rows.{value_at};
+ghost use Rattle.hy_rows.specs.Rows.{value_at};
 ghost use Rattle.hy_query.specs.Sorting.{sorted};
 ghost use Rattle.hy_answers.specs.inside.Answers.{row_at};
 ghost use Rattle.hy_answers.specs.inside.Numbers.{upto};

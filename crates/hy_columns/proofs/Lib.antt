@@ -1,3 +1,4 @@
+pub mod FieldLaws
 pub mod ItemLaws
 pub mod PageRows
 pub mod ResultLaws

@@ -2,9 +2,10 @@
 use Rattle.std.specs.Prelude.{ℕ, pos, List, map}
 use Rattle.hy_columns.specs.declared.values.ColumnValues.{ColumnValues}
 use Rattle.hy_columns.specs.declared.values.ColumnValues.TheVariants as columns
-use Rattle.hy_query.specs.declared.value.Value.{Value}
-use Rattle.hy_query.specs.declared.value.Value.TheVariants.{Text, Whole}
-use Rattle.hy_query.specs.Rows.{Row, value_at}
+use Rattle.hy_rows.specs.Rows.{value_at}
+use Rattle.hy_rows.specs.declared.value.Value.{Value}
+use Rattle.hy_rows.specs.declared.value.Value.TheVariants.{Text, Whole}
+use Rattle.hy_query.specs.Rows.{Row}
 
 -- the values that a column has
 abbrev pub values_of : ColumnValues → List Value

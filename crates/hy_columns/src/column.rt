@@ -1,12 +1,14 @@
 //! The values of a column.
 
-ghost use Rattle.std.specs.Prelude.{◌≡◌, ◌≤◌, IfOk, IsSome};
+ghost use Rattle.std.specs.Prelude.{◌≡◌, ◌+◌, ◌≤◌, IfOk, IsSome, IsTrue, map, pos};
+ghost use Rattle.hy_rows.specs.Columns.{domain_of, number_at};
 ghost use Rattle.hy_rows.specs.Spelling.{IsTable};
+ghost use Rattle.hy_rows.specs.declared.value.Value.TheVariants.{Whole};
 ghost use Rattle.hy_query.specs.Columns.{kind_of};
 ghost use Rattle.hy_query.specs.Rows.{rows_of};
 ghost use Rattle.hy_columns.specs.Columns.{column_at, values_of};
 ghost use Rattle.hy_columns.specs.Snapshots.{lists_of_all};
-ghost use Rattle.hy_columns.specs.inside.Fields.{end_of, value_in};
+ghost use Rattle.hy_columns.specs.inside.Fields.{end_of, is_read, is_width, value_in};
 ghost use Rattle.hy_columns.specs.inside.Snapshots.{read_all};
 
 use crate::decode::{Padded, Signed, Unsigned};
@@ -16,6 +18,7 @@ use crate::reading::{items_of, read_all};
 use crate::values::ColumnValues;
 use hy_forks::SnapshotAll;
 use hy_query::Column;
+use hy_rows::Domain;
 use std::alloc::{AllocError, Global};
 
 /// The values of a column in all rows of its table, those of each warehouse's list in rising order, of ITEM once. Only
@@ -47,22 +50,45 @@ fn page_values<'a, const N: usize>(
 ) -> Result<ColumnValues<'a>, AllocError>
     requires table { IsTable segment.number segment.row_bytes }
     requires fits { end_of field ≤ segment.row_bytes }
+    requires read { IsTrue (is_read (domain_of field.domain)) }
     ensures { IfOk result (λ found. values_of found ≡ read_all N segment (value_in field) all.now) }
 {
-    let values = match field {
-        Field::One(at) => ColumnValues::Numbers(read_all(alloc, all, segment, Unsigned::<1>(at))?),
-        Field::Two(at) => ColumnValues::Numbers(read_all(alloc, all, segment, Unsigned::<2>(at))?),
-        Field::Four(at) => ColumnValues::Numbers(read_all(alloc, all, segment, Unsigned::<4>(at))?),
-        Field::Eight(at) => ColumnValues::Numbers(read_all(
-            alloc,
-            all,
-            segment,
-            Unsigned::<8>(at),
-        )?),
-        Field::Signed(at) => ColumnValues::Signed(read_all(alloc, all, segment, Signed(at))?),
-        Field::Text { offset, width } => {
+    let offset = field.offset;
+    let values = match field.domain {
+        Domain::Unsigned { width, .. } => {
+            ColumnValues::Numbers(numbers(alloc, all, segment, offset, width)?)
+        }
+        Domain::Signed { .. } => {
+            ColumnValues::Signed(read_all(alloc, all, segment, Signed(offset))?)
+        }
+        Domain::Text { width } => {
+            ColumnValues::Texts(read_all(alloc, all, segment, Padded { offset, width })?)
+        }
+        Domain::OneOf { width, .. } => {
             ColumnValues::Texts(read_all(alloc, all, segment, Padded { offset, width })?)
         }
     };
     Ok(values)
+}
+
+/// The numbers without sign that stand at an offset. Each width has a loop of its own.
+fn numbers<const N: usize>(
+    alloc: Global,
+    all: &SnapshotAll<N>,
+    segment: Segment,
+    offset: usize,
+    width: usize,
+) -> Result<Vec<u64>, AllocError>
+    requires table { IsTable segment.number segment.row_bytes }
+    requires fits { offset + width ≤ segment.row_bytes }
+    requires read { IsTrue (is_width width) }
+    ensures { IfOk result (λ numbers. map (λ number. Whole (pos number)) numbers.items
+        ≡ read_all N segment (λ bytes. Whole (pos (number_at bytes offset width))) all.now) }
+{
+    match width {
+        1 => read_all(alloc, all, segment, Unsigned::<1>(offset)),
+        2 => read_all(alloc, all, segment, Unsigned::<2>(offset)),
+        4 => read_all(alloc, all, segment, Unsigned::<4>(offset)),
+        _ => read_all(alloc, all, segment, Unsigned::<8>(offset)),
+    }
 }

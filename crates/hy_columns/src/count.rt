@@ -7,7 +7,7 @@ ghost use Rattle.hy_columns.specs.Snapshots.{lists_of_all};
 use crate::fields::segment_of;
 use crate::reading::{count_all, items_of};
 use hy_forks::SnapshotAll;
-use hy_schema::Table;
+use hy_rows::Table;
 
 /// How many rows a table has. Copies none, and takes no memory.
 pub fn count_of<const N: usize>(all: &SnapshotAll<N>, table: Table) -> usize

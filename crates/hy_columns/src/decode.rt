@@ -8,7 +8,7 @@ use hy_page::number;
 /// What reads the values of a column, each from the bytes of its row.
 pub(crate) trait Decode<'a>: Copy {
     ghost use Rattle.std.specs.Prelude.{◌≡◌, ℕ, List, length};
-    ghost use Rattle.hy_query.specs.declared.value.Value.{Value};
+    ghost use Rattle.hy_rows.specs.declared.value.Value.{Value};
 
     /// What a value is read as.
     type Output: Copy;
@@ -34,8 +34,8 @@ pub(crate) struct Unsigned<const WIDTH: usize>(pub(crate) usize);
 
 impl<'a, const WIDTH: usize> Decode<'a> for Unsigned<WIDTH> {
     ghost use Rattle.std.specs.Prelude.{pos, ◌+◌, ◌≤◌};
-    ghost use Rattle.hy_rows.specs.Rows.{number_at};
-    ghost use Rattle.hy_query.specs.declared.value.Value.TheVariants.{Whole};
+    ghost use Rattle.hy_rows.specs.Columns.{number_at};
+    ghost use Rattle.hy_rows.specs.declared.value.Value.TheVariants.{Whole};
 
     type Output = u64;
 
@@ -56,8 +56,8 @@ pub(crate) struct Signed(pub(crate) usize);
 
 impl<'a> Decode<'a> for Signed {
     ghost use Rattle.std.specs.Prelude.{◌+◌, ◌≤◌};
-    ghost use Rattle.hy_rows.specs.Rows.{signed_at};
-    ghost use Rattle.hy_query.specs.declared.value.Value.TheVariants.{Whole};
+    ghost use Rattle.hy_rows.specs.Columns.{signed_at};
+    ghost use Rattle.hy_rows.specs.declared.value.Value.TheVariants.{Whole};
 
     type Output = i64;
 
@@ -81,8 +81,8 @@ pub(crate) struct Padded {
 
 impl<'a> Decode<'a> for Padded {
     ghost use Rattle.std.specs.Prelude.{◌+◌, ◌≤◌};
-    ghost use Rattle.hy_rows.specs.Rows.{text_at};
-    ghost use Rattle.hy_query.specs.declared.value.Value.TheVariants.{Text};
+    ghost use Rattle.hy_rows.specs.Columns.{text_at};
+    ghost use Rattle.hy_rows.specs.declared.value.Value.TheVariants.{Text};
 
     type Output = &'a [u8];
 

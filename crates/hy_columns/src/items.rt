@@ -1,7 +1,7 @@
 //! The columns of ITEM, which no pages hold.
 
 ghost use Rattle.std.specs.Prelude.{◌<◌, ◌≡◌, IfOk, map};
-ghost use Rattle.hy_query.specs.Rows.{of_item};
+ghost use Rattle.hy_rows.specs.Rows.{item_values as values_of_item};
 ghost use Rattle.hy_columns.specs.Columns.{column_at, values_of};
 
 use crate::values::ColumnValues;
@@ -53,7 +53,7 @@ pub(crate) fn item_values<'a>(
     place: usize,
 ) -> Result<ColumnValues<'a>, AllocError>
     requires { place < 4 }
-    ensures { IfOk result (λ found. values_of found ≡ column_at place (map of_item items.now)) }
+    ensures { IfOk result (λ found. values_of found ≡ column_at place (map values_of_item items.now)) }
 {
     let values = match place {
         0 => ColumnValues::Numbers(ids(alloc, items)?),

@@ -11,6 +11,10 @@ use Rattle.hy_rows.specs.declared.customer.Customer.{Customer}
 use Rattle.hy_rows.specs.declared.item.Item.{Item}
 use Rattle.hy_rows.specs.declared.warehouse.Warehouse.{Warehouse}
 use Rattle.hy_rows.proofs.BetweenLaws.{bounds}
+use Rattle.hy_rows.proofs.RangeLaws.{allowed-at, amount-bounds, text-loaded}
+use Rattle.hy_rows.specs.Catalogue.{columns_of}
+use Rattle.hy_rows.specs.Rows.{item_values, warehouse_values, district_values, customer_values, history_values, order_values, new_order_values, order_line_values, stock_values}
+use Rattle.hy_rows.specs.declared.catalogue.Table.TheVariants as tables
 use Rattle.hy_schema.specs.declared.refusal.Refusal.{Refusal}
 use Rattle.hy_schema.specs.Loads.{IsCustomerAt, IsDistrictAt, IsHistoryAt, IsItemAt, IsLoad, IsNewOrderAt, IsOrderAt, IsOrderLineAt, IsStockAt, IsWarehouseAt}
 use Rattle.hy_commands.specs.declared.command.Command.{Command}
@@ -85,14 +89,16 @@ module _ (load : Lists) (is_load : IsLoad load) where
       all-by_place (λ row. (row.id ≤ 100_000) × (row.price ≤ 1_000_000)) load.items
       (λ place. IfSome_then (slice_get load.items place) {P = IsItemAt place}
       {Q = λ row. (row.id ≤ 100_000) × (row.price ≤ 1_000_000)} (is_load.items.each place)
-      (λ row right. ((bounds 1 100_000 row.id (right.0).id).1, (bounds 1 1_000_000 row.price (right.0).price).1)))
+      (λ row right.
+      let ranges = allowed-at (columns_of tables.Item) (item_values row) right.0 in ((bounds 1 100_000 row.id (ranges 0)).1, (bounds 1 1_000_000 row.price (ranges 3)).1)))
 
   warehouses-fit : All (λ row. IsWarehouseUpTo 0 row × (row.id ≤ 16)) all_rows.warehouses
   warehouses-fit =
       all-by_place (λ row. IsWarehouseUpTo 0 row × (row.id ≤ 16)) all_rows.warehouses
       (λ place. IfSome_then (slice_get all_rows.warehouses place) {P = IsWarehouseAt place}
       {Q = λ row. IsWarehouseUpTo 0 row × (row.id ≤ 16)} (is_load.warehouses.each place)
-      (λ row right. (record { name = (right.0).name.0; ytd = (right.0).ytd }, (bounds 1 16 row.id (right.0).id).1)))
+      (λ row right.
+      let ranges = allowed-at (columns_of tables.Warehouse) (warehouse_values row) right.0 in (record { name = (text-loaded 10 row.name (ranges 1)).0; ytd = amount-bounds _ _ row.ytd (ranges 3) }, (bounds 1 16 row.id (ranges 0)).1)))
 
   districts-fit : All (IsDistrictUpTo 0) all_rows.districts
   districts-fit =
@@ -101,10 +107,11 @@ module _ (load : Lists) (is_load : IsLoad load) where
       {Q =
       IsDistrictUpTo 0}
       (is_load.districts.each place)
-      (λ row right. record {
-        name = (right.0).name.0;
-        ytd = (right.0).ytd;
-        next_order = omega (arith, (bounds 1 1_000_000_000 row.next_order (right.0).next_order).1);
+      (λ row right.
+      let ranges = allowed-at (columns_of tables.District) (district_values row) right.0 in record {
+        name = (text-loaded 10 row.name (ranges 2)).0;
+        ytd = amount-bounds _ _ row.ytd (ranges 4);
+        next_order = omega (arith, (bounds 1 1_000_000_000 row.next_order (ranges 5)).1);
       }))
 
   customers-fit : All (IsCustomerUpTo 0 0) all_rows.customers
@@ -113,12 +120,13 @@ module _ (load : Lists) (is_load : IsLoad load) where
       (λ place. IfSome_then (slice_get all_rows.customers place) {P = IsCustomerAt (length all_rows.warehouses)
       all_rows.customers place}
       {Q = IsCustomerUpTo 0 0} (is_load.customers.each place)
-      (λ row right. record {
-        id = (bounds 1 3_000 row.id (right.0).id).1;
-        balance = (right.0).balance;
-        ytd_payment = (right.0).ytd_payment;
-        payment_count = omega (arith, (right.0).payment_count);
-        delivery_count = omega (arith, (right.0).delivery_count);
+      (λ row right.
+      let ranges = allowed-at (columns_of tables.Customer) (customer_values row) right.0 in record {
+        id = (bounds 1 3_000 row.id (ranges 0)).1;
+        balance = amount-bounds _ _ row.balance (ranges 8);
+        ytd_payment = amount-bounds _ _ row.ytd_payment (ranges 9);
+        payment_count = omega (arith, (bounds 0 1_000_000_000_000_000 row.payment_count (ranges 10)).1);
+        delivery_count = omega (arith, (bounds 0 1_000_000_000_000_000 row.delivery_count (ranges 11)).1);
       }))
 
   history-fit : All IsPaymentUpTo all_rows.history
@@ -128,11 +136,12 @@ module _ (load : Lists) (is_load : IsLoad load) where
       place} {Q =
       IsPaymentUpTo}
       (is_load.history.each place)
-      (λ row right. record {
-        customer = (bounds 1 3_000 row.customer (right.0).customer).1;
-        date = (bounds 1 1_000_000_000_000_000 row.date (right.0).date).1;
-        amount = (right.0).amount;
-        information = (right.0).information.0;
+      (λ row right.
+      let ranges = allowed-at (columns_of tables.History) (history_values row) right.0 in record {
+        customer = (bounds 1 3_000 row.customer (ranges 0)).1;
+        date = (bounds 1 1_000_000_000_000_000 row.date (ranges 5)).1;
+        amount = amount-bounds _ _ row.amount (ranges 6);
+        information = (text-loaded 24 row.information (ranges 7)).0;
       }))
 
   orders-fit : All (IsOrderUpTo 0) all_rows.orders
@@ -142,13 +151,14 @@ module _ (load : Lists) (is_load : IsLoad load) where
       all_rows.orders place} {Q =
       IsOrderUpTo 0}
       (is_load.orders.each place)
-      (λ row right. record {
-        id = omega (arith, (bounds 1 1_000_000_000 row.id (right.0).id).1);
-        customer = (bounds 1 3_000 row.customer (right.0).customer).1;
-        entry_date = (bounds 1 1_000_000_000_000_000 row.entry_date (right.0).entry_date).1;
-        carrier = (right.0).carrier;
-        line_count = (bounds 5 15 row.line_count (right.0).line_count).1;
-        all_local = (right.0).all_local;
+      (λ row right.
+      let ranges = allowed-at (columns_of tables.Order) (order_values row) right.0 in record {
+        id = omega (arith, (bounds 1 1_000_000_000 row.id (ranges 0)).1);
+        customer = (bounds 1 3_000 row.customer (ranges 3)).1;
+        entry_date = (bounds 1 1_000_000_000_000_000 row.entry_date (ranges 4)).1;
+        carrier = (bounds 0 10 row.carrier (ranges 5)).1;
+        line_count = (bounds 5 15 row.line_count (ranges 6)).1;
+        all_local = (bounds 0 1 row.all_local (ranges 7)).1;
       }))
 
   new_orders-fit : All (IsNewOrderUpTo 0) all_rows.new_orders
@@ -158,7 +168,8 @@ module _ (load : Lists) (is_load : IsLoad load) where
       all_rows.new_orders place} {Q =
       IsNewOrderUpTo 0}
       (is_load.new_orders.each place)
-      (λ row right. omega (arith, (bounds 1 1_000_000_000 row.order (right.0).order).1)))
+      (λ row right.
+      let ranges = allowed-at (columns_of tables.NewOrder) (new_order_values row) right.0 in omega (arith, (bounds 1 1_000_000_000 row.order (ranges 0)).1)))
 
   lines-fit : All (IsLineUpTo 0) all_rows.order_lines
   lines-fit =
@@ -167,14 +178,15 @@ module _ (load : Lists) (is_load : IsLoad load) where
       all_rows.orders
       all_rows.order_lines place}
       {Q = IsLineUpTo 0} (is_load.order_lines.each place)
-      (λ row right. record {
-        order = omega (arith, (bounds 1 1_000_000_000 row.order (right.0).order).1);
-        number = (bounds 1 15 row.number (right.0).number).1;
-        item = (bounds 1 100_000 row.item (right.0).item).1;
-        supply_warehouse = (bounds 1 16 row.supply_warehouse (right.0).supply_warehouse).1;
-        delivery_date = (right.0).delivery_date;
-        quantity = (bounds 1 10 row.quantity (right.0).quantity).1;
-        amount = (right.0).amount;
+      (λ row right.
+      let ranges = allowed-at (columns_of tables.OrderLine) (order_line_values row) right.0 in record {
+        order = omega (arith, (bounds 1 1_000_000_000 row.order (ranges 0)).1);
+        number = (bounds 1 15 row.number (ranges 3)).1;
+        item = (bounds 1 100_000 row.item (ranges 4)).1;
+        supply_warehouse = (bounds 1 16 row.supply_warehouse (ranges 5)).1;
+        delivery_date = (bounds 0 1_000_000_000_000_000 row.delivery_date (ranges 6)).1;
+        quantity = (bounds 1 10 row.quantity (ranges 7)).1;
+        amount = amount-bounds _ _ row.amount (ranges 8);
       }))
 
   stock-fit : All (IsStockUpTo 0) all_rows.stock
@@ -184,11 +196,12 @@ module _ (load : Lists) (is_load : IsLoad load) where
       load.items) place}
       {Q = IsStockUpTo 0}
       (is_load.stock.each place)
-      (λ row right. record {
-        quantity = (right.0).quantity;
-        ytd = omega (arith, (right.0).ytd);
-        order_count = omega (arith, (right.0).order_count);
-        remote_count = omega (arith, (right.0).remote_count);
+      (λ row right.
+      let ranges = allowed-at (columns_of tables.Stock) (stock_values row) right.0 in record {
+        quantity = (bounds 0 9_999 row.quantity (ranges 2)).1;
+        ytd = omega (arith, (bounds 0 1_000_000_000_000_000 row.ytd (ranges 3)).1);
+        order_count = omega (arith, (bounds 0 1_000_000_000_000_000 row.order_count (ranges 4)).1);
+        remote_count = omega (arith, (bounds 0 1_000_000_000_000_000 row.remote_count (ranges 5)).1);
       }))
 
   grown-load : (number : ℕ) → HasGrownBy 0 (of_warehouse number all_rows)

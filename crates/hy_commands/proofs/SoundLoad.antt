@@ -21,6 +21,10 @@ use Rattle.hy_rows.specs.declared.new_order.NewOrder.{NewOrder}
 use Rattle.hy_rows.specs.declared.order.Order.{Order}
 use Rattle.hy_rows.specs.declared.order_line.OrderLine.{OrderLine}
 use Rattle.hy_rows.proofs.BetweenLaws.{bounds}
+use Rattle.hy_rows.proofs.RangeLaws.{allowed-at}
+use Rattle.hy_rows.specs.Catalogue.{columns_of}
+use Rattle.hy_rows.specs.Rows.{district_values, order_values}
+use Rattle.hy_rows.specs.declared.catalogue.Table.TheVariants as tables
 use Rattle.hy_schema.specs.Conditions.{column_sum, conditions, first_broken, new_order_numbers, order_numbers, paid_amount}
 use Rattle.hy_schema.specs.Keys.{AreUnique}
 use Rattle.hy_schema.specs.Loads.{IsDistrictAt, IsItemAt, IsStockAt, IsLoad, IsNewOrderAt, IsOrderAt, IsOrderLineAt}
@@ -260,8 +264,10 @@ module _ (number : ℕ) (load : Lists) (is_load : IsLoad load) where
   orders-fit = all-by_place OrderFits all_rows.orders (λ place. IfSome_then (slice_get all_rows.orders place)
       {P = IsOrderAt all_rows.districts all_rows.customers all_rows.orders place} {Q = OrderFits} (is_load.orders.each
       place)
-      (λ row right. let ends = bounds 1 1_000_000_000 row.id (right.0).id in
-      ((right.0).district, omega (arith, ends.0), right.3)))
+      (λ row right.
+      let ranges = allowed-at (columns_of tables.Order) (order_values row) right.0 in
+      let ends = bounds 1 1_000_000_000 row.id (ranges 0) in
+      (ranges 1, omega (arith, ends.0), right.3)))
 
   new_orders-fit : All (HasOrder all_rows.orders) all_rows.new_orders
   new_orders-fit = all-by_place (HasOrder all_rows.orders) all_rows.new_orders (λ place. IfSome_then (slice_get
@@ -303,7 +309,9 @@ module _ (number : ℕ) (load : Lists) (is_load : IsLoad load) where
         all_rows.districts place)
         {P = IsDistrictAt (length all_rows.warehouses) place} {Q = λ row. 0 < row.next_order} (is_load.districts.each
         place)
-        (λ row right. let ends = bounds 1 1_000_000_000 row.next_order (right.0).next_order in omega (arith, ends.0))));
+        (λ row right.
+        let ranges = allowed-at (columns_of tables.District) (district_values row) right.0 in
+        omega (arith, (bounds 1 1_000_000_000 row.next_order (ranges 5)).0))));
     orders =
         All-passing_also (λ row. row.warehouse == number) OrderFits (IsOwnOrder number own.customers) all_rows.orders
         (λ row fits home. record {

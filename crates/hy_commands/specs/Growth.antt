@@ -10,8 +10,15 @@ use Rattle.hy_rows.specs.declared.order_line.OrderLine.{OrderLine}
 use Rattle.hy_rows.specs.declared.stock.Stock.{Stock}
 use Rattle.hy_rows.specs.declared.warehouse.Warehouse.{Warehouse}
 use Rattle.hy_rows.specs.Limits.{districts_per_warehouse, max_carriers, max_cents, max_count, max_customers, max_items, max_line_cents, max_lines, max_moment, max_order, max_payment, max_quantity, max_stock, max_warehouses}
-use Rattle.hy_rows.specs.Ranges.{IsLineAmount, IsLoadedMoney}
 use Rattle.hy_rows.specs.Tables.{Tables}
+
+-- an amount in cents, as a load may have it
+abbrev pub IsLoadedMoney : ℤ → Type 0
+IsLoadedMoney cents = (neg_ℤ (pos max_cents) ≤ℤ cents) × (cents ≤ℤ pos max_cents)
+
+-- the amount of an order line in cents
+abbrev pub IsLineAmount : ℤ → Type 0
+IsLineAmount cents = (pos 0 ≤ℤ cents) × (cents ≤ℤ pos max_line_cents)
 
 -- cents that were loaded, and have grown or fallen by so many at most
 abbrev pub IsMoneyUpTo : ℕ → ℤ → Type 0

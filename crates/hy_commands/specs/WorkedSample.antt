@@ -7,7 +7,7 @@ use Rattle.hy_rows.specs.declared.history.History.{History}
 use Rattle.hy_rows.specs.declared.item.Item.{Item}
 use Rattle.hy_rows.specs.declared.stock.Stock.{Stock}
 use Rattle.hy_rows.specs.Finding.{first_or, is_customer, is_district}
-use Rattle.hy_rows.specs.Rows.{customer_of, district_of, stock_of}
+use Rattle.hy_rows.specs.Rows.{customer_of, customer_with, district_of, stock_of}
 use Rattle.hy_rows.specs.Tables.{Tables, no_rows}
 use Rattle.hy_schema.specs.Conditions.{first_broken}
 use Rattle.hy_schema.specs.Keys.{district_numbers}
@@ -51,7 +51,7 @@ district number = record {
 }
 
 abbrev pub customer : ℕ → ℕ → List ℕ → List ℕ → Customer
-customer district number last first = record {
+customer district number last first = record (customer_with []) {
   id = number;
   district = district;
   warehouse = 1;
@@ -63,7 +63,6 @@ customer district number last first = record {
   balance = negsuc 999;
   ytd_payment = pos 1_000;
   payment_count = 1;
-  delivery_count = 0;
 }
 
 abbrev pub customers : ℕ → List Customer

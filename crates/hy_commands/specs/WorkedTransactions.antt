@@ -129,7 +129,7 @@ payment_of_100 = refl
 abbrev payments : List Command
 payments = payment (who.Number 1) 100 ∷ payment (who.Number 1) 500_000 ∷ []
 
--- C_BALANCE, C_YTD_PAYMENT and C_PAYMENT_CNT of the customer
+-- what the customer owes, has paid in all, and how often
 abbrev customer_columns : List Command → ℤ × ℤ × ℕ
 customer_columns done =
     let row : Customer = customer_after done in

@@ -5,7 +5,12 @@ use Rattle.std.proofs.lemmas.List.{length-map}
 use Rattle.std.specs.Prelude.{unwrap_or, option_map, bytes_eq}
 use Rattle.std.specs.Option.{option_eq}
 use Rattle.csv.specs.Records.{field_at}
+use Rattle.hy_rows.specs.Catalogue.{columns_of, names_of}
+use Rattle.hy_rows.specs.Columns.{defined}
+use Rattle.hy_rows.specs.declared.catalogue.Table.{Table}
+use Rattle.hy_rows.specs.declared.column.ColumnDefinition.{ColumnDefinition}
 use Rattle.hy_csv.specs.Texts.{has_fields}
+use Rattle.hy_csv.specs.inside.Names.{names_in}
 
 -- records of another length have other fields
 other_length : (fields names : List (List ℕ)) → length fields ≢ length names → has_fields fields names ≡ false
@@ -15,32 +20,40 @@ other_length (field ∷ fields) [] other = refl
 other_length (field ∷ fields) (name ∷ names) other =
     and_right _ _ (other_length fields names (λ same. other (ap suc same)))
 
-pub other_count : (fields : List (List ℕ)) (names : List (Bor (List ℕ))) → length fields ≢ length names
-    → false ≡ has_fields fields (map (λ name. name.now) names)
-other_count fields names other =
-    sym (other_length fields (map (λ name. name.now) names) (λ same. other (same ∙ length-map names _)))
+pub other_count : (fields : List (List ℕ)) (columns : List ColumnDefinition) → length fields ≢ length columns
+    → false ≡ has_fields fields (names_in columns)
+other_count fields columns other =
+    sym (other_length fields (names_in columns)
+    (λ same. other (same ∙ length-map (map defined columns) _ ∙ length-map columns defined)))
 
 -- whether the field at a place is the name there
 abbrev pub is_name : Option (Bor (List ℕ)) → Bor (List ℕ) → Bool
 is_name got name = option_eq (λ field other. bytes_eq field.now other.now) got (Some name)
 
 -- the fields from a place on: the one there, and then the others
-pub has_step : (fields : List (List ℕ)) (names : List (Bor (List ℕ))) (place : ℕ) (other : Bor (List ℕ))
-    → (got : Option (Bor (List ℕ))) → place < length names → length fields ≡ length names
+pub has_step : (fields : List (List ℕ)) (columns : List ColumnDefinition) (place : ℕ) (other : ColumnDefinition)
+    → (got : Option (Bor (List ℕ))) → place < length columns → length fields ≡ length columns
     → option_map (λ field. field.now) got ≡ field_at fields place
-    → has_fields (drop place fields) (drop place (map (λ name. name.now) names))
-    ≡ (is_name got (get_or names place other)
-    && has_fields (drop (place + 1) fields) (drop (place + 1) (map (λ name. name.now) names)))
+    → has_fields (drop place fields) (drop place (names_in columns))
+    ≡ (is_name got (get_or columns place other).name
+    && has_fields (drop (place + 1) fields) (drop (place + 1) (names_in columns)))
 unfolding field_at
 has_step fields [] place other got within even is = absurd (omega (arith, within))
-has_step [] (name ∷ names) place other got within even is = absurd (omega (arith, even))
-has_step (field ∷ fields) (name ∷ names) zero other None within even is = absurd (cc is)
-has_step (field ∷ fields) (name ∷ names) zero other (Some got) within even is =
+has_step [] (column ∷ columns) place other got within even is = absurd (omega (arith, even))
+has_step (field ∷ fields) (column ∷ columns) zero other None within even is = absurd (cc is)
+has_step (field ∷ fields) (column ∷ columns) zero other (Some got) within even is =
     let same : got.now ≡ field = ap (λ option. unwrap_or option field) is in
     rw same refl
-has_step (field ∷ fields) (name ∷ names) (suc place) other got within even is =
+has_step (field ∷ fields) (column ∷ columns) (suc place) other got within even is =
     let more : suc place + 1 ≡ suc (place + 1) = omega arith in
-    rw more (has_step fields names place other got (omega (arith, within)) (omega (arith, even)) is)
+    rw more (has_step fields columns place other got (omega (arith, within)) (omega (arith, even)) is)
+
+-- the test of a table's names
+pub of_table : (table : Table) (columns : List ColumnDefinition) (fields : List (List ℕ)) (result : Bool)
+    → map defined columns ≡ columns_of table → result ≡ has_fields fields (names_in columns)
+    → has_fields fields (names_of table) ≡ result
+of_table table columns fields result columns_are is =
+    sym (is ∙ ap (λ all. has_fields fields (map (λ column. column.name) all)) columns_are)
 
 pub and_true : (first second : Bool) → first ≡ true → (first && second) ≡ second
 and_true first second passes = rw passes refl

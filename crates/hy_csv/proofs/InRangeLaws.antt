@@ -1,139 +1,72 @@
 -- A row whose values a load may have is one that a record can say.
-use Rattle.std.proofs.Common.{◌≤◌, ◌∷◌, [], ℕ, ℤ, List, pos, negsuc, arith, subst, sym, inl, inr, w64, FitsSigned}
-use Rattle.std.proofs.lemmas.List.Elements.{All-cons, All-nil}
+use Rattle.std.proofs.Common.{◌≡◌, ◌&&◌, ◌≤ℤ◌, ◌*◌, ◌^◌, ℕ, ℤ, pos, negsuc, true, List, [], ◌∷◌, length, IsTrue, arith, inl, inr, subst, w64, FitsSigned}
+use Rattle.std.specs.List.{list_all}
+use Rattle.std.specs.Prelude.{bytes_eq, nat_le}
+use Rattle.std.proofs.lemmas.Bool.{and_parts, cases_Bool, false≢true, leb-true, ltb-true}
 use Rattle.std.proofs.lemmas.Int.{ints}
-use Rattle.hy_rows.proofs.BetweenLaws.{bounds}
-use Rattle.hy_rows.specs.Limits.{districts_per_warehouse, max_customers, max_images, max_items, max_lines, max_moment, max_order, max_price, max_quantity, max_warehouses, min_lines}
-use Rattle.hy_rows.specs.Ranges.{IsCredit, IsCustomerInRange, IsDistrictInRange, IsHistoryInRange, IsItemInRange, IsLineAmount, IsLoadedMoney, IsLoadedText, IsNewOrderInRange, IsOrderInRange, IsOrderLineInRange, IsStockInRange, IsWarehouseInRange}
-use Rattle.hy_rows.specs.declared.warehouse.Warehouse.{Warehouse}
-use Rattle.hy_rows.specs.declared.district.District.{District}
-use Rattle.hy_rows.specs.declared.customer.Customer.{Customer}
-use Rattle.hy_rows.specs.declared.history.History.{History}
-use Rattle.hy_rows.specs.declared.new_order.NewOrder.{NewOrder}
-use Rattle.hy_rows.specs.declared.order.Order.{Order}
-use Rattle.hy_rows.specs.declared.order_line.OrderLine.{OrderLine}
-use Rattle.hy_rows.specs.declared.stock.Stock.{Stock}
-use Rattle.hy_rows.specs.declared.item.Item.{Item}
-use Rattle.hy_csv.specs.Tables.{WarehouseFits, DistrictFits, CustomerFits, HistoryFits, NewOrderFits, OrderFits, OrderLineFits, StockFits, ItemFits}
+use Rattle.std.proofs.lemmas.Slice.Eq.{bytes_eq-Decides}
+use Rattle.hy_rows.specs.Catalogue.{columns_of}
+use Rattle.hy_rows.specs.Columns.{Column, Domain, OneOf, Signed, Text, Unsigned, allows, are_allowed, is_printable}
+use Rattle.hy_rows.specs.Ranges.{IsLoadedText}
+use Rattle.hy_rows.specs.declared.catalogue.Table.{Table}
+use Rattle.hy_rows.specs.declared.value.Value.{Value}
+use Rattle.hy_rows.specs.declared.value.Value.TheVariants as values
+use Rattle.hy_rows.proofs.RangeLaws.{amount-bounds, text-loaded}
+use Rattle.hy_csv.specs.Fields.{AllFitFields, FitsField, is_signed}
+use Rattle.hy_csv.proofs.TableLaws.{columns-bounded, is_bounded}
 
--- an amount of a load has 64 bits
-money_fits : (cents : ℤ) → IsLoadedMoney cents → FitsSigned w64 cents
-money_fits (pos cents) loaded = record { sfits = omega (arith, ints, loaded.1) }
-money_fits (negsuc cents) loaded = record { sfits = omega (arith, ints, loaded.0) }
+-- a number between two of 64 bits
+signed_fits : (low high number : ℤ) → is_signed low ≡ true → is_signed high ≡ true → low ≤ℤ number → number ≤ℤ high
+    → FitsSigned w64 number
+signed_fits low (pos high) (pos number) first last above below =
+    record { sfits = omega (arith, ints, below, ltb-true high (2 ^ 63) last) }
+signed_fits low (negsuc high) (pos number) first last above below = absurd (omega (arith, ints, below))
+signed_fits (pos low) high (negsuc number) first last above below = absurd (omega (arith, ints, above))
+signed_fits (negsuc low) high (negsuc number) first last above below =
+    record { sfits = omega (arith, ints, above, ltb-true low (2 ^ 63) first) }
 
-amount_fits : (cents : ℤ) → IsLineAmount cents → FitsSigned w64 cents
-amount_fits (pos cents) loaded = record { sfits = omega (arith, ints, loaded.1) }
-amount_fits (negsuc cents) loaded = record { sfits = omega (arith, ints, loaded.0) }
+-- a text that is one of these
+word_fits : (width : ℕ) (words : List (List ℕ)) (text : List ℕ)
+    → list_all (λ word. nat_le (length word) width && is_printable word) words ≡ true
+    → IsTrue (allows (OneOf width words) (values.Text text)) → IsLoadedText width text
+word_fits width [] text all one = absurd (false≢true one)
+word_fits width (word ∷ words) text all one =
+    let parts = and_parts (nat_le (length word) width && is_printable word) _ all in
+    elim (cases_Bool (bytes_eq word text)) [
+      | inl same ↦
+          subst (λ text. IsLoadedText width text) ((bytes_eq-Decides word text).0 same) (text-loaded width word parts.0)
+      | inr other ↦ word_fits width words text parts.1 (rw other at one)
+    ]
 
--- C_CREDIT is printable
-two_printable : (first second : ℕ) → (32 ≤ first) × (first ≤ 126) → (32 ≤ second) × (second ≤ 126)
-    → IsLoadedText 2 (first ∷ second ∷ [])
-two_printable first second one other = (
-  omega arith,
-  All-cons (λ byte. (32 ≤ byte) × (byte ≤ 126)) first (second ∷ []) one
-      (All-cons (λ byte. (32 ≤ byte) × (byte ≤ 126)) second [] other (All-nil (λ byte. (32 ≤ byte) × (byte ≤ 126)))),
-)
+-- a value that a load may have
+value-fits : (domain : Domain) (value : Value) → is_bounded domain ≡ true → IsTrue (allows domain value)
+    → FitsField domain value
+value-fits (Unsigned width low high) (values.Whole (pos number)) bounded allowed =
+    let within = leb-true number high (and_parts (nat_le low number) (nat_le number high) allowed).1 in
+    omega (arith, within, ltb-true high (2 ^ (8 * width)) bounded)
+value-fits (Unsigned width low high) (values.Whole (negsuc number)) bounded allowed = absurd (false≢true allowed)
+value-fits (Unsigned width low high) (values.Text text) bounded allowed = absurd (false≢true allowed)
+value-fits (Signed low high) (values.Whole number) bounded allowed =
+    let ends = and_parts (is_signed low) (is_signed high) bounded in
+    let within = amount-bounds low high number allowed in
+    signed_fits low high number ends.0 ends.1 within.0 within.1
+value-fits (Signed low high) (values.Text text) bounded allowed = absurd (false≢true allowed)
+value-fits (Text width) (values.Whole number) bounded allowed = absurd (false≢true allowed)
+value-fits (Text width) (values.Text text) bounded allowed = text-loaded width text allowed
+value-fits (OneOf width words) (values.Whole number) bounded allowed = absurd (false≢true allowed)
+value-fits (OneOf width words) (values.Text text) bounded allowed = word_fits width words text bounded allowed
 
-credit_fits : (text : List ℕ) → IsCredit text → IsLoadedText 2 text
-credit_fits text (inl good) =
-    subst (λ text. IsLoadedText 2 text) (sym good)
-    (two_printable 71 67 (omega arith, omega arith) (omega arith, omega arith))
-credit_fits text (inr bad) =
-    subst (λ text. IsLoadedText 2 text) (sym bad)
-    (two_printable 66 67 (omega arith, omega arith) (omega arith, omega arith))
+values-fit : (columns : List Column) (row : List Value) → list_all (λ column. is_bounded column.domain) columns ≡ true
+    → IsTrue (are_allowed columns row) → AllFitFields columns row
+values-fit [] [] bounded allowed = tt
+values-fit [] (value ∷ row) bounded allowed = absurd (false≢true allowed)
+values-fit (column ∷ columns) [] bounded allowed = absurd (false≢true allowed)
+values-fit (column ∷ columns) (value ∷ row) bounded allowed =
+    let ends = and_parts (is_bounded column.domain) (list_all (λ column. is_bounded column.domain) columns) bounded in
+    let tests = and_parts (allows column.domain value) (are_allowed columns row) allowed in
+    (value-fits column.domain value ends.0 tests.0, values-fit columns row ends.1 tests.1)
 
-pub warehouse-fits : (row : Warehouse) → IsWarehouseInRange row → WarehouseFits row
-warehouse-fits row range = (
-  omega (arith, (bounds 1 max_warehouses row.id range.id).1),
-  range.name,
-  omega (arith, range.tax),
-  money_fits row.ytd range.ytd,
-)
-
-pub district-fits : (row : District) → IsDistrictInRange row → DistrictFits row
-district-fits row range = (
-  omega (arith, (bounds 1 districts_per_warehouse row.id range.id).1),
-  omega (arith, (bounds 1 max_warehouses row.warehouse range.warehouse).1),
-  range.name,
-  omega (arith, range.tax),
-  money_fits row.ytd range.ytd,
-  omega (arith, (bounds 1 max_order row.next_order range.next_order).1),
-)
-
-pub customer-fits : (row : Customer) → IsCustomerInRange row → CustomerFits row
-customer-fits row range = (
-  omega (arith, (bounds 1 max_customers row.id range.id).1),
-  omega (arith, (bounds 1 districts_per_warehouse row.district range.district).1),
-  omega (arith, (bounds 1 max_warehouses row.warehouse range.warehouse).1),
-  range.first,
-  range.middle,
-  range.last,
-  credit_fits row.credit range.credit,
-  omega (arith, range.discount),
-  money_fits row.balance range.balance,
-  money_fits row.ytd_payment range.ytd_payment,
-  omega (arith, range.payment_count),
-  omega (arith, range.delivery_count),
-)
-
-pub history-fits : (row : History) → IsHistoryInRange row → HistoryFits row
-history-fits row range = (
-  omega (arith, (bounds 1 max_customers row.customer range.customer).1),
-  omega (arith, (bounds 1 districts_per_warehouse row.customer_district range.customer_district).1),
-  omega (arith, (bounds 1 max_warehouses row.customer_warehouse range.customer_warehouse).1),
-  omega (arith, (bounds 1 districts_per_warehouse row.district range.district).1),
-  omega (arith, (bounds 1 max_warehouses row.warehouse range.warehouse).1),
-  omega (arith, (bounds 1 max_moment row.date range.date).1),
-  money_fits row.amount range.amount,
-  range.information,
-)
-
-pub new_order-fits : (row : NewOrder) → IsNewOrderInRange row → NewOrderFits row
-new_order-fits row range = (
-  omega (arith, (bounds 1 max_order row.order range.order).1),
-  omega (arith, (bounds 1 districts_per_warehouse row.district range.district).1),
-  omega (arith, (bounds 1 max_warehouses row.warehouse range.warehouse).1),
-)
-
-pub order-fits : (row : Order) → IsOrderInRange row → OrderFits row
-order-fits row range = (
-  omega (arith, (bounds 1 max_order row.id range.id).1),
-  omega (arith, (bounds 1 districts_per_warehouse row.district range.district).1),
-  omega (arith, (bounds 1 max_warehouses row.warehouse range.warehouse).1),
-  omega (arith, (bounds 1 max_customers row.customer range.customer).1),
-  omega (arith, (bounds 1 max_moment row.entry_date range.entry_date).1),
-  omega (arith, range.carrier),
-  omega (arith, (bounds min_lines max_lines row.line_count range.line_count).1),
-  omega (arith, range.all_local),
-)
-
-pub order_line-fits : (row : OrderLine) → IsOrderLineInRange row → OrderLineFits row
-order_line-fits row range = (
-  omega (arith, (bounds 1 max_order row.order range.order).1),
-  omega (arith, (bounds 1 districts_per_warehouse row.district range.district).1),
-  omega (arith, (bounds 1 max_warehouses row.warehouse range.warehouse).1),
-  omega (arith, (bounds 1 max_lines row.number range.number).1),
-  omega (arith, (bounds 1 max_items row.item range.item).1),
-  omega (arith, (bounds 1 max_warehouses row.supply_warehouse range.supply_warehouse).1),
-  omega (arith, range.delivery_date),
-  omega (arith, (bounds 1 max_quantity row.quantity range.quantity).1),
-  amount_fits row.amount range.amount,
-)
-
-pub stock-fits : (row : Stock) → IsStockInRange row → StockFits row
-stock-fits row range = (
-  omega (arith, (bounds 1 max_items row.item range.item).1),
-  omega (arith, (bounds 1 max_warehouses row.warehouse range.warehouse).1),
-  omega (arith, range.quantity),
-  omega (arith, range.ytd),
-  omega (arith, range.order_count),
-  omega (arith, range.remote_count),
-)
-
-pub item-fits : (row : Item) → IsItemInRange row → ItemFits row
-item-fits row range = (
-  omega (arith, (bounds 1 max_items row.id range.id).1),
-  omega (arith, (bounds 1 max_images row.image range.image).1),
-  range.name,
-  omega (arith, (bounds 1 max_price row.price range.price).1),
-)
+-- the same of a row of a table
+pub row-fits : (table : Table) (row : List Value) → IsTrue (are_allowed (columns_of table) row)
+    → AllFitFields (columns_of table) row
+row-fits table row allowed = values-fit (columns_of table) row (columns-bounded table) allowed

@@ -1,6 +1,9 @@
 pub mod RecordLaws
 pub mod HeaderLaws
 pub mod ReadingLaws
+pub mod FieldLaws
+pub mod TableLaws
+pub mod RowLaws
+pub mod InRangeLaws
 pub mod WritingLaws
 pub mod RoundTripLaws
-pub mod InRangeLaws

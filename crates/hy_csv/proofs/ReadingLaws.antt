@@ -23,10 +23,10 @@ rows_end row_of rows records later same long none =
 pub rows_stop : {Row : Type 0} (row_of : List (List ℕ) → Option Row) (rows : List Row)
     → (records later : List (List (List ℕ))) → rows_of row_of records ≡ rows ++ rows_of row_of later
     → length records ≡ length rows + length later → (fields : List (List ℕ)) (more : List (List (List ℕ)))
-    → later ≡ fields ∷ more → row_of fields ≡ None
+    → later ≡ fields ∷ more → None ≡ row_of fields
     → record { rows = rows; unread = Some (length rows + 1) } ≡ rows_before (length records) (rows_of row_of records)
 rows_stop row_of rows records later same long fields more next none =
-    let whole : rows_of row_of records ≡ rows = rw (next, none) at same ∙ append-nil rows in
+    let whole : rows_of row_of records ≡ rows = rw (next, ← none) at same ∙ append-nil rows in
     let more_records : length records ≡ length rows + suc (length more) = rw next at long in
     let uneven = ne_eqb (length rows) (length records) (λ even. omega (arith, even, more_records)) in
     rw (whole, uneven) refl
@@ -35,11 +35,11 @@ rows_stop row_of rows records later same long fields more next none =
 pub rows_more : {Row : Type 0} (row_of : List (List ℕ) → Option Row) (rows : List Row)
     → (records later : List (List (List ℕ))) → rows_of row_of records ≡ rows ++ rows_of row_of later
     → length records ≡ length rows + length later → (fields : List (List ℕ)) (more : List (List (List ℕ))) (row : Row)
-    → later ≡ fields ∷ more → row_of fields ≡ Some row
+    → later ≡ fields ∷ more → Some row ≡ row_of fields
     → (rows_of row_of records ≡ (rows ++ row ∷ []) ++ rows_of row_of more)
     × (length records ≡ length (rows ++ row ∷ []) + length more)
 rows_more row_of rows records later same long fields more row next some = (
-  rw (next, some) at same ∙ sym (append_assoc rows (row ∷ []) (rows_of row_of more)),
+  rw (next, ← some) at same ∙ sym (append_assoc rows (row ∷ []) (rows_of row_of more)),
   omega (arith, rw next at long, length-append rows (row ∷ [])),
 )
 

@@ -3,6 +3,10 @@ use Rattle.std.specs.Prelude.{ℕ, ◌+◌, Bool, true, false, ◌&&◌, ◌==�
 use Rattle.std.specs.List.{concat}
 use Rattle.csv.specs.Reading.{default_config, records, strip_bom}
 use Rattle.csv.specs.Writing.{default_writer, row_text}
+use Rattle.hy_rows.specs.Catalogue.{names_of}
+use Rattle.hy_rows.specs.declared.catalogue.Table.{Table}
+use Rattle.hy_rows.specs.declared.value.Value.{Value}
+use Rattle.hy_csv.specs.Fields.{fields_of, row_of}
 
 -- the rows that stand before the first record that is none, and the number of that record: 0 for the header
 pub record Reading (Row : Type 0) : Type 0 where
@@ -48,3 +52,10 @@ reading names row_of text = reading_of names row_of (records default_config (str
 -- the text of rows: the names of the columns, and a record for each row
 abbrev pub text_of_rows : {Row : Type 0} → List (List ℕ) → (Row → List (List ℕ)) → List Row → List ℕ
 text_of_rows names fields_of rows = concat (map (row_text default_writer) (names ∷ map fields_of rows))
+
+-- the same of a table's rows: what a text says, and the text of rows
+abbrev pub table_reading : {Row : Type 0} → Table → (List Value → Row) → List ℕ → Reading Row
+table_reading table row_with text = reading (names_of table) (row_of table row_with) text
+
+abbrev pub table_text : {Row : Type 0} → Table → (Row → List Value) → List Row → List ℕ
+table_text table values_of rows = text_of_rows (names_of table) (λ row. fields_of (values_of row)) rows

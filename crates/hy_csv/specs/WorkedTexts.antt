@@ -1,14 +1,25 @@
--- Worked examples, which the checker computes: fields of each kind, and the text of two rows of NEW-ORDER.
-use Rattle.std.specs.Prelude.{◌≡◌, ℕ, negsuc, ◌++◌, List, [], ◌∷◌, Some, None, codes, refl}
+-- Worked examples, which the checker computes: fields of each kind, and rows of each table as texts and back.
+use Rattle.std.specs.Prelude.{◌≡◌, ℕ, pos, negsuc, ◌++◌, List, [], ◌∷◌, Some, None, codes, refl}
 use Rattle.std.specs.Fmt.{digits}
 use Rattle.csv.proofs.OnLiterals.{csv_on_literals}
 use Rattle.csv.specs.Records.{field_at}
-use Rattle.csv.specs.Writing.{fields_text, is_blank}
+use Rattle.csv.specs.Writing.{escaped, fields_text, is_blank}
+use Rattle.hy_rows.specs.Rows.{customer_values, customer_with, district_values, district_with, history_values, history_with, item_values, item_with, new_order_values, new_order_with, order_line_values, order_line_with, order_values, order_with, stock_values, stock_with, warehouse_values, warehouse_with}
+use Rattle.hy_rows.specs.Catalogue.{names_of}
+use Rattle.hy_rows.specs.declared.catalogue.Table.{Table}
+use Rattle.hy_rows.specs.declared.catalogue.Table.TheVariants as tables
+use Rattle.hy_rows.specs.declared.customer.Customer.{Customer}
+use Rattle.hy_rows.specs.declared.district.District.{District}
+use Rattle.hy_rows.specs.declared.history.History.{History}
+use Rattle.hy_rows.specs.declared.item.Item.{Item}
 use Rattle.hy_rows.specs.declared.new_order.NewOrder.{NewOrder}
+use Rattle.hy_rows.specs.declared.order.Order.{Order}
+use Rattle.hy_rows.specs.declared.order_line.OrderLine.{OrderLine}
+use Rattle.hy_rows.specs.declared.stock.Stock.{Stock}
+use Rattle.hy_rows.specs.declared.warehouse.Warehouse.{Warehouse}
 use Rattle.hy_decimal.specs.Numbers.{number_of}
 use Rattle.hy_csv.specs.Fields.{signed_of, text_of}
-use Rattle.hy_csv.specs.Tables.{new_order_fields, new_order_names, new_order_of}
-use Rattle.hy_csv.specs.Texts.{reading, text_of_rows}
+use Rattle.hy_csv.specs.Texts.{table_reading, table_text}
 
 -- numbers
 pub greatest_byte : number_of 8 (codes "255") ≡ Some 255
@@ -61,7 +72,7 @@ pub not_printable : text_of 2 (10 ∷ []) ≡ None
 unfolding text_of
 not_printable = refl
 
--- rows
+-- rows of NEW-ORDER
 abbrev pub two_orders : List NewOrder
 two_orders =
     record { order = 2101; district = 1; warehouse = 1 } ∷ record { order = 2102; district = 10; warehouse = 1 } ∷ []
@@ -69,24 +80,198 @@ two_orders =
 abbrev pub two_orders_text : List ℕ
 two_orders_text = codes "NO_O_ID,NO_D_ID,NO_W_ID\n2101,1,1\n2102,10,1\n"
 
-pub written : text_of_rows new_order_names new_order_fields two_orders ≡ two_orders_text
+pub written : table_text tables.NewOrder new_order_values two_orders ≡ two_orders_text
 unfolding digits fields_text is_blank
 written = refl
 
-pub read : reading new_order_names new_order_of two_orders_text ≡ record { rows = two_orders; unread = None }
+pub read : table_reading tables.NewOrder new_order_with two_orders_text ≡ record { rows = two_orders; unread = None }
 unfolding csv_on_literals number_of digits field_at
 read = refl
 
 -- the third record is no row, and what stands behind it isn't read
 pub stopped :
-    reading new_order_names new_order_of (two_orders_text ++ codes "2103,256,1\n2104,1,1\n")
+    table_reading tables.NewOrder new_order_with (two_orders_text ++ codes "2103,256,1\n2104,1,1\n")
     ≡ record { rows = two_orders; unread = Some 3 }
 unfolding csv_on_literals number_of digits field_at
 stopped = refl
 
 -- the names in another case
 pub other_names :
-    reading new_order_names new_order_of (codes "no_o_id,NO_D_ID,NO_W_ID\n2101,1,1\n")
+    table_reading tables.NewOrder new_order_with (codes "no_o_id,NO_D_ID,NO_W_ID\n2101,1,1\n")
     ≡ record { rows = []; unread = Some 0 }
 unfolding csv_on_literals
 other_names = refl
+
+-- WAREHOUSE
+abbrev pub one_warehouse : List Warehouse
+one_warehouse = record { id = 3; name = codes "W,3"; tax = 1500; ytd = negsuc 41 } ∷ []
+
+abbrev pub one_warehouse_text : List ℕ
+one_warehouse_text = codes "W_ID,W_NAME,W_TAX,W_YTD\n3,\"W,3\",1500,-42\n"
+
+pub warehouse_written : table_text tables.Warehouse warehouse_values one_warehouse ≡ one_warehouse_text
+unfolding digits fields_text is_blank escaped
+warehouse_written = refl
+
+pub warehouse_read : table_reading tables.Warehouse warehouse_with one_warehouse_text ≡ record { rows = one_warehouse; unread = None }
+unfolding csv_on_literals number_of signed_of text_of digits field_at
+warehouse_read = refl
+
+-- DISTRICT
+abbrev pub one_district : List District
+one_district = record { id = 7; warehouse = 3; name = codes "D7"; tax = 20; ytd = pos 90_000; next_order = 3001 } ∷ []
+
+abbrev pub one_district_text : List ℕ
+one_district_text = codes "D_ID,D_W_ID,D_NAME,D_TAX,D_YTD,D_NEXT_O_ID\n7,3,D7,20,90000,3001\n"
+
+pub district_written : table_text tables.District district_values one_district ≡ one_district_text
+unfolding digits fields_text is_blank
+district_written = refl
+
+pub district_read : table_reading tables.District district_with one_district_text ≡ record { rows = one_district; unread = None }
+unfolding csv_on_literals number_of signed_of text_of digits field_at
+district_read = refl
+
+-- CUSTOMER, behind the names of its columns
+abbrev joined : List (List ℕ) → List ℕ
+joined [] = codes "\n"
+joined (name ∷ []) = name ++ codes "\n"
+joined (name ∷ next ∷ names) = name ++ codes "," ++ joined (next ∷ names)
+
+abbrev header : Table → List ℕ
+header table = joined (names_of table)
+
+abbrev pub one_customer : List Customer
+one_customer = record {
+  id = 2999;
+  district = 7;
+  warehouse = 3;
+  first = codes "ANN";
+  middle = codes "OE";
+  last = codes "BARBARBAR";
+  credit = codes "BC";
+  discount = 5;
+  balance = negsuc 999;
+  ytd_payment = pos 1_001;
+  payment_count = 11;
+  delivery_count = 12;
+} ∷ []
+
+abbrev pub one_customer_text : List ℕ
+one_customer_text = header tables.Customer ++ codes "2999,7,3,ANN,OE,BARBARBAR,BC,5,-1000,1001,11,12\n"
+
+pub customer_written : table_text tables.Customer customer_values one_customer ≡ one_customer_text
+unfolding digits fields_text is_blank
+customer_written = refl
+
+pub customer_read : table_reading tables.Customer customer_with one_customer_text ≡ record { rows = one_customer; unread = None }
+unfolding csv_on_literals number_of signed_of text_of digits field_at
+customer_read = refl
+
+-- HISTORY
+abbrev pub one_payment : List History
+one_payment = record {
+  customer = 2999;
+  customer_district = 7;
+  customer_warehouse = 3;
+  district = 8;
+  warehouse = 4;
+  date = 60;
+  amount = pos 1_000;
+  information = codes "W4    D8";
+} ∷ []
+
+abbrev pub one_payment_text : List ℕ
+one_payment_text =
+    codes "H_C_ID,H_C_D_ID,H_C_W_ID,H_D_ID,H_W_ID,H_DATE,H_AMOUNT,H_DATA\n2999,7,3,8,4,60,1000,W4    D8\n"
+
+pub payment_written : table_text tables.History history_values one_payment ≡ one_payment_text
+unfolding digits fields_text is_blank
+payment_written = refl
+
+pub payment_read : table_reading tables.History history_with one_payment_text ≡ record { rows = one_payment; unread = None }
+unfolding csv_on_literals number_of signed_of text_of digits field_at
+payment_read = refl
+
+-- ORDER
+abbrev pub one_order : List Order
+one_order = record {
+  id = 2101;
+  district = 7;
+  warehouse = 3;
+  customer = 2999;
+  entry_date = 61;
+  carrier = 0;
+  line_count = 5;
+  all_local = 1;
+} ∷ []
+
+abbrev pub one_order_text : List ℕ
+one_order_text =
+    codes "O_ID,O_D_ID,O_W_ID,O_C_ID,O_ENTRY_D,O_CARRIER_ID,O_OL_CNT,O_ALL_LOCAL\n2101,7,3,2999,61,0,5,1\n"
+
+pub order_written : table_text tables.Order order_values one_order ≡ one_order_text
+unfolding digits fields_text is_blank
+order_written = refl
+
+pub order_read : table_reading tables.Order order_with one_order_text ≡ record { rows = one_order; unread = None }
+unfolding csv_on_literals number_of digits field_at
+order_read = refl
+
+-- ORDER-LINE
+abbrev pub one_line : List OrderLine
+one_line = record {
+  order = 2101;
+  district = 7;
+  warehouse = 3;
+  number = 4;
+  item = 99_999;
+  supply_warehouse = 5;
+  delivery_date = 0;
+  quantity = 6;
+  amount = pos 1_234;
+} ∷ []
+
+abbrev pub one_line_text : List ℕ
+one_line_text =
+    codes "OL_O_ID,OL_D_ID,OL_W_ID,OL_NUMBER,OL_I_ID,OL_SUPPLY_W_ID,OL_DELIVERY_D,OL_QUANTITY,OL_AMOUNT\n"
+    ++ codes "2101,7,3,4,99999,5,0,6,1234\n"
+
+pub line_written : table_text tables.OrderLine order_line_values one_line ≡ one_line_text
+unfolding digits fields_text is_blank
+line_written = refl
+
+pub line_read : table_reading tables.OrderLine order_line_with one_line_text ≡ record { rows = one_line; unread = None }
+unfolding csv_on_literals number_of signed_of digits field_at
+line_read = refl
+
+-- STOCK
+abbrev pub one_stock : List Stock
+one_stock =
+    record { item = 99_999; warehouse = 3; quantity = 31; ytd = 300; order_count = 29; remote_count = 28 } ∷ []
+
+abbrev pub one_stock_text : List ℕ
+one_stock_text = codes "S_I_ID,S_W_ID,S_QUANTITY,S_YTD,S_ORDER_CNT,S_REMOTE_CNT\n99999,3,31,300,29,28\n"
+
+pub stock_written : table_text tables.Stock stock_values one_stock ≡ one_stock_text
+unfolding digits fields_text is_blank
+stock_written = refl
+
+pub stock_read : table_reading tables.Stock stock_with one_stock_text ≡ record { rows = one_stock; unread = None }
+unfolding csv_on_literals number_of digits field_at
+stock_read = refl
+
+-- ITEM
+abbrev pub one_item : List Item
+one_item = record { id = 99_999; image = 321; name = codes "a \"b\""; price = 250 } ∷ []
+
+abbrev pub one_item_text : List ℕ
+one_item_text = codes "I_ID,I_IM_ID,I_NAME,I_PRICE\n99999,321,\"a \"\"b\"\"\",250\n"
+
+pub item_written : table_text tables.Item item_values one_item ≡ one_item_text
+unfolding digits fields_text is_blank escaped
+item_written = refl
+
+pub item_read : table_reading tables.Item item_with one_item_text ≡ record { rows = one_item; unread = None }
+unfolding csv_on_literals number_of text_of digits field_at
+item_read = refl

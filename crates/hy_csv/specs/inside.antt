@@ -1,5 +1,4 @@
-pub mod FieldLaws
 pub mod Names
 pub mod Readers
-pub mod RowLaws
+pub mod Signs
 pub mod Writers

@@ -1,13 +1,16 @@
 //! Reading the rows of a table from a text.
 
-ghost use Rattle.std.specs.Prelude.{◌≡◌, ℕ, List, [], ◌∷◌, map, length, IfOk, MatchBool};
+ghost use Rattle.std.specs.Prelude.{◌≡◌, ℕ, List, [], ◌∷◌, length, IfOk, MatchBool};
 ghost use Rattle.csv.specs.Reading.{default_config, records, strip_bom};
 ghost use Rattle.csv.specs.Records.{fields_of};
-ghost use Rattle.hy_csv.specs.Texts.{has_fields, reading, rows_before, rows_of};
+ghost use Rattle.hy_csv.specs.Fields.{row_of};
+ghost use Rattle.hy_csv.specs.Texts.{has_fields, rows_before, rows_of, table_reading};
+ghost use Rattle.hy_csv.specs.inside.Names.{names_in};
 ghost use Rattle.hy_csv.specs.inside.Readers.{StandsBefore};
 
-use crate::row::CsvRow;
+use crate::fields::row_of;
 use csv::{ByteRecord, Reader, ReaderBuilder};
+use hy_rows::{ColumnDefinition, Record};
 use std::alloc::{AllocError, Global};
 use std::marker::Model;
 
@@ -31,12 +34,12 @@ impl<R: Copy> Model for Reading<R> {
 }
 
 /// The rows that a text says, under the names of their columns.
-pub fn read<R: CsvRow>(alloc: Global, text: &[u8]) -> Result<Reading<R>, AllocError>
-    ensures { IfOk result (λ found. found ≡ reading R.names R.row_of text.now) }
+pub fn read<R: Record>(alloc: Global, text: &[u8]) -> Result<Reading<R>, AllocError>
+    ensures { IfOk result (λ found. found ≡ table_reading R.TABLE R.row_with text.now) }
 {
     let mut reader = reader_of(alloc, text);
     let mut fields = ByteRecord::new(alloc);
-    if next_record(&mut reader, &mut fields)? && has_fields(&fields, R::names()) {
+    if next_record(&mut reader, &mut fields)? && has_names(&fields, R::TABLE.columns()) {
         read_rows(alloc, &mut reader, &mut fields)
     } else {
         Ok(Reading {
@@ -57,20 +60,20 @@ fn reader_of<'t>(alloc: Global, text: &'t [u8]) -> Reader<&'t [u8]>
 }
 
 /// The rows of the records to come.
-fn read_rows<R: CsvRow>(
+fn read_rows<R: Record>(
     alloc: Global,
     reader: &mut Reader<&[u8]>,
     fields: &mut ByteRecord,
 ) -> Result<Reading<R>, AllocError>
     ensures { IfOk result (λ found. (records : List (List (List ℕ))) → StandsBefore records reader.old
-        → found ≡ rows_before (length records) (rows_of R.row_of records)) }
+        → found ≡ rows_before (length records) (rows_of (row_of R.TABLE R.row_with) records)) }
 {
     let mut rows = Vec::new(alloc);
     for _ in 0..u64::MAX {
         if !next_record(reader, fields)? {
             return Ok(Reading { rows, unread: None });
         }
-        match R::of_record(fields) {
+        match row_of(fields) {
             Some(row) => rows.push(row)?,
             None => {
                 let unread = Some(rows.len() as u64 + 1);
@@ -95,15 +98,15 @@ fn next_record(reader: &mut Reader<&[u8]>, fields: &mut ByteRecord) -> Result<bo
     }
 }
 
-/// Whether a record has these fields.
-fn has_fields(fields: &ByteRecord, names: &[&[u8]]) -> bool
-    ensures { result ≡ has_fields (fields_of fields.now) (map (λ name. name.now) names.now) }
+/// Whether the fields of a record are the names of these columns.
+fn has_names(fields: &ByteRecord, columns: &[ColumnDefinition]) -> bool
+    ensures { result ≡ has_fields (fields_of fields.now) (names_in columns.now) }
 {
-    if fields.len() != names.len() {
+    if fields.len() != columns.len() {
         return false;
     }
-    for (place, name) in names.iter().enumerate() {
-        if fields.get(place) != Some(*name) {
+    for (place, column) in columns.iter().enumerate() {
+        if fields.get(place) != Some(column.name) {
             return false;
         }
     }

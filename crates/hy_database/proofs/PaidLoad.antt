@@ -14,6 +14,10 @@ use Rattle.hy_rows.specs.declared.customer.Customer.{Customer}
 use Rattle.hy_rows.specs.declared.district.District.{District}
 use Rattle.hy_rows.specs.declared.history.History.{History}
 use Rattle.hy_rows.proofs.BetweenLaws.{IsBetween-bounds, bounds}
+use Rattle.hy_rows.proofs.RangeLaws.{allowed-at}
+use Rattle.hy_rows.specs.Catalogue.{columns_of}
+use Rattle.hy_rows.specs.Rows.{district_values}
+use Rattle.hy_rows.specs.declared.catalogue.Table.TheVariants as table
 use Rattle.hy_schema.specs.Conditions.{column_sum, conditions, delivered_amount, is_balanced, is_delivered_less_paid, paid_amount}
 use Rattle.hy_schema.specs.Loads.{IsDistrictAt, IsHistoryAt, IsLoad}
 use Rattle.hy_schema.specs.Related.{is_payment_by, payments_by}
@@ -89,7 +93,7 @@ module _ (lists : Lists) (is_load : IsLoad lists) where
       (λ place. IfSome_then (slice_get lists.tables.districts place) {P = IsDistrictAt count place}
       {Q = λ row. IsNumbered 1 count row.warehouse} (is_load.districts.each place)
       (λ row right. record {
-        low = (bounds 1 16 row.warehouse right.0.warehouse).0;
+        low = (bounds 1 16 row.warehouse (allowed-at (columns_of table.District) (district_values row) right.0 1)).0;
         high = omega (arith, right.3);
       }))
 

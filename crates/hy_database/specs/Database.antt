@@ -1,7 +1,7 @@
 -- What commands do to a database of several warehouses, and a database after a serial list of commits.
 use Rattle.std.specs.Prelude.{ℕ, ◌+◌, ◌==◌, if◌then◌else◌, Option, None, Some, List, [], ◌∷◌, fold}
 use Rattle.std.specs.List.{flat_map}
-use Rattle.hy_rows.specs.Tables.{Lists, Tables}
+use Rattle.hy_rows.specs.Tables.{Lists, Tables, all_of}
 use Rattle.hy_schema.specs.declared.refusal.Refusal.{Refusal}
 use Rattle.hy_commands.specs.declared.command.Command.{Command}
 use Rattle.hy_commands.specs.declared.command.Commit.{Commit}
@@ -74,13 +74,4 @@ database_after lists commits = fold committed_in (database_of lists) commits
 
 -- all rows of a database, those of its warehouses in rising order
 abbrev pub all_rows : Database → Tables
-all_rows database = record {
-  warehouses = flat_map (λ tables. tables.warehouses) database.warehouses;
-  districts = flat_map (λ tables. tables.districts) database.warehouses;
-  customers = flat_map (λ tables. tables.customers) database.warehouses;
-  history = flat_map (λ tables. tables.history) database.warehouses;
-  new_orders = flat_map (λ tables. tables.new_orders) database.warehouses;
-  orders = flat_map (λ tables. tables.orders) database.warehouses;
-  order_lines = flat_map (λ tables. tables.order_lines) database.warehouses;
-  stock = flat_map (λ tables. tables.stock) database.warehouses;
-}
+all_rows database = all_of database.warehouses

@@ -10,6 +10,10 @@ use Rattle.hy_rows.specs.Tables.{Lists, Tables}
 use Rattle.hy_rows.specs.declared.customer.Customer.{Customer}
 use Rattle.hy_rows.specs.declared.item.Item.{Item}
 use Rattle.hy_rows.proofs.BetweenLaws.{bounds}
+use Rattle.hy_rows.proofs.RangeLaws.{allowed-at}
+use Rattle.hy_rows.specs.Catalogue.{columns_of}
+use Rattle.hy_rows.specs.Rows.{customer_values, item_values}
+use Rattle.hy_rows.specs.declared.catalogue.Table.TheVariants as table
 use Rattle.hy_schema.specs.Loads.{IsItemAt, IsLoad}
 use Rattle.hy_schema.specs.Related.{is_item}
 use Rattle.hy_loads.proofs.ThereLaws.{few_warehouses}
@@ -94,7 +98,7 @@ module _ (lists : Lists) (is_load : IsLoad lists) where
   item-fits : (line : PurchaseLine) → has_item lists.items line ≡ true → fits 4 line.item ≡ true
   item-fits line there =
       let all = each-all IsItemAt (λ (row : Item). row.id ≤ 100_000) lists.items
-      (λ place row is. (bounds 1 100_000 row.id is.0.id).1) is_load.items.each in
+      (λ place row is. (bounds 1 100_000 row.id (allowed-at (columns_of table.Item) (item_values row) is.0 0)).1) is_load.items.each in
       let found = any-there (λ (row : Item). row.id ≤ 100_000) (is_item line.item) lists.items there all in
       let same : found.0.id ≡ line.item = eqb-true found.0.id line.item found.1 in
       fits-below 4 line.item 100_000 (omega (arith, same, found.2)) (lit< tt)
@@ -106,7 +110,7 @@ module _ (lists : Lists) (is_load : IsLoad lists) where
       (sym (rows-load lists home (there-load lists home there)))
       (All-filter (λ (row : Customer). row.warehouse == home) (λ (row : Customer). row.id ≤ 3_000) lists.tables.customers
       (each-all _ (λ (row : Customer). row.id ≤ 3_000) lists.tables.customers
-      (λ place row is. (bounds 1 3_000 row.id is.0.id).1) is_load.customers.each))
+      (λ place row is. (bounds 1 3_000 row.id (allowed-at (columns_of table.Customer) (customer_values row) is.0 0)).1) is_load.customers.each))
 
   customer-fits : (home warehouse district number : ℕ) → is_there (database_of lists) home ≡ true
       → is_some (find (is_customer warehouse district number) (rows_of home (database_of lists)).customers) ≡ true

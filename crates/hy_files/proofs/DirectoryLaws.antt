@@ -7,12 +7,13 @@ use Rattle.std.proofs.lemmas.Bool.{false≢true}
 use Rattle.std.proofs.lemmas.List.{append_cancel_left}
 use Rattle.std.proofs.lemmas.Option.{slice_get-get_or}
 use Rattle.std.proofs.lemmas.Slice.Eq.{bytes_eq-Decides}
-use Rattle.hy_schema.specs.declared.refusal.Table.{Table}
-use Rattle.hy_schema.specs.declared.refusal.Table.TheVariants as table
+use Rattle.hy_rows.specs.declared.catalogue.Table.{Table}
+use Rattle.hy_rows.specs.declared.catalogue.Table.TheVariants as table
 use Rattle.hy_schema.specs.declared.refusal.Refusal.TheVariants as refusals
 use Rattle.hy_files.specs.declared.directory.FileFault.{FileFault}
 use Rattle.hy_files.specs.declared.directory.FileFault.TheVariants as fault
-use Rattle.hy_files.specs.Directory.{AreFiles, KeepsOtherFiles, file_name, path_of, tables}
+use Rattle.hy_rows.specs.Catalogue.{file_of, tables_by_file}
+use Rattle.hy_files.specs.Directory.{AreFiles, KeepsOtherFiles, path_of}
 use Rattle.hy_files.specs.Faults.{IsUnread, IsUnwritten}
 use Rattle.hy_files.specs.Files.{FilesByPath, HasFile, IsMissing, KeepsOthers}
 
@@ -35,42 +36,42 @@ AreFiles-push known directory (first ∷ before) (one ∷ texts) table text file
 
 -- the fault of the file at a number is one of the files, where those before it were read
 pub IsUnread-at : (known : Option FilesByPath) (directory : List ℕ) (texts : List (List ℕ)) (number : ℕ)
-    (why : FileFault) → number < 9 → AreFiles known directory (take number tables) texts
+    (why : FileFault) → number < 9 → AreFiles known directory (take number tables_by_file) texts
     → (why ≡ fault.Refused refusals.NoMemory)
-    ⊎ ((why ≡ fault.CannotRead (get_or tables number table.Warehouse))
-    × IsMissing known (path_of directory (get_or tables number table.Warehouse)))
+    ⊎ ((why ≡ fault.CannotRead (get_or tables_by_file number table.Warehouse))
+    × IsMissing known (path_of directory (get_or tables_by_file number table.Warehouse)))
     → IsUnread known directory why
 IsUnread-at known directory texts number why within files (inl memory) =
     subst (IsUnread known directory) (sym memory) refl
 IsUnread-at known directory texts number why within files (inr missing) =
     subst (IsUnread known directory) (sym missing.0)
-    (number, slice_get-get_or tables number table.Warehouse within, missing.1, texts, files)
+    (number, slice_get-get_or tables_by_file number table.Warehouse within, missing.1, texts, files)
 
 -- and where those before it were written, and those behind it weren't
 pub IsUnwritten-at : (old new : Option FilesByPath) (directory : List ℕ) (texts : List (List ℕ)) (number : ℕ)
-    (why : FileFault) → number < 9 → AreFiles new directory (take number tables) (take number texts)
-    → KeepsOtherFiles old new directory (take (number + 1) tables)
-    → (why ≡ fault.Refused refusals.NoMemory) ⊎ (why ≡ fault.CannotWrite (get_or tables number table.Warehouse))
+    (why : FileFault) → number < 9 → AreFiles new directory (take number tables_by_file) (take number texts)
+    → KeepsOtherFiles old new directory (take (number + 1) tables_by_file)
+    → (why ≡ fault.Refused refusals.NoMemory) ⊎ (why ≡ fault.CannotWrite (get_or tables_by_file number table.Warehouse))
     → IsUnwritten old new directory texts why
 IsUnwritten-at old new directory texts number why within files others (inl memory) =
     subst (IsUnwritten old new directory texts) (sym memory)
-    (refl, inr (get_or tables number table.Warehouse, (number, slice_get-get_or tables number table.Warehouse within, files, others)))
+    (refl, inr (get_or tables_by_file number table.Warehouse, (number, slice_get-get_or tables_by_file number table.Warehouse within, files, others)))
 IsUnwritten-at old new directory texts number why within files others (inr unwritten) =
     subst (IsUnwritten old new directory texts) (sym unwritten)
-    (number, slice_get-get_or tables number table.Warehouse within, files, others)
+    (number, slice_get-get_or tables_by_file number table.Warehouse within, files, others)
 
 -- files with different names have different paths
-path-differs : (directory : List ℕ) (table other : Table) → not (bytes_eq (file_name other) (file_name table)) ≡ true
+path-differs : (directory : List ℕ) (table other : Table) → not (bytes_eq (file_of other) (file_of table)) ≡ true
     → path_of directory other ≢ path_of directory table
 path-differs directory table other differs same =
-    let name : file_name other ≡ file_name table =
-    append_cancel_left (directory ++ codes "/") (file_name other) (file_name table) same in
-    false≢true (ap not (sym ((bytes_eq-Decides (file_name other) (file_name table)).1 name)) ∙ differs)
+    let name : file_of other ≡ file_of table =
+    append_cancel_left (directory ++ codes "/") (file_of other) (file_of table) same in
+    false≢true (ap not (sym ((bytes_eq-Decides (file_of other) (file_of table)).1 name)) ∙ differs)
 
 -- no table before a number has the file of the table at that number
 pub names-differ : (number : ℕ) → number < 9
-    → list_all (λ other. not (bytes_eq (file_name other) (file_name (get_or tables number table.Warehouse))))
-    (take number tables) ≡ true
+    → list_all (λ other. not (bytes_eq (file_of other) (file_of (get_or tables_by_file number table.Warehouse))))
+    (take number tables_by_file) ≡ true
 names-differ zero within = refl
 names-differ (suc zero) within = refl
 names-differ (suc (suc zero)) within = refl
@@ -98,7 +99,7 @@ and_parts false b both = absurd (false≢true both)
 -- files stay where one with another name is written
 pub AreFiles-kept : (old new : Option FilesByPath) (directory : List ℕ) (table : Table) (before : List Table)
     (texts : List (List ℕ))
-    → list_all (λ other. not (bytes_eq (file_name other) (file_name table))) before ≡ true
+    → list_all (λ other. not (bytes_eq (file_of other) (file_of table))) before ≡ true
     → KeepsOthers old new (path_of directory table)
     → AreFiles old directory before texts → AreFiles new directory before texts
 AreFiles-kept old new directory table [] [] differ keeps files = tt

@@ -3,7 +3,7 @@ use Rattle.std.specs.Prelude.{◌≡◌, ◌⊎◌, ⊤, ℕ, List, Option}
 use Rattle.hy_schema.specs.declared.refusal.Refusal.TheVariants as refusals
 use Rattle.hy_files.specs.declared.directory.FileFault.{FileFault}
 use Rattle.hy_files.specs.declared.directory.FileFault.TheVariants as fault
-use Rattle.hy_schema.specs.declared.refusal.Table.{Table}
+use Rattle.hy_rows.specs.declared.catalogue.Table.{Table}
 use Rattle.hy_files.specs.Directory.{EndsAt, IsFirstMissing, path_of}
 use Rattle.hy_files.specs.Files.{AddsPath, FilesByPath, KnownPaths}
 

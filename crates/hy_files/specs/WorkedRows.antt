@@ -1,7 +1,7 @@
 -- Worked examples of files, which the checker computes.
 use Rattle.std.specs.Prelude.{◌≡◌, if◌then◌else◌, List, [], ◌∷◌, ℕ, Option, None, Some, codes, refl}
 use Rattle.std.specs.Str.{bytes_eq}
-use Rattle.hy_schema.specs.declared.refusal.Table.TheVariants as table
+use Rattle.hy_rows.specs.declared.catalogue.Table.TheVariants as table
 use Rattle.hy_files.specs.Directory.{AreFiles, IsFirstMissing, path_of}
 
 -- the file of ORDER in a directory, and that of ITEM in the folder that the program runs in

@@ -1,29 +1,18 @@
 //! The nine files of a directory.
 
-ghost use Rattle.std.specs.Prelude.{◌≡◌, ◌≢◌, ◌⊎◌, ℕ, List, IfErr, IfOk, OnOk, map, string_bytes};
+ghost use Rattle.std.specs.Prelude.{◌≡◌, ◌≢◌, ◌⊎◌, ℕ, List, IfErr, IfOk, OnOk, Some, map, string_bytes};
+ghost use Rattle.hy_rows.specs.Catalogue.{file_of, tables_by_file};
 ghost use Rattle.hy_schema.specs.declared.refusal.Refusal.TheVariants as refusals;
 ghost use Rattle.hy_files.specs.declared.directory.FileFault.TheVariants as fault;
-ghost use Rattle.hy_files.specs.Directory.{AreFiles, KeepsOtherFiles, file_name, path_of, tables};
+ghost use Rattle.hy_files.specs.Directory.{AreFiles, KeepsOtherFiles, path_of};
 ghost use Rattle.hy_files.specs.Faults.{IsOfSystem, IsUnread, IsUnwritten};
 ghost use Rattle.hy_files.specs.Files.{HasFile, IsMissing, IsOutOfMemory, KeepsOthers};
 
 use crate::file_system::FileSystem;
-use hy_schema::{Refusal, Table};
+use hy_rows::{TABLES, TABLES_BY_FILE, Table};
+use hy_schema::Refusal;
 use std::alloc::{AllocError, Global};
-use std::io;
-
-/// The tables in the order of their files.
-const TABLES: [Table; 9] = [
-    Table::Warehouse,
-    Table::District,
-    Table::Customer,
-    Table::Item,
-    Table::Stock,
-    Table::Order,
-    Table::NewOrder,
-    Table::OrderLine,
-    Table::History,
-];
+use std::{fmt, io};
 
 /// Why the files of a directory weren't read or written.
 #[derive(Clone, Copy, Debug, PartialEq, Eq)]
@@ -52,20 +41,19 @@ impl From<Refusal> for FileFault {
     }
 }
 
-/// The name of the file of a table.
-pub fn file_name(table: Table) -> &'static str
-    ensures { result.now ≡ file_name table }
-{
-    match table {
-        Table::Warehouse => "warehouse.csv",
-        Table::District => "district.csv",
-        Table::Customer => "customer.csv",
-        Table::Item => "item.csv",
-        Table::Stock => "stock.csv",
-        Table::Order => "orders.csv",
-        Table::NewOrder => "neworder.csv",
-        Table::OrderLine => "orderline.csv",
-        Table::History => "history.csv",
+/// The name of the file of a table, which is printed as its text.
+#[derive(Clone, Copy, Debug)]
+pub struct FileName {
+    /// The table.
+    pub table: Table,
+}
+
+impl fmt::Display for FileName {
+    ghost output = { λ name. Some (file_of name.table) };
+
+    fn fmt<W: fmt::Write>(&self, f: &mut fmt::Formatter<W>) -> fmt::Result {
+        let word = self.table.word();
+        write!(f, "{word}.csv")
     }
 }
 
@@ -73,9 +61,8 @@ pub fn file_name(table: Table) -> &'static str
 fn path_of(alloc: Global, directory: &str, table: Table) -> Result<String, AllocError>
     ensures { IfOk result (λ path. string_bytes path ≡ path_of directory.now table) }
 {
-    let mut path = directory.to_string(alloc)?;
-    path.push_str("/")?;
-    path.push_str(file_name(table))?;
+    let name = FileName { table };
+    let path = format!(in alloc; "{directory}/{name}")?;
     Ok(path)
 }
 
@@ -146,11 +133,11 @@ pub fn read_files<F: FileSystem>(
     ensures folders { F.folders system.new ≡ F.folders system.old }
     ensures unwritten { F.unwritten system.new ≡ F.unwritten system.old }
     ensures texts { IfOk result
-        (λ texts. AreFiles (F.files system.old) directory.now tables (map (λ text. text.items) texts.items)) }
+        (λ texts. AreFiles (F.files system.old) directory.now tables_by_file (map (λ text. text.items) texts.items)) }
     ensures fault { IfErr result (IsUnread (F.files system.old) directory.now) }
 {
-    let mut texts = Vec::with_capacity(alloc, TABLES.len())?;
-    for table in &TABLES {
+    let mut texts = Vec::with_capacity(alloc, TABLES_BY_FILE.len())?;
+    for table in &TABLES_BY_FILE {
         let bytes = read_file(alloc, system, directory, *table)?;
         texts.push_reserved(bytes);
     }
@@ -162,17 +149,17 @@ pub fn write_files<F: FileSystem>(
     alloc: Global,
     system: &mut F,
     directory: &str,
-    texts: &[Vec<u8>; 9],
+    texts: &[Vec<u8>; TABLES],
 ) -> Result<(), FileFault>
     ensures files { OnOk result
-        (AreFiles (F.files system.new) directory.now tables (map (λ text. text.items) texts.now)) }
-    ensures others { KeepsOtherFiles (F.files system.old) (F.files system.new) directory.now tables }
+        (AreFiles (F.files system.new) directory.now tables_by_file (map (λ text. text.items) texts.now)) }
+    ensures others { KeepsOtherFiles (F.files system.old) (F.files system.new) directory.now tables_by_file }
     ensures fault { IfErr result
         (IsUnwritten (F.files system.old) (F.files system.new) directory.now (map (λ text. text.items) texts.now)) }
     ensures folders { F.folders system.new ≡ F.folders system.old }
     ensures unwritten { IfErr result (IsOfSystem (F.unwritten system.old) (F.unwritten system.new) directory.now) }
 {
-    for (number, table) in TABLES.iter().enumerate() {
+    for (number, table) in TABLES_BY_FILE.iter().enumerate() {
         write_file(alloc, system, directory, *table, &texts[number])?;
     }
     Ok(())

@@ -9,7 +9,7 @@ mod memory;
 mod memory_log;
 mod noted;
 
-pub use directory::{FileFault, file_name};
+pub use directory::{FileFault, FileName};
 pub use file_system::{FileSystem, SystemFiles};
 pub use load::{read_load, write_load};
 pub use log_file::LogFile;

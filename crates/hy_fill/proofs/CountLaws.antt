@@ -4,7 +4,7 @@ use Rattle.std.proofs.lemmas.List.{length-append, length-map, take-append-drop}
 use Rattle.std.proofs.lemmas.List.Elements.{filter-append}
 use Rattle.hy_rows.specs.declared.new_order.NewOrder.{NewOrder}
 use Rattle.hy_rows.specs.declared.order.Order.{Order}
-use Rattle.hy_rows.specs.Spelling.{new_order_segment}
+use Rattle.hy_store.specs.Stored.{new_order_segment}
 use Rattle.hy_rows.specs.Tables.{Tables}
 use Rattle.hy_space.specs.Space.{SpaceState}
 use Rattle.hy_index.specs.declared.key.Entry.{Entry}

@@ -2,7 +2,7 @@
 
 ghost use Rattle.std.specs.Prelude.{◌≡◌, ◌==◌, ◌+◌, ◌∷◌, [], OnOk, IsErrOf, filter, length};
 ghost use Rattle.hy_frames.specs.FrameTable.{free_of};
-ghost use Rattle.hy_rows.specs.Spelling.{new_order_segment};
+ghost use Rattle.hy_store.specs.Stored.{new_order_segment};
 ghost use Rattle.hy_undo.specs.PrivatePages.{IsUndoLog};
 ghost use Rattle.hy_store.specs.Pages.{KeepsPagesUpTo};
 ghost use Rattle.hy_store.specs.Writes.{ChangesStore, IsWritableStore, stored_in};

@@ -5,11 +5,11 @@ ghost use Rattle.std.specs.Prelude.{◌≡◌, length};
 use hy_commands::{
     Command, Name, Payment, PlacedOrder, Purchase, PurchaseLine, PurchaseLines, StatusLines, Who,
 };
-use hy_csv::{CsvRow, Reading, read, write};
+use hy_csv::{Reading, read, write};
 use hy_layout::Layout;
 use hy_rows::{
-    Customer, District, Item, Lists, NewOrder, Order, OrderLine, Row, SlotBytes, Stock, Tables,
-    Text, Warehouse,
+    Customer, District, History, Item, Lists, NewOrder, Order, OrderLine, Record, Row, SlotBytes,
+    Stock, Tables, Text, Warehouse, is_printable,
 };
 use hy_schema::Refusal;
 use hy_tables::generate;
@@ -82,24 +82,31 @@ fn rows_are_bytes(rt: HostRuntime) {
 }
 
 #[test]
-fn customers_are_bytes(rt: HostRuntime) {
-    let row = Customer {
-        id: 2,
-        district: 3,
-        warehouse: 1,
-        first: text(&rt, b"F0002"),
-        middle: text(&rt, b"OE"),
-        last: text(&rt, b"BARBAROUGHT"),
-        credit: text(&rt, b"GC"),
-        discount: 200,
-        balance: -1_000,
-        ytd_payment: 1_000,
-        payment_count: 1,
-        delivery_count: 0,
+fn payments_are_bytes(rt: HostRuntime) {
+    let row = History {
+        customer: 2,
+        customer_district: 3,
+        customer_warehouse: 1,
+        district: 4,
+        warehouse: 5,
+        date: 1_700_000_001,
+        amount: -1_000,
+        information: text(&rt, b"W1    D4"),
     };
-    let bytes = b"\x02\0\x03\x01F0002\0\0\0\0\0\0\0\0\0\0\0OEBARBAROUGHT\0\0\0\0\0GC\xc8\0\
-        \x18\xfc\xff\xff\xff\xff\xff\xff\xe8\x03\0\0\0\0\0\0\x01\0\0\0\0\0\0\0\0\0\0\0\0\0\0\0";
+    let bytes = b"\x02\0\x03\x01\x04\x05\x01\xf1\x53\x65\0\0\0\0\x18\xfc\xff\xff\xff\xff\xff\xff\
+        W1    D4\0\0\0\0\0\0\0\0\0\0\0\0\0\0\0\0";
     assert!(rt; is_bytes(row, bytes));
+}
+
+#[test]
+fn customers_are_read_from_their_bytes(rt: HostRuntime) {
+    let load = generate(rt.alloc(), 1, 3, 1).expect(&rt, "a load");
+    for customer in load.list::<Customer>() {
+        let mut slot = SlotBytes::new();
+        customer.encode(&mut slot);
+        assert!(rt; slot.len() == Customer::BYTES);
+        assert!(rt; Customer::decode(slot.as_slice()) == *customer);
+    }
 }
 
 /// A line of an order.
@@ -138,14 +145,8 @@ fn lists_of_all_tables(rt: HostRuntime) {
     let lists = Lists {
         items: Vec::from_slice(alloc, &[item]).expect(&rt, "a row"),
         tables: Tables {
-            warehouses: Vec::new(alloc),
-            districts: Vec::new(alloc),
-            customers: Vec::new(alloc),
-            history: Vec::new(alloc),
-            new_orders: Vec::new(alloc),
-            orders: Vec::new(alloc),
             order_lines: Vec::from_slice(alloc, &[line()]).expect(&rt, "a row"),
-            stock: Vec::new(alloc),
+            ..Tables::new(alloc)
         },
     };
     assert!(rt; lists.list::<Item>().len() == 1);
@@ -162,39 +163,66 @@ fn texts(rt: HostRuntime) {
     assert!(rt; name == Text::of_field(b"AB\0C"));
     assert!(rt; Text::<4>::new(b"ABCDE").is_none());
     assert!(rt; Text::<4>::new(b"A\0B").is_none());
-    assert!(rt; !text::<4>(&rt, b"A\n").is_printable());
+    assert!(rt; is_printable(b"A~"));
+    assert!(rt; !is_printable(b"A\n"));
 }
 
-/// Whether rows are written as this text, and read from it.
-fn is_text<R: CsvRow + PartialEq>(
+/// These lines behind the names of a table's columns.
+fn under_names<R: Record>(rt: &(impl Abort + AllocGlobal), lines: &[u8]) -> Vec<u8> {
+    let mut text = Vec::new(rt.alloc());
+    for (place, column) in R::TABLE.columns().iter().enumerate() {
+        if 0 < place {
+            text.push(b',').expect(rt, "a comma");
+        }
+        text.extend_from_slice(column.name).expect(rt, "a name");
+    }
+    text.push(b'\n').expect(rt, "an end");
+    text.extend_from_slice(lines).expect(rt, "the lines");
+    text
+}
+
+/// Whether rows are written as these lines behind the names of their columns, and read from them.
+fn is_text<R: Record + PartialEq>(
     rt: &(impl Abort + AllocGlobal),
     rows: &[R],
-    expected: &[u8],
+    lines: &[u8],
 ) -> bool {
+    let expected = under_names::<R>(rt, lines);
     let text = write(rt.alloc(), rows).expect(rt, "a text");
-    let found: Reading<R> = read(rt.alloc(), expected).expect(rt, "rows");
-    text.as_slice() == expected && found.rows.as_slice() == rows && found.unread == None
+    let found: Reading<R> = read(rt.alloc(), &expected).expect(rt, "rows");
+    text == expected && found.rows.as_slice() == rows && found.unread == None
+}
+
+/// A payment of so many cents.
+fn payment(rt: &impl Abort, amount: i64) -> History {
+    History {
+        customer: 3_000,
+        customer_district: 2,
+        customer_warehouse: 1,
+        district: 10,
+        warehouse: 16,
+        date: u64::MAX,
+        amount,
+        information: text(rt, b"W16   D10"),
+    }
 }
 
 #[test]
-fn writes_customers(rt: HostRuntime) {
-    let customer = Customer {
-        id: 3_000,
-        district: 2,
-        warehouse: 1,
-        first: text(&rt, b"F3000"),
-        middle: text(&rt, b"OE"),
-        last: text(&rt, b"BARBARBAR"),
-        credit: text(&rt, b"BC"),
-        discount: 5_000,
-        balance: i64::MIN,
-        ytd_payment: i64::MAX,
-        payment_count: u64::MAX,
-        delivery_count: 0,
+fn writes_payments_and_stock(rt: HostRuntime) {
+    let expected = b"3000,2,1,10,16,18446744073709551615,-9223372036854775808,W16   D10\n";
+    assert!(rt; is_text(&rt, &[payment(&rt, i64::MIN)], expected));
+    let expected = b"3000,2,1,10,16,18446744073709551615,9223372036854775807,W16   D10\n";
+    assert!(rt; is_text(&rt, &[payment(&rt, i64::MAX)], expected));
+    let stock = Stock {
+        item: 100_000,
+        warehouse: 16,
+        quantity: u16::MAX,
+        ytd: u64::MAX,
+        order_count: 0,
+        remote_count: 7,
     };
-    let expected =
-        b"C_ID,C_D_ID,C_W_ID,C_FIRST,C_MIDDLE,C_LAST,C_CREDIT,C_DISCOUNT,C_BALANCE,C_YTD_PAYMENT,C_PAYMENT_CNT,C_DELIVERY_CNT\n3000,2,1,F3000,OE,BARBARBAR,BC,5000,-9223372036854775808,9223372036854775807,18446744073709551615,0\n";
-    assert!(rt; is_text(&rt, &[customer], expected));
+    let expected = b"100000,16,65535,18446744073709551615,0,7\n";
+    assert!(rt; is_text(&rt, &[stock], expected));
 }
 
 #[test]
@@ -204,7 +232,7 @@ fn writes_orders(rt: HostRuntime) {
         district: 9,
         warehouse: 5,
     };
-    let expected = b"NO_O_ID,NO_D_ID,NO_W_ID\n2101,9,5\n";
+    let expected = b"2101,9,5\n";
     assert!(rt; is_text(&rt, &[new_order], expected));
     let order = Order {
         id: u32::MAX,
@@ -216,8 +244,7 @@ fn writes_orders(rt: HostRuntime) {
         line_count: 15,
         all_local: 1,
     };
-    let expected =
-        b"O_ID,O_D_ID,O_W_ID,O_C_ID,O_ENTRY_D,O_CARRIER_ID,O_OL_CNT,O_ALL_LOCAL\n4294967295,1,2,3,4,0,15,1\n";
+    let expected = b"4294967295,1,2,3,4,0,15,1\n";
     assert!(rt; is_text(&rt, &[order], expected));
 }
 
@@ -234,8 +261,7 @@ fn writes_order_lines(rt: HostRuntime) {
         quantity: 10,
         amount: 1_234,
     };
-    let expected =
-        b"OL_O_ID,OL_D_ID,OL_W_ID,OL_NUMBER,OL_I_ID,OL_SUPPLY_W_ID,OL_DELIVERY_D,OL_QUANTITY,OL_AMOUNT\n1,2,3,4,100000,6,0,10,1234\n1,2,3,4,100000,6,0,10,1234\n";
+    let expected = b"1,2,3,4,100000,6,0,10,1234\n1,2,3,4,100000,6,0,10,1234\n";
     assert!(rt; is_text(&rt, &[line, line], expected));
 }
 
@@ -252,26 +278,25 @@ fn item(rt: &impl Abort, name: &[u8]) -> Item {
 #[test]
 fn writes_texts_in_quotes(rt: HostRuntime) {
     let items = [item(&rt, b""), item(&rt, b" a, b"), item(&rt, b"a \"b\" ~")];
-    let expected =
-        b"I_ID,I_IM_ID,I_NAME,I_PRICE\n1,2,,100\n1,2,\" a, b\",100\n1,2,\"a \"\"b\"\" ~\",100\n";
+    let expected = b"1,2,,100\n1,2,\" a, b\",100\n1,2,\"a \"\"b\"\" ~\",100\n";
     assert!(rt; is_text(&rt, &items, expected));
 }
 
-/// Whether a text says one row, and nothing that is none.
-fn is_one_row<R: CsvRow>(rt: &(impl Abort + AllocGlobal), text: &[u8]) -> bool {
-    let found: Reading<R> = read(rt.alloc(), text).expect(rt, "rows");
+/// Whether lines say one row, and nothing that is none.
+fn is_one_row<R: Record>(rt: &(impl Abort + AllocGlobal), lines: &[u8]) -> bool {
+    let text = under_names::<R>(rt, lines);
+    let found: Reading<R> = read(rt.alloc(), &text).expect(rt, "rows");
     found.rows.len() == 1 && found.unread == None
 }
 
 #[test]
 fn reads_the_ends_of_the_column_types(rt: HostRuntime) {
-    let text =
-        b"S_I_ID,S_W_ID,S_QUANTITY,S_YTD,S_ORDER_CNT,S_REMOTE_CNT\n4294967295,255,65535,0,0,18446744073709551615\n";
-    assert!(rt; is_one_row::<Stock>(&rt, text));
-    let text = b"W_ID,W_NAME,W_TAX,W_YTD\n1,a,2,-9223372036854775808\n";
-    assert!(rt; is_one_row::<Warehouse>(&rt, text));
-    let text = b"W_ID,W_NAME,W_TAX,W_YTD\n1,a,2,9223372036854775807\n";
-    assert!(rt; is_one_row::<Warehouse>(&rt, text));
+    let lines = b"4294967295,255,65535,0,0,18446744073709551615\n";
+    assert!(rt; is_one_row::<Stock>(&rt, lines));
+    let lines = b"1,a,2,-9223372036854775808\n";
+    assert!(rt; is_one_row::<Warehouse>(&rt, lines));
+    let lines = b"1,a,2,9223372036854775807\n";
+    assert!(rt; is_one_row::<Warehouse>(&rt, lines));
 }
 
 /// A line of an order that a warehouse supplies.

@@ -11,7 +11,12 @@ use Rattle.std.proofs.lemmas.List.Sorted.{IsNonDecreasingBy-from_all_adjacent}
 use Rattle.std.proofs.lemmas.Nat.{div-mul-add, mod-mul-add}
 use Rattle.std.proofs.lemmas.Option.{slice_get-get_or}
 use Rattle.hy_rows.proofs.BetweenLaws.{bounds}
-use Rattle.hy_rows.specs.Ranges.{IsBetween, IsCustomerInRange}
+use Rattle.hy_rows.proofs.RangeLaws.{allowed-at}
+use Rattle.hy_rows.specs.Catalogue.{columns_of}
+use Rattle.hy_rows.specs.Rows.{customer_values}
+use Rattle.hy_rows.specs.declared.catalogue.Table.TheVariants as table
+use Rattle.hy_rows.specs.Ranges.{IsBetween}
+use Rattle.hy_rows.specs.Rows.{IsCustomerInRange}
 use Rattle.hy_rows.specs.Tables.{Lists}
 use Rattle.hy_rows.specs.declared.customer.Customer.{Customer}
 use Rattle.hy_rows.specs.declared.item.Item.{Item}
@@ -140,7 +145,7 @@ module _ (number : ℕ) where
       → OwnFollows before (filter own rows)
   during before [] home follows = tt
   during before (row ∷ rows) home follows =
-      let last = (bounds 1 10 row.district (follows.0).district).1 in
+      let last = (bounds 1 10 row.district (allowed-at (columns_of table.Customer) (customer_values row) follows.0 1)).1 in
       elim follows.1 [
         | inl same ↦
             let at : row.warehouse ≡ number = same.0 ∙ home in

@@ -3,6 +3,7 @@
 use Rattle.std.specs.Prelude.{◌≡◌, ℕ, ◌+◌, ◌*◌, true, false, pos, negsuc, List, [], ◌∷◌, None, codes, map, slice_index, refl}
 use Rattle.std.specs.List.{flat_map}
 use Rattle.std.proofs.Common.{ap, arith}
+use Rattle.hy_rows.specs.Rows.{customer_with}
 use Rattle.hy_rows.specs.Tables.{Tables, no_rows}
 use Rattle.hy_rows.specs.declared.customer.Customer.{Customer}
 use Rattle.hy_rows.specs.declared.stock.Stock.{Stock}
@@ -12,7 +13,7 @@ use Rattle.hy_layout.specs.Layout.{IsMeantAt, IsStockAt, KeepsPlaces, LayoutStat
 use Rattle.hy_layout.specs.inside.Places.{is_called, is_lesser, named}
 
 abbrev customer : ℕ → ℕ → ℕ → List ℕ → List ℕ → Customer
-customer warehouse district number last first = record {
+customer warehouse district number last first = record (customer_with []) {
   id = number;
   district = district;
   warehouse = warehouse;
@@ -24,7 +25,6 @@ customer warehouse district number last first = record {
   balance = negsuc 999;
   ytd_payment = pos 1_000;
   payment_count = 1;
-  delivery_count = 0;
 }
 
 abbrev stock : ℕ → ℕ → Stock

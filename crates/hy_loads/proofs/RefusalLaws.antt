@@ -2,17 +2,17 @@
 use Rattle.std.proofs.Common.{◌≡◌, inl, inr, ℕ, List, IfErr, IsErrAnd, Result, Ok, Err, refl, sym, subst}
 use Rattle.hy_rows.specs.Tables.{Lists}
 use Rattle.hy_schema.specs.declared.files.FileEnd.{FileEnd}
-use Rattle.hy_schema.specs.declared.files.FileEnds.{FileEnds}
+use Rattle.hy_rows.specs.declared.tables.PerTable.{PerTable}
 use Rattle.hy_schema.specs.declared.refusal.LoadFault.{LoadFault}
 use Rattle.hy_schema.specs.declared.refusal.LoadFault.TheVariants as faults
 use Rattle.hy_schema.specs.declared.refusal.Refusal.{Refusal}
-use Rattle.hy_schema.specs.declared.refusal.Table.{Table}
+use Rattle.hy_rows.specs.declared.catalogue.Table.{Table}
 use Rattle.hy_schema.specs.Loads.{HasFault, HasFaultInOrders, IsFaultOf}
 use Rattle.hy_loads.specs.Checks.{AreBaseRight, IsRefusalOf, IsRowRefusal}
 
 -- the refusal of a list is one of all lists
 pub IsRefusalOf-row : {Row : Type 0} (table : Table) (reached : FileEnd) (right : ℕ → Row → Type 0) (Whole : Type 0)
-    (rows : List Row) (ends : FileEnds) (lists : Lists) (refusal : Refusal)
+    (rows : List Row) (ends : PerTable FileEnd) (lists : Lists) (refusal : Refusal)
     → ((fault : LoadFault) → ((number : ℕ) × (fault ≡ faults.Row table number) × IsFaultOf reached right Whole rows number)
     → HasFault ends lists fault)
     → IsRowRefusal table reached right Whole rows refusal → IsRefusalOf ends lists refusal
@@ -33,7 +33,7 @@ IfErr-weaker (Ok found) P Q weaker holds = tt
 IfErr-weaker (Err error) P Q weaker holds = weaker error holds
 
 -- a fault behind the lists that never gain a row, where those are right
-pub HasFault-orders : (ends : FileEnds) (lists : Lists) (fault : LoadFault) → AreBaseRight ends lists
+pub HasFault-orders : (ends : PerTable FileEnd) (lists : Lists) (fault : LoadFault) → AreBaseRight ends lists
     → HasFaultInOrders ends lists fault → HasFault ends lists fault
 HasFault-orders ends lists fault base later =
     inr (

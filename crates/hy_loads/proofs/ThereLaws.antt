@@ -10,7 +10,11 @@ use Rattle.hy_rows.specs.declared.item.Item.{Item}
 use Rattle.hy_rows.specs.Finding.{is_district}
 use Rattle.hy_rows.specs.Limits.{max_warehouses}
 use Rattle.hy_rows.specs.Ranges.{IsBetween}
+use Rattle.hy_rows.specs.Catalogue.{columns_of}
+use Rattle.hy_rows.specs.Rows.{district_values, warehouse_values}
+use Rattle.hy_rows.specs.declared.catalogue.Table.TheVariants as tables
 use Rattle.hy_rows.proofs.BetweenLaws.{IsBetween-bounds, bounds}
+use Rattle.hy_rows.proofs.RangeLaws.{allowed-at}
 use Rattle.hy_schema.specs.Loads.{HasAllDistricts, HasSome, IsDistrictAt, IsItemAt, IsRight, IsWarehouseAt}
 use Rattle.hy_loads.specs.There.{HasDistricts, HasItems, HasWarehouses}
 
@@ -79,9 +83,10 @@ HasDistricts-right warehouses rows right warehouse number = (there, back)
         let key = and_parts (at.1.warehouse == warehouse) (at.1.id == number) at.4 in
         let home : at.1.warehouse ≡ warehouse = eqb-true at.1.warehouse warehouse key.0 in
         let own : at.1.id ≡ number = eqb-true at.1.id number key.1 in
-        let low = (bounds 1 16 at.1.warehouse here.0.warehouse).0 in (
+        let ranges = allowed-at (columns_of tables.District) (district_values at.1) here.0 in
+        let low = (bounds 1 16 at.1.warehouse (ranges 1)).0 in (
           IsBetween-bounds 1 warehouses warehouse (omega (arith, home, low)) (omega (arith, home, here.3)),
-          subst (IsBetween 1 10) own here.0.id,
+          subst (IsBetween 1 10) own (ranges 0),
         )
 
     back : IsBetween 1 warehouses warehouse × IsBetween 1 10 number → IsTrue (list_any test rows)
@@ -107,6 +112,6 @@ few_warehouses rows right =
     elim (slice_get_cases rows last).1 [
       | inl (row, within, found, read) ↦
           let here : IsWarehouseAt last row = rw found at (right.each last) in
-          omega (arith, (bounds 1 16 row.id here.0.id).1, here.1)
+          omega (arith, (bounds 1 16 row.id (allowed-at (columns_of tables.Warehouse) (warehouse_values row) here.0 0)).1, here.1)
       | inr (past, none) ↦ omega arith
     ]

@@ -4,10 +4,10 @@ use Rattle.hy_schema.specs.declared.files.FileEnd.{FileEnd}
 use Rattle.hy_schema.specs.declared.refusal.LoadFault.TheVariants as faults
 use Rattle.hy_schema.specs.declared.refusal.Refusal.{Refusal}
 use Rattle.hy_schema.specs.declared.refusal.Refusal.TheVariants as refusals
-use Rattle.hy_schema.specs.declared.refusal.Table.{Table}
+use Rattle.hy_rows.specs.declared.catalogue.Table.{Table}
 use Rattle.hy_rows.specs.Tables.{Lists}
 use Rattle.hy_schema.specs.declared.files.FileEnd.TheVariants as end
-use Rattle.hy_schema.specs.declared.files.FileEnds.{FileEnds}
+use Rattle.hy_rows.specs.declared.tables.PerTable.{PerTable}
 use Rattle.hy_schema.specs.declared.refusal.LoadFault.{LoadFault}
 use Rattle.hy_schema.specs.Loads.{AreCustomers, AreDistricts, AreItems, AreNewOrders, AreOrderLines, AreOrders, AreStock, AreWarehouses, HasFault, IsFaultOf}
 
@@ -18,13 +18,13 @@ IsRowRefusal table end right Whole rows refusal =
     ⊎ ((number : ℕ) × (refusal ≡ refusals.BadLoad (faults.Row table number)) × IsFaultOf end right Whole rows number)
 
 -- the first fault of lists whose files were read so far, or a refused growth
-abbrev pub IsRefusalOf : FileEnds → Lists → Refusal → Type 0
+abbrev pub IsRefusalOf : PerTable FileEnd → Lists → Refusal → Type 0
 IsRefusalOf ends lists refusal =
     (refusal ≡ refusals.NoMemory)
     ⊎ ((fault : LoadFault) × (refusal ≡ refusals.BadLoad fault) × HasFault ends lists fault)
 
 -- the files of the lists that never gain a row were read to their ends, and the lists are right
-pub record AreBaseRight (ends : FileEnds) (lists : Lists) : Type 0 where
+pub record AreBaseRight (ends : PerTable FileEnd) (lists : Lists) : Type 0 where
   pub warehouses_end : ends.warehouses ≡ end.Whole
   pub warehouses : AreWarehouses lists.tables
   pub districts_end : ends.districts ≡ end.Whole
@@ -37,7 +37,7 @@ pub record AreBaseRight (ends : FileEnds) (lists : Lists) : Type 0 where
   pub stock : AreStock lists
 
 -- and those of the orders
-pub record AreOrdersRight (ends : FileEnds) (lists : Lists) : Type 0 where
+pub record AreOrdersRight (ends : PerTable FileEnd) (lists : Lists) : Type 0 where
   pub orders_end : ends.orders ≡ end.Whole
   pub orders : AreOrders lists.tables
   pub new_orders_end : ends.new_orders ≡ end.Whole

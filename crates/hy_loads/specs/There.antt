@@ -11,7 +11,8 @@ use Rattle.hy_rows.specs.declared.new_order.NewOrder.{NewOrder}
 use Rattle.hy_rows.specs.declared.order_line.OrderLine.{OrderLine}
 use Rattle.hy_rows.specs.Finding.{is_customer, is_district, is_warehouse}
 use Rattle.hy_rows.specs.Limits.{districts_per_warehouse}
-use Rattle.hy_rows.specs.Ranges.{IsBetween, IsOrderInRange, IsOrderLineInRange}
+use Rattle.hy_rows.specs.Ranges.{IsBetween}
+use Rattle.hy_rows.specs.Rows.{IsOrderInRange, IsOrderLineInRange}
 use Rattle.hy_schema.specs.Related.{is_item, is_line, is_new_order, is_order}
 use Rattle.hy_conditions.specs.declared.keys.CustomerId.{CustomerId}
 use Rattle.hy_conditions.specs.declared.keys.OrderId.{OrderId}

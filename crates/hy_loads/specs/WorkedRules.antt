@@ -15,9 +15,12 @@ use Rattle.hy_rows.specs.declared.new_order.NewOrder.{NewOrder}
 use Rattle.hy_rows.specs.declared.order_line.OrderLine.{OrderLine}
 use Rattle.hy_rows.specs.declared.history.History.{History}
 use Rattle.hy_rows.specs.Limits.{districts_per_warehouse, max_customers, max_items, max_lines, max_order, max_warehouses}
-use Rattle.hy_rows.specs.Ranges.{IsBetween, IsCustomerInRange, IsDistrictInRange, IsHistoryInRange, IsItemInRange, IsNewOrderInRange, IsOrderInRange, IsOrderLineInRange, IsStockInRange, IsWarehouseInRange}
+use Rattle.hy_rows.specs.Ranges.{IsBetween}
+use Rattle.hy_rows.specs.Catalogue.{columns_of}
+use Rattle.hy_rows.specs.declared.catalogue.Table.TheVariants as tables
+use Rattle.hy_rows.specs.Rows.{customer_values, district_values, item_values, new_order_values, order_line_values, order_values, stock_values, warehouse_values, IsCustomerInRange, IsDistrictInRange, IsHistoryInRange, IsItemInRange, IsNewOrderInRange, IsOrderInRange, IsOrderLineInRange, IsStockInRange, IsWarehouseInRange}
 use Rattle.hy_rows.specs.WorkedRows.{fresh_customer, fresh_district, fresh_warehouse}
-use Rattle.hy_rows.proofs.PrintableLaws.{printable}
+use Rattle.hy_rows.proofs.RangeLaws.{each-allowed}
 use Rattle.hy_schema.specs.Loads.{HasAllCustomers, HasAllDistricts, HasAllStock, HasSome, IsCustomerAt, IsDistrictAt, IsFirstFault, IsHistoryAt, IsItemAt, IsNewOrderAt, IsOrderAt, IsOrderLineAt, IsStockAt, IsWarehouseAt}
 
 -- a row of each table by the columns of its key, and a payment of customer 1 in district 1
@@ -81,96 +84,43 @@ payment = record {
 
 -- each is in range where its key is
 warehouse-in_range : (number : ℕ) → IsBetween 1 max_warehouses number → IsWarehouseInRange (warehouse number)
-warehouse-in_range number between = record {
-  id = between;
-  name = (lit≤ tt, printable (codes "W1") refl);
-  tax = lit≤ tt;
-  ytd = omega (arith, ints);
-}
+warehouse-in_range number between =
+    each-allowed (columns_of tables.Warehouse) (warehouse_values (warehouse number)) (between, (refl, (refl, (refl, tt))))
 
 district-in_range : (warehouse number : ℕ) → IsBetween 1 max_warehouses warehouse
     → IsBetween 1 districts_per_warehouse number → IsDistrictInRange (district warehouse number)
-district-in_range warehouse number warehouse_between between = record {
-  id = between;
-  warehouse = warehouse_between;
-  name = (lit≤ tt, printable (codes "D1") refl);
-  tax = lit≤ tt;
-  ytd = omega (arith, ints);
-  next_order = refl;
-}
+district-in_range warehouse number warehouse_between between =
+    each-allowed (columns_of tables.District) (district_values (district warehouse number)) (between, (warehouse_between, (refl, (refl, (refl, (refl, tt))))))
 
 customer-in_range : (warehouse district number : ℕ) → IsBetween 1 max_warehouses warehouse
     → IsBetween 1 districts_per_warehouse district → IsBetween 1 max_customers number
     → IsCustomerInRange (customer warehouse district number)
-customer-in_range warehouse district number warehouse_between district_between between = record {
-  id = between;
-  district = district_between;
-  warehouse = warehouse_between;
-  first = (lit≤ tt, printable (codes "F0001") refl);
-  middle = (lit≤ tt, printable (codes "OE") refl);
-  last = (lit≤ tt, printable (codes "BARBARBAR") refl);
-  credit = inl refl;
-  discount = lit≤ tt;
-  balance = omega (arith, ints);
-  ytd_payment = omega (arith, ints);
-  payment_count = lit≤ tt;
-  delivery_count = lit≤ tt;
-}
+customer-in_range warehouse district number warehouse_between district_between between =
+    each-allowed (columns_of tables.Customer) (customer_values (customer warehouse district number)) (between, (district_between, (warehouse_between, (refl, (refl, (refl, (refl, (refl, (refl, (refl, (refl, (refl, tt))))))))))))
 
 item-in_range : (number : ℕ) → IsBetween 1 max_items number → IsItemInRange (item number)
 item-in_range number between =
-    record { id = between; image = refl; name = (lit≤ tt, printable (codes "ITEM") refl); price = refl }
+    each-allowed (columns_of tables.Item) (item_values (item number)) (between, (refl, (refl, (refl, tt))))
 
 stock-in_range : (warehouse item : ℕ) → IsBetween 1 max_warehouses warehouse → IsBetween 1 max_items item
     → IsStockInRange (stock warehouse item)
-stock-in_range warehouse item warehouse_between between = record {
-  item = between;
-  warehouse = warehouse_between;
-  quantity = lit≤ tt;
-  ytd = lit≤ tt;
-  order_count = lit≤ tt;
-  remote_count = lit≤ tt;
-}
+stock-in_range warehouse item warehouse_between between =
+    each-allowed (columns_of tables.Stock) (stock_values (stock warehouse item)) (between, (warehouse_between, (refl, (refl, (refl, (refl, tt))))))
 
 order-in_range : (number : ℕ) → IsBetween 1 max_order number → IsOrderInRange (order number)
-order-in_range number between = record {
-  id = between;
-  district = refl;
-  warehouse = refl;
-  customer = refl;
-  entry_date = refl;
-  carrier = lit≤ tt;
-  line_count = refl;
-  all_local = lit≤ tt;
-}
+order-in_range number between =
+    each-allowed (columns_of tables.Order) (order_values (order number)) (between, (refl, (refl, (refl, (refl, (refl, (refl, (refl, tt))))))))
 
 new_order-in_range : (number : ℕ) → IsBetween 1 max_order number → IsNewOrderInRange (new_order number)
-new_order-in_range number between = record { order = between; district = refl; warehouse = refl }
+new_order-in_range number between =
+    each-allowed (columns_of tables.NewOrder) (new_order_values (new_order number)) (between, (refl, (refl, tt)))
 
 line-in_range : (number : ℕ) → IsBetween 1 max_lines number → IsOrderLineInRange (line number)
-line-in_range number between = record {
-  order = refl;
-  district = refl;
-  warehouse = refl;
-  number = between;
-  item = refl;
-  supply_warehouse = refl;
-  delivery_date = lit≤ tt;
-  quantity = refl;
-  amount = omega (arith, ints);
-}
+line-in_range number between =
+    each-allowed (columns_of tables.OrderLine) (order_line_values (line number)) (refl, (refl, (refl, (between, (refl, (refl, (refl, (refl, (refl, tt)))))))))
 
 payment-in_range : IsHistoryInRange payment
-payment-in_range = record {
-  customer = refl;
-  customer_district = refl;
-  customer_warehouse = refl;
-  district = refl;
-  warehouse = refl;
-  date = refl;
-  amount = omega (arith, ints);
-  information = (lit≤ tt, printable (codes "W1    D1") refl);
-}
+payment-in_range = refl
 
 -- the second of two rows is the first fault where it is wrong, or missing
 only_first : {Row : Type 0} (right : ℕ → Row → Type 0) (first : Row) (rows : List Row) → right 0 first

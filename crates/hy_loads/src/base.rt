@@ -9,7 +9,7 @@ ghost use Rattle.hy_loads.specs.There.{HasKeys, is_customer_by};
 
 use crate::list::Rule;
 use hy_conditions::CustomerId;
-use hy_rows::{Customer, DISTRICTS_PER_WAREHOUSE, District, Item, Stock, Warehouse};
+use hy_rows::{Customer, DISTRICTS_PER_WAREHOUSE, District, Item, Record, Stock, Warehouse};
 use indexmap::IndexSet;
 use std::alloc::AllocError;
 

@@ -11,8 +11,8 @@ use crate::base::{CustomerRule, DistrictRule, ItemRule, StockRule, WarehouseRule
 use crate::list::check_list;
 use crate::orders::{Customers, HistoryRule, NewOrderRule, OrderLineRule, OrderRule, Orders};
 use hy_conditions::{CustomerId, first_broken};
-use hy_rows::{Listed, Lists, Tables, Warehouse};
-use hy_schema::{FileEnd, FileEnds, LoadFault, Refusal, Table};
+use hy_rows::{Listed, Lists, PerTable, Table, Tables, Warehouse};
+use hy_schema::{FileEnd, LoadFault, Refusal};
 use indexmap::IndexSet;
 use std::alloc::{AllocError, Global};
 use std::marker::Model;
@@ -48,14 +48,14 @@ impl Load {
         ensures { MatchResult result (λ load. (load ≡ lists) × IsLoad lists)
             (IsRefusalOf all_whole lists) }
     {
-        let ends = FileEnds::whole();
+        let ends = PerTable::of(FileEnd::Whole);
         Load::of_files(alloc, lists, ends)
     }
 
     /// The load with the lists of nine files that were read so far, where all were read to their end. Else E12 names
     /// the first wrong row, as `of` does: that behind the rows of a list, where its file has a record that is no
     /// row of its table, and row 0, where it has no header.
-    pub fn of_files(alloc: Global, lists: Lists, ends: FileEnds) -> Result<Load, Refusal>
+    pub fn of_files(alloc: Global, lists: Lists, ends: PerTable<FileEnd>) -> Result<Load, Refusal>
         ensures { MatchResult result (λ load. (load ≡ lists) × (ends ≡ all_whole) × IsLoad lists)
             (IsRefusalOf ends lists) }
     {
@@ -104,7 +104,7 @@ impl Load {
 }
 
 /// Tests lists whose files were read so far. A refusal names the first fault.
-fn check(alloc: Global, lists: &Lists, ends: FileEnds) -> Result<(), Refusal>
+fn check(alloc: Global, lists: &Lists, ends: PerTable<FileEnd>) -> Result<(), Refusal>
     ensures ok { OnOk result ((ends ≡ all_whole) × IsLoad lists.now) }
     ensures fault { IfErr result (IsRefusalOf ends lists.now) }
 {
@@ -129,7 +129,7 @@ fn check(alloc: Global, lists: &Lists, ends: FileEnds) -> Result<(), Refusal>
 /// Tests the lists that never gain a row, and keeps the keys of the customers.
 fn check_base(
     lists: &Lists,
-    ends: FileEnds,
+    ends: PerTable<FileEnd>,
     customers: &mut IndexSet<CustomerId>,
 ) -> Result<(), Refusal>
     requires { IsEmpty customers.old }
@@ -165,7 +165,7 @@ fn check_base(
 fn check_orders(
     alloc: Global,
     lists: &Lists,
-    ends: FileEnds,
+    ends: PerTable<FileEnd>,
     customers: Customers<'_>,
 ) -> Result<(), Refusal>
     requires base { AreBaseRight ends lists.now }

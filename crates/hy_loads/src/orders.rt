@@ -4,7 +4,8 @@ ghost use Rattle.std.specs.Prelude.{◌≡◌, ◌↔◌, ◌≤◌, ⊤, IsTrue
 ghost use Rattle.std.specs.List.{list_any};
 ghost use Rattle.hy_rows.specs.Finding.{is_customer, is_district, is_warehouse};
 ghost use Rattle.hy_rows.specs.Limits.{districts_per_warehouse};
-ghost use Rattle.hy_rows.specs.Ranges.{IsBetween, IsNewOrderInRange, IsOrderInRange, IsOrderLineInRange};
+ghost use Rattle.hy_rows.specs.Ranges.{IsBetween};
+ghost use Rattle.hy_rows.specs.Rows.{IsNewOrderInRange, IsOrderInRange, IsOrderLineInRange};
 ghost use Rattle.hy_schema.specs.Related.{is_item, is_order};
 ghost use Rattle.hy_schema.specs.Loads.{IsHistoryAt, IsNewOrderAt, IsOrderAt, IsOrderLineAt};
 ghost use Rattle.hy_conditions.specs.Keys.{same_customer, same_order};
@@ -14,7 +15,7 @@ ghost use Rattle.hy_loads.specs.There.{HasCustomers, HasKeys, HasOrders, IsLineO
 use crate::keys::LineId;
 use crate::list::Rule;
 use hy_conditions::{CustomerId, OrderId};
-use hy_rows::{Customer, District, History, Item, NewOrder, Order, OrderLine, Warehouse};
+use hy_rows::{Customer, District, History, Item, NewOrder, Order, OrderLine, Record, Warehouse};
 use indexmap::IndexSet;
 use std::alloc::AllocError;
 

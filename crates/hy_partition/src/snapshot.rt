@@ -1,7 +1,8 @@
 //! Snapshots: the committed rows of a warehouse at one moment.
 
 ghost use Rattle.std.specs.Prelude.{◌≡◌, ◌<◌, length, map, IfOk};
-ghost use Rattle.hy_rows.specs.Spelling.{Spells, list_at, segments};
+ghost use Rattle.hy_rows.specs.Spelling.{Spells, list_at};
+ghost use Rattle.hy_rows.specs.Catalogue.{segments};
 ghost use Rattle.hy_commands.specs.Replay.{rows_after};
 ghost use Rattle.hy_partition.specs.Snapshots.{IsTakenBehind, IsWhole, lists_in, snapshot_of, ticket_of};
 
@@ -9,7 +10,7 @@ use hy_commands::Commit;
 use hy_frames::Hold;
 use hy_loads::Load;
 use hy_relation::Relation;
-use hy_rows::{Item, Listed, Row, Source};
+use hy_rows::{Item, Listed, Row, RowSource, Source};
 use hy_tickets::Ticket;
 use std::alloc::{AllocError, Global};
 use std::marker::Model;
@@ -140,12 +141,16 @@ impl<const N: usize> Snapshot<N> {
 }
 
 // The tables on pages are scanned, and the items copied.
-impl<const N: usize> Source for Snapshot<N> {
-    ghost lists_of = { λ snapshot. lists_in N snapshot };
+impl<const N: usize> RowSource for Snapshot<N> {
+    ghost tables_of = { λ snapshot. (lists_in N snapshot).tables };
 
     fn copy_rows<R: Row>(&self) -> Result<Vec<R>, AllocError> {
         Relation::<R>::new().scan_pages(*self.pages.allocator(), self.segment(R::SEGMENT))
     }
+}
+
+impl<const N: usize> Source for Snapshot<N> {
+    ghost items_of = { λ snapshot. snapshot.load.items };
 
     fn copy_items(&self) -> Result<Vec<Item>, AllocError> {
         let mut items = Vec::new(*self.pages.allocator());

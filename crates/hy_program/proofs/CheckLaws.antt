@@ -6,7 +6,7 @@ use Rattle.hy_files.specs.declared.directory.FileFault.{FileFault}
 use Rattle.hy_files.specs.declared.directory.FileFault.TheVariants as files
 use Rattle.hy_files.specs.Files.{FilesByPath}
 use Rattle.hy_files.specs.Loads.{IsReadFault}
-use Rattle.hy_schema.specs.declared.refusal.Table.{Table}
+use Rattle.hy_rows.specs.declared.catalogue.Table.{Table}
 use Rattle.hy_program.specs.declared.fault.RunFault.{RunFault}
 use Rattle.hy_program.specs.declared.fault.RunFault.TheVariants as fault
 use Rattle.hy_program.specs.Check.{IsCheckFault}

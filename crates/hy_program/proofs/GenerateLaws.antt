@@ -3,7 +3,7 @@ use Rattle.std.proofs.Common.{rules, ◌≡◌, ℕ, List, Option, Bool, true, f
 use Rattle.std.specs.Result.{IsErrOf}
 use Rattle.hy_files.specs.declared.directory.FileFault.{FileFault}
 use Rattle.hy_files.specs.declared.directory.FileFault.TheVariants as files
-use Rattle.hy_schema.specs.declared.refusal.Table.{Table}
+use Rattle.hy_rows.specs.declared.catalogue.Table.{Table}
 use Rattle.hy_files.specs.Faults.{IsOfSystem, IsUnwritten}
 use Rattle.hy_files.specs.Files.{FilesByPath, KnownPaths}
 use Rattle.hy_program.specs.declared.fault.RunFault.{RunFault}

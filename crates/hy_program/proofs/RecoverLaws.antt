@@ -6,7 +6,7 @@ use Rattle.hy_rows.specs.Tables.{Lists, Tables}
 use Rattle.hy_schema.specs.Conditions.{first_broken}
 use Rattle.hy_schema.specs.Loads.{IsLoad}
 use Rattle.hy_schema.specs.declared.refusal.Refusal.{Refusal}
-use Rattle.hy_schema.specs.declared.refusal.Table.{Table}
+use Rattle.hy_rows.specs.declared.catalogue.Table.{Table}
 use Rattle.hy_tables.specs.Files.{texts_of}
 use Rattle.hy_files.specs.declared.directory.FileFault.{FileFault}
 use Rattle.hy_files.specs.declared.directory.FileFault.TheVariants as faults

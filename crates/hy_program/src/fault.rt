@@ -5,7 +5,7 @@ ghost use Rattle.hy_schema.specs.declared.refusal.Refusal.TheVariants as refusal
 ghost use Rattle.hy_program.specs.declared.fault.RunFault.TheVariants as fault;
 ghost use Rattle.hy_program.specs.Faults.{IsAboutFiles, IsBlamedRightly, IsOfScript, fault_text, path_text};
 
-use hy_files::{FileFault, file_name};
+use hy_files::{FileFault, FileName};
 use hy_schema::{Refusal, Table};
 use hy_script::ScriptFault;
 use std::alloc::AllocError;
@@ -25,7 +25,7 @@ impl fmt::Display for FilePath<'_> {
 
     fn fmt<W: fmt::Write>(&self, f: &mut fmt::Formatter<W>) -> fmt::Result {
         let directory = self.directory;
-        let name = file_name(self.table);
+        let name = FileName { table: self.table };
         write!(f, "{directory}/{name}")
     }
 }

@@ -1,66 +1,28 @@
 -- Flags of columns.
-use Rattle.std.specs.Prelude.{◌≡◌, ◌≢◌, ℕ, zero, suc, ◌==◌, ◌<◌, ◌≤◌, ◌||◌, Bool, true, false, not, List, [], ◌∷◌, length, slice_get, slice_set, slice_index_or, Option, None, Some, IsSome, option_map, refl}
-use Rattle.std.specs.List.{list_all}
-use Rattle.std.proofs.Common.{arith, ap, inl, inr, sym, ◌∙◌, lit≤, lit<, get_or-set_other, get_or-set_same}
-use Rattle.std.proofs.lemmas.Bool.{false≢true, and_from, and_parts, cases_Bool, eq-eqb, eqb-true, or_right}
+use Rattle.std.specs.Prelude.{◌≡◌, ◌≢◌, ℕ, ◌==◌, ◌<◌, ◌||◌, ◌&&◌, Bool, true, false, List, [], length, slice_get, slice_set, slice_index_or, Option, None, Some, IsSome, option_map, refl}
+use Rattle.std.proofs.Common.{arith, ap, inl, inr, sym, ◌∙◌, get_or-set_other, get_or-set_same}
+use Rattle.std.proofs.lemmas.Bool.{false≢true, cases_Bool, eqb-true, eq-eqb, or_right}
 use Rattle.std.proofs.lemmas.Option.{slice_get_within}
-use Rattle.hy_schema.specs.declared.refusal.Table.{Table}
-use Rattle.hy_schema.specs.declared.refusal.Table.TheVariants as tables
+use Rattle.hy_rows.specs.Catalogue.{columns_of, max_columns, place_of}
+use Rattle.hy_rows.specs.Columns.{Column as ColumnDefinition}
+use Rattle.hy_rows.specs.Spelling.{list_at}
+use Rattle.hy_rows.proofs.CatalogueLaws.{columns-few, place-few}
 use Rattle.hy_query.specs.declared.column.Column.{Column}
-use Rattle.hy_query.specs.declared.column.Kind.{Kind}
-use Rattle.hy_query.specs.Columns.{columns_of, kind_of}
-use Rattle.hy_query.specs.Language.{is_column, is_table}
-use Rattle.hy_query.specs.inside.ColumnSets.{has_column, index_of, number_of}
+use Rattle.hy_query.specs.Columns.{kind_in, kind_of}
+use Rattle.hy_query.specs.Language.{is_column}
+use Rattle.hy_query.specs.inside.ColumnSets.{has_column}
 
--- where no flag is set, none is read
-pub no_flag : (flags : List Bool) (index : ℕ) → list_all not flags ≡ true → slice_index_or flags index false ≡ false
-no_flag [] index none = refl
-no_flag (true ∷ flags) index none = absurd (false≢true none)
-no_flag (false ∷ flags) zero none = refl
-no_flag (false ∷ flags) (suc index) none = no_flag flags index none
-
--- tables with one name have one number
-abbrev AreAlike : Table → Table → Type 0
-AreAlike one other = is_table one other ≡ (number_of one == number_of other)
-
-is_table-number : (one other : Table) → AreAlike one other
-is_table-number tables.Warehouse other = elim other as (AreAlike tables.Warehouse) [ tables.Warehouse ↦ refl | _ ↦ refl ]
-is_table-number tables.District other = elim other as (AreAlike tables.District) [ tables.Warehouse ↦ refl | _ ↦ refl ]
-is_table-number tables.Customer other = elim other as (AreAlike tables.Customer) [ tables.Warehouse ↦ refl | _ ↦ refl ]
-is_table-number tables.Item other = elim other as (AreAlike tables.Item) [ tables.Warehouse ↦ refl | _ ↦ refl ]
-is_table-number tables.Stock other = elim other as (AreAlike tables.Stock) [ tables.Warehouse ↦ refl | _ ↦ refl ]
-is_table-number tables.Order other = elim other as (AreAlike tables.Order) [ tables.Warehouse ↦ refl | _ ↦ refl ]
-is_table-number tables.NewOrder other = elim other as (AreAlike tables.NewOrder) [ tables.Warehouse ↦ refl | _ ↦ refl ]
-is_table-number tables.OrderLine other = elim other as (AreAlike tables.OrderLine) [ tables.Warehouse ↦ refl | _ ↦ refl ]
-is_table-number tables.History other = elim other as (AreAlike tables.History) [ tables.Warehouse ↦ refl | _ ↦ refl ]
-
--- a table has at most twelve columns
-few_columns : (table : Table) → length (columns_of table) ≤ 12
-few_columns tables.Warehouse = lit≤ tt
-few_columns tables.District = lit≤ tt
-few_columns tables.Customer = lit≤ tt
-few_columns tables.History = lit≤ tt
-few_columns tables.NewOrder = lit≤ tt
-few_columns tables.Order = lit≤ tt
-few_columns tables.OrderLine = lit≤ tt
-few_columns tables.Stock = lit≤ tt
-few_columns tables.Item = lit≤ tt
-
--- so the place of a column is below twelve
-place-few : (column : Column) → IsSome (kind_of column) → column.place < 12
-place-few column known =
+-- a column has one of a few places
+column-few : (column : Column) → IsSome (kind_of column) → column.place < max_columns
+column-few column known =
     let within = by_entry (slice_get (columns_of column.table) column.place) refl known in
-    omega (arith, few_columns column.table, within)
+    omega (arith, columns-few column.table, within)
   where
-    by_entry : (entry : Option (List ℕ × Kind)) → slice_get (columns_of column.table) column.place ≡ entry
-        → IsSome (option_map (λ (entry : List ℕ × Kind). entry.1) entry)
+    by_entry : (entry : Option ColumnDefinition) → slice_get (columns_of column.table) column.place ≡ entry
+        → IsSome (option_map (λ definition. kind_in definition.domain) entry)
         → column.place < length (columns_of column.table)
     by_entry None is known = absurd (false≢true known)
     by_entry (Some entry) is known = slice_get_within (columns_of column.table) column.place entry is
-
--- there are nine tables
-number-few : (table : Table) → number_of table < 9
-number-few table = elim table as (λ table. number_of table < 9) [ tables.Warehouse ↦ lit< tt | _ ↦ lit< tt ]
 
 -- `or` with false changes nothing
 or_false : (flag : Bool) → flag ≡ (flag || false)
@@ -68,26 +30,39 @@ or_false true = refl
 or_false false = refl
 
 -- a set with one column more
-pub has_column-insert : (flags : List Bool) (column other : Column) (index : ℕ) → length flags ≡ 108
-    → IsSome (kind_of column) → IsSome (kind_of other) → index ≡ index_of column
-    → has_column (slice_set flags index true) other ≡ (has_column flags other || is_column other column)
-has_column-insert flags column other index long known is_known at = elim (cases_Bool (is_column other column)) [
-  | inl same ↦
-      let parts = and_parts _ _ same in
-      let number = eqb-true _ _ (sym (is_table-number other.table column.table) ∙ parts.0) in
-      let place = eqb-true _ _ parts.1 in
-      let here : index_of other ≡ index = omega (arith, number, place, at) in
-      let within : index < length flags = omega (arith, at, long, number-few column.table, place-few column known) in
-      ap (λ at. slice_index_or (slice_set flags index true) at false) here
-      ∙ get_or-set_same flags index true false within ∙ sym (or_right _ _ same)
-  | inr differs ↦
-      let elsewhere : index_of other ≢ index = λ here. false≢true (sym differs ∙ alike (here ∙ at)) in
-      get_or-set_other flags index (index_of other) true false elsewhere ∙ rw differs (or_false (has_column flags other))
-]
+pub has_column-insert : (set : List (List Bool)) (column other : Column) (at : ℕ) (new : List Bool) → length set ≡ 9
+    → length (list_at set at) ≡ max_columns → IsSome (kind_of column) → at ≡ place_of column.table
+    → new ≡ slice_set (list_at set at) column.place true
+    → has_column (slice_set set at new) other ≡ (has_column set other || is_column other column)
+has_column-insert set column other at new many long known is_at is_new =
+    let flags = list_at set at in
+    let row_there : at < length set = omega (arith, many, is_at, place-few column.table) in
+    let flag_there : column.place < length flags = omega (arith, long, column-few column known) in
+    elim (cases_Bool (place_of other.table == place_of column.table)) [
+      | inl same_table ↦
+          let here : place_of other.table ≡ at = eqb-true _ _ same_table ∙ sym is_at in
+          let row : list_at (slice_set set at new) (place_of other.table) ≡ slice_set flags column.place true =
+          ap (λ place. list_at (slice_set set at new) place) here ∙ get_or-set_same set at new [] row_there ∙ is_new in
+          let read = ap (λ flags. slice_index_or flags other.place false) row in
+          let was = ap (λ place. slice_index_or (list_at set place) other.place false) here in
+          elim (cases_Bool (other.place == column.place)) [
+            | inl same_place ↦
+                let set_here = ap (λ place. slice_index_or (slice_set flags column.place true) place false)
+                (eqb-true _ _ same_place) ∙ get_or-set_same flags column.place true false flag_there in
+                read ∙ set_here ∙ sym (or_right (has_column set other) _ (and_true _ _ same_table same_place))
+            | inr elsewhere ↦
+                read ∙ get_or-set_other flags column.place other.place true false (differ elsewhere) ∙ sym was
+                ∙ rw (same_table, elsewhere) (or_false (has_column set other))
+          ]
+      | inr elsewhere ↦
+          ap (λ flags. slice_index_or flags other.place false)
+          (get_or-set_other set at (place_of other.table) new [] (λ here. differ elsewhere (here ∙ is_at)))
+          ∙ rw elsewhere (or_false (has_column set other))
+    ]
   where
-    alike : index_of other ≡ index_of column → is_column other column ≡ true
-    alike same =
-        let places : (column.place < 12) × (other.place < 12) = (place-few column known, place-few other is_known) in
-        let number : number_of other.table ≡ number_of column.table = omega (arith, same, places.0, places.1) in
-        let place : other.place ≡ column.place = omega (arith, same, number) in
-        and_from _ _ (is_table-number other.table column.table ∙ eq-eqb _ _ number) (eq-eqb _ _ place)
+    differ : {one other : ℕ} → (one == other) ≡ false → one ≢ other
+    differ {one} {other} elsewhere same = false≢true (sym elsewhere ∙ eq-eqb one other same)
+
+    and_true : (one other : Bool) → one ≡ true → other ≡ true → (one && other) ≡ true
+    and_true true other here there = there
+    and_true false other here there = here

@@ -1,6 +1,6 @@
 -- Lists that make a query.
 use Rattle.std.specs.Prelude.{◌≡◌, IsTrue, List}
-use Rattle.hy_schema.specs.declared.refusal.Table.{Table}
+use Rattle.hy_rows.specs.declared.catalogue.Table.{Table}
 use Rattle.hy_query.specs.declared.column.Column.{Column}
 use Rattle.hy_query.specs.declared.lists.Lists.{Lists}
 use Rattle.hy_query.specs.declared.query.Condition.{Condition}

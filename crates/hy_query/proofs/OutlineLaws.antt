@@ -24,7 +24,7 @@ list_any-more column new groups =
     or_false false = refl
 
 -- one group more
-pub IsOutline-group : (outline : Outline) (query : QueryState) (new : Column) (set : List Bool)
+pub IsOutline-group : (outline : Outline) (query : QueryState) (new : Column) (set : List (List Bool))
     → ((column : Column) → IsSome (kind_of column)
     → has_column set column ≡ (has_column outline.groups column || is_column column new))
     → IsOutline outline query → IsOutline (record outline { groups = set; has_groups = true }) (with_group query new)

@@ -1,12 +1,15 @@
 -- What was read of a query is right, whatever the text.
-use Rattle.std.specs.Prelude.{◌≡◌, ℕ, suc, ◌+◌, ◌&&◌, ◌++◌, ◌<◌, ◌≤◌, Bool, true, false, not, if◌then◌else◌, nat_le, nat_lt, List, [], ◌∷◌, length, slice_get, fold, All, Option, None, Some, IfSome, IsSome, option_and_then, option_map, Ok, Err, bytes_eq, codes, refl}
+use Rattle.std.specs.Prelude.{◌≡◌, ℕ, suc, ◌&&◌, ◌++◌, ◌<◌, ◌≤◌, Bool, true, false, not, if◌then◌else◌, nat_le, nat_lt, List, [], ◌∷◌, length, slice_get, fold, All, Option, None, Some, IfSome, IsSome, option_and_then, option_map, Ok, Err, bytes_eq, codes, refl}
 use Rattle.std.specs.List.{list_any}
-use Rattle.std.proofs.Common.{arith, ap, sym, subst, ◌∙◌, inl, inr, length-append}
-use Rattle.std.proofs.lemmas.Bool.{and_parts, cases_Bool, false≢true, leb-true, ltb-true}
+use Rattle.std.proofs.Common.{arith, ap, sym, subst, ◌∙◌, length-append}
+use Rattle.std.proofs.lemmas.Bool.{and_parts, false≢true, leb-true, ltb-true}
 use Rattle.std.proofs.lemmas.List.Elements.{All-nil, All-push}
-use Rattle.std.proofs.lemmas.Option.{IfSome_then, cond_some, option_and_then_some}
+use Rattle.std.proofs.lemmas.List.Quantifiers.{position-Some}
+use Rattle.std.proofs.lemmas.Option.{IfSome_then, cond_some, option_and_then_some, slice_get-get_or}
 use Rattle.hy_decimal.specs.Numbers.{number_of}
-use Rattle.hy_schema.specs.declared.refusal.Table.{Table}
+use Rattle.hy_rows.specs.Catalogue.{columns_of}
+use Rattle.hy_rows.specs.Columns.{Column as ColumnDefinition, Text}
+use Rattle.hy_rows.specs.declared.catalogue.Table.{Table}
 use Rattle.hy_query.specs.declared.column.Column.{Column}
 use Rattle.hy_query.specs.declared.column.Kind.{Kind}
 use Rattle.hy_query.specs.declared.column.Kind.TheVariants as kinds
@@ -19,9 +22,9 @@ use Rattle.hy_query.specs.declared.query.Operand.{Operand}
 use Rattle.hy_query.specs.declared.query.Operand.TheVariants as operands
 use Rattle.hy_query.specs.declared.query.SelectItem.{SelectItem}
 use Rattle.hy_query.specs.declared.query.SelectItem.TheVariants as items
-use Rattle.hy_query.specs.declared.value.Value.{Value}
-use Rattle.hy_query.specs.declared.value.Value.TheVariants as values
-use Rattle.hy_query.specs.Columns.{column_among, columns_of, first_of, kind_of, place_named, table_named}
+use Rattle.hy_rows.specs.declared.value.Value.{Value}
+use Rattle.hy_rows.specs.declared.value.Value.TheVariants as values
+use Rattle.hy_query.specs.Columns.{column_among, first_of, kind_in, kind_of, lowered, place_named, table_named}
 use Rattle.hy_query.specs.Language.{after, aggregate_after, aggregate_named, comparison_named, aggregate_of, behind_conditions, ended, fitting, has_kind, is_table, key_after, kind_of_operand, may_aggregate, may_be_plain, operand_of, or_fault, plain_after, table_after, take_token, value_of, with_condition, with_group, with_item, with_key, with_table}
 use Rattle.hy_query.specs.Queries.{IsCondition, IsItem, IsOneOf, IsOperand, IsQuery, QueryState}
 use Rattle.hy_query.specs.Tokens.{Token}
@@ -56,24 +59,17 @@ some_holds (Some value) a P is holds = subst P (cc is) holds
 -- ---- columns and operands
 
 -- the place of a name is one of a column
-named_entry : (word : List ℕ) (place : ℕ) (columns : List (List ℕ × Kind)) (found : ℕ)
-    → place_named word place columns ≡ Some found
-    → (behind : ℕ) × (found ≡ place + behind) × IsSome (slice_get columns behind)
-named_entry word place [] found is = absurd (cc is)
-named_entry word place (entry ∷ later) found is = elim (cases_Bool (bytes_eq word entry.0)) [
-  | inl same ↦
-      let here : Some place ≡ Some found = rw same at is in
-      let at : place ≡ found = cc here in
-      (0, omega (arith, at), refl)
-  | inr other ↦
-      let further = named_entry word (suc place) later found (rw other at is) in
-      (suc further.0, omega (arith, further.1), further.2)
-]
+abbrev no_column : ColumnDefinition
+no_column = record { name = []; domain = Text 0 }
 
-has_kind-mapped : (entry : Option (List ℕ × Kind)) → IsSome entry
-    → IsSome (option_map (λ (entry : List ℕ × Kind). entry.1) entry)
-has_kind-mapped None some = some
-has_kind-mapped (Some entry) some = some
+known_at : (columns : List ColumnDefinition) (place : ℕ) → place < length columns
+    → IsSome (option_map (λ definition. kind_in definition.domain) (slice_get columns place))
+known_at columns place within = rw (slice_get-get_or columns place no_column within) refl
+
+named_within : (word : List ℕ) (columns : List ColumnDefinition) (place : ℕ) → place_named word columns ≡ Some place
+    → place < length columns
+named_within word columns place is =
+    (position-Some (λ column. bytes_eq word (lowered column.name)) columns place no_column is).0
 
 -- a column among tables is one of theirs
 one_more : (table : Table) (tables : List Table) (column : Column) → IsOneOf tables column
@@ -83,19 +79,16 @@ one_more table tables column is = ((suc is.0.0, (omega (arith, is.0.1.0), is.0.1
 pub column_among-one : (tables : List Table) (word : List ℕ) → IfSome (column_among tables word) (IsOneOf tables)
 column_among-one [] word = tt
 column_among-one (table ∷ later) word =
-    first_holds _ _ (IsOneOf (table ∷ later)) (here (place_named word 0 (columns_of table)) refl)
+    first_holds _ _ (IsOneOf (table ∷ later)) (here (place_named word (columns_of table)) refl)
     (IfSome_then (column_among later word) (column_among-one later word) (λ column is. one_more table later column is))
   where
-    here : (found : Option ℕ) → place_named word 0 (columns_of table) ≡ found
+    here : (found : Option ℕ) → place_named word (columns_of table) ≡ found
         → IfSome (option_map (λ place. record { table = table; place = place }) found) (IsOneOf (table ∷ later))
     here None is = tt
-    here (Some place) is =
-        let entry = named_entry word 0 (columns_of table) place is in
-        let at : entry.0 ≡ place = omega (arith, entry.1) in (
-          (0, (omega arith, refl)),
-          has_kind-mapped (slice_get (columns_of table) place)
-              (subst (λ (place : ℕ). IsSome (slice_get (columns_of table) place)) at entry.2),
-        )
+    here (Some place) is = (
+      (0, (omega arith, refl)),
+      known_at (columns_of table) place (named_within word (columns_of table) place is),
+    )
 
 one_of : (tables : List Table) (word : List ℕ) (column : Column) → column_among tables word ≡ Some column
     → IsOneOf tables column

@@ -1,67 +1,57 @@
 -- What single tokens say.
-use Rattle.std.specs.Prelude.{◌≡◌, ◌≢◌, ℕ, suc, ◌+◌, ◌^◌, ◌==◌, ◌&&◌, Bool, true, false, not, if◌then◌else◌, nat_lt, pos, List, [], ◌∷◌, ◌++◌, length, map, Option, None, Some, option_map, position, bytes_eq, refl}
-use denote.Ref.{Bor}
+use Rattle.std.specs.Prelude.{◌≡◌, ◌≢◌, ℕ, ◌+◌, ◌^◌, ◌==◌, ◌&&◌, Bool, true, false, not, if◌then◌else◌, nat_lt, pos, List, [], ◌∷◌, ◌++◌, length, map, Option, None, Some, option_map, position, bytes_eq, refl}
 use Rattle.std.specs.Bool.{then_some}
-use Rattle.std.specs.List.{position_or_len, list_any}
-use Rattle.std.proofs.Common.{arith, ap, inl, inr, sym, subst, ◌∙◌, zero-add}
+use Rattle.std.specs.Char.{to_ascii_lowercase}
+use Rattle.std.specs.List.{position_or_len, list_all, list_any, zip}
+use Rattle.std.proofs.Common.{arith, ap, inl, inr, ap₂, sym, subst, ◌∙◌}
+use Rattle.std.proofs.Math.Dec.{eqb-suc-suc, eqb-suc-zero, eqb-zero-suc}
 use Rattle.std.proofs.lemmas.List.{length-map}
-use Rattle.std.proofs.lemmas.Bool.{and_right, cases_Bool, cases_lt, cond-false, cond-true, eq-eqb, le-ltb, lt-ltb, ne_eqb, not_from_true}
+use Rattle.std.proofs.lemmas.Bool.{and_right, cases_Bool, eq-eqb, ne_eqb, not_from_true}
 use Rattle.hy_decimal.specs.Numbers.{number_of}
 use Rattle.hy_decimal.proofs.NumberLaws.{narrowed, number-narrowed}
-use Rattle.hy_query.specs.declared.column.Kind.{Kind}
-use Rattle.hy_query.specs.Columns.{place_named}
+use Rattle.hy_rows.specs.Columns.{defined}
+use Rattle.hy_rows.specs.declared.column.ColumnDefinition.{ColumnDefinition as WrittenColumn}
+use Rattle.hy_query.specs.Columns.{lowered, place_named}
 use Rattle.hy_query.specs.Language.{quoted, whole_of}
 
 -- ---- names
 
--- the place of a name is the first at which it stands
-place_named-first : (word : List ℕ) (place : ℕ) (columns : List (List ℕ × Kind)) → place_named word place columns
-    ≡ (let first : ℕ = position_or_len (bytes_eq word) (map (λ entry. entry.0) columns) in
-    if nat_lt first (length columns) then Some (place + first) else None)
-place_named-first word place [] = refl
-place_named-first word place (entry ∷ later) = elim (cases_Bool (bytes_eq word entry.0)) [
-  | inl same ↦
-      let some = lt-ltb 0 (suc (length later)) (omega arith) in
-      let here : place ≡ place + 0 = omega arith in
-      rw (same, some) (ap (λ place. Some place) here)
-  | inr other ↦
-      let first = position_or_len (bytes_eq word) (map (λ entry. entry.0) later) in
-      let further : suc place + first ≡ place + (1 + first) = omega arith in
-      elim (cases_lt first (length later)) [
-        | inl within ↦
-            let among = lt-ltb (1 + first) (suc (length later)) (omega (arith, within)) in
-            let known = place_named-first word (suc place) later in
-            rw (other, among) (known ∙ cond-true _ _ _ (lt-ltb _ _ within) ∙ ap (λ place. Some place) further)
-        | inr past ↦
-            let behind = le-ltb (1 + first) (suc (length later)) (omega (arith, past)) in
-            let known = place_named-first word (suc place) later in
-            rw (other, behind) (known ∙ cond-false _ _ _ (le-ltb _ _ past))
-      ]
-]
+-- the first two of three tests exchanged
+swapped : (one other last : Bool) → (one && (other && last)) ≡ (other && (one && last))
+swapped true other last = refl
+swapped false true last = refl
+swapped false false last = refl
 
--- the first of some texts that is this one, by references
-abbrev first_of : List ℕ → List (Bor (List ℕ)) → ℕ
-first_of word names = position_or_len (λ name. bytes_eq word name.now) names
+-- a word is a name in small letters where it has as many letters, and each is the name's
+pub lowered-letters : (word name : List ℕ)
+    → ((length word == length name) && list_all (λ (pair : ℕ × ℕ). pair.0 == to_ascii_lowercase pair.1) (zip word name))
+    ≡ bytes_eq word (lowered name)
+lowered-letters [] [] = refl
+lowered-letters [] (byte ∷ name) = rw (eqb-zero-suc (length name)) refl
+lowered-letters (letter ∷ word) [] = rw (eqb-suc-zero (length word)) refl
+lowered-letters (letter ∷ word) (byte ∷ name) =
+    let same : Bool = letter == to_ascii_lowercase byte in
+    rw (eqb-suc-suc (length word) (length name)) (
+    swapped (length word == length name) same
+    (list_all (λ (pair : ℕ × ℕ). pair.0 == to_ascii_lowercase pair.1) (zip word name))
+    ∙ ap (λ later. same && later) (lowered-letters word name))
 
-first_of-bytes : (word : List ℕ) (names : List (Bor (List ℕ)))
-    → first_of word names ≡ position_or_len (bytes_eq word) (map (λ name. name.now) names)
-first_of-bytes word [] = refl
-first_of-bytes word (name ∷ names) =
-    ap (λ first. if not (bytes_eq word name.now) then 1 + first else 0) (first_of-bytes word names)
+-- the first of some columns that has a name
+first_of-written : (word : List ℕ) (columns : List WrittenColumn)
+    → position_or_len (λ (column : WrittenColumn). bytes_eq word (lowered column.name.now)) columns
+    ≡ position_or_len (λ column. bytes_eq word (lowered column.name)) (map defined columns)
+first_of-written word [] = refl
+first_of-written word (column ∷ columns) =
+    ap (λ first. if not (bytes_eq word (lowered column.name.now)) then 1 + first else 0) (first_of-written word columns)
 
-pub place_named-position : (word : List ℕ) (names : List (Bor (List ℕ))) (columns : List (List ℕ × Kind))
-    → map (λ name. name.now) names ≡ map (λ entry. entry.0) columns
-    → position (λ (name : Bor (List ℕ)). bytes_eq word name.now) names ≡ place_named word 0 columns
-place_named-position word names columns same =
-    let first : ℕ = position_or_len (bytes_eq word) (map (λ (entry : List ℕ × Kind). entry.0) columns) in
-    let by_bytes : first_of word names ≡ first =
-    first_of-bytes word names ∙ ap (λ texts. position_or_len (bytes_eq word) texts) same in
-    let count : length names ≡ length columns =
-    sym (length-map names (λ name. name.now)) ∙ ap length same ∙ length-map columns (λ entry. entry.0) in
-    let found : ℕ → Option ℕ = λ place. if nat_lt first (length columns) then Some place else None in
-    ap (λ (place : ℕ). if nat_lt place (length names) then Some place else None) by_bytes
-    ∙ ap (λ count. if nat_lt first count then Some first else None) count
-    ∙ sym (place_named-first word 0 columns ∙ ap found (zero-add first))
+pub place_named-written : (word : List ℕ) (columns : List WrittenColumn)
+    → position (λ (column : WrittenColumn). bytes_eq word (lowered column.name.now)) columns
+    ≡ place_named word (map defined columns)
+place_named-written word columns =
+    let count = sym (length-map columns defined) in
+    let place = first_of-written word columns in
+    let found : ℕ → ℕ → Option ℕ = λ place count. if nat_lt place count then Some place else None in
+    ap₂ found place count
 
 -- ---- numbers
 

@@ -1,10 +1,11 @@
 -- Which texts are queries: `from TABLES [where CONDITIONS] [group COLUMNS] select ITEMS [order KEYS]`, and which query each
 -- of them says. A text is read from left to right. Behind each token something is to come, and the next token goes on
 -- from there, or can't stand there.
-use Rattle.std.specs.Prelude.{◌≡◌, ℕ, ◌^◌, ◌==◌, ◌&&◌, ◌||◌, ◌++◌, Bool, true, false, not, if◌then◌else◌, nat_le, nat_lt, ℤ, pos, neg_ℤ, List, [], ◌∷◌, length, fold, Option, None, Some, is_some, option_map, option_and_then, Result, Ok, Err, bytes_eq, codes}
+use Rattle.std.specs.Prelude.{ℕ, ◌^◌, ◌==◌, ◌&&◌, ◌||◌, ◌++◌, Bool, true, false, not, if◌then◌else◌, nat_le, nat_lt, ℤ, pos, neg_ℤ, List, [], ◌∷◌, length, fold, Option, None, Some, option_map, option_and_then, Result, Ok, Err, bytes_eq, codes}
 use Rattle.std.specs.List.{list_any}
 use Rattle.hy_decimal.specs.Numbers.{number_of}
-use Rattle.hy_schema.specs.declared.refusal.Table.{Table}
+use Rattle.hy_rows.specs.Catalogue.{place_of}
+use Rattle.hy_rows.specs.declared.catalogue.Table.{Table}
 use Rattle.hy_query.specs.declared.column.Column.{Column}
 use Rattle.hy_query.specs.declared.column.Kind.{Kind}
 use Rattle.hy_query.specs.declared.column.Kind.TheVariants as kinds
@@ -18,9 +19,9 @@ use Rattle.hy_query.specs.declared.query.Operand.{Operand}
 use Rattle.hy_query.specs.declared.query.Operand.TheVariants as operands
 use Rattle.hy_query.specs.declared.query.SelectItem.{SelectItem}
 use Rattle.hy_query.specs.declared.query.SelectItem.TheVariants as items
-use Rattle.hy_query.specs.declared.value.Value.{Value}
-use Rattle.hy_query.specs.declared.value.Value.TheVariants as values
-use Rattle.hy_query.specs.Columns.{column_among, first_of, kind_of, name_of, table_named}
+use Rattle.hy_rows.specs.declared.value.Value.{Value}
+use Rattle.hy_rows.specs.declared.value.Value.TheVariants as values
+use Rattle.hy_query.specs.Columns.{column_among, first_of, kind_of, table_named}
 use Rattle.hy_query.specs.Queries.{QueryState, no_query}
 use Rattle.hy_query.specs.Tokens.{Token, tokens}
 
@@ -35,7 +36,7 @@ where_is condition value = if condition then Some value else None
 
 -- the same table, the same column
 abbrev pub is_table : Table → Table → Bool
-is_table one other = bytes_eq (name_of one) (name_of other)
+is_table one other = place_of one == place_of other
 
 abbrev pub is_column : Column → Column → Bool
 is_column one other = is_table one.table other.table && (one.place == other.place)

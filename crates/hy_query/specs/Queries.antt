@@ -1,18 +1,17 @@
 -- Queries.
-use Rattle.std.specs.Prelude.{◌≡◌, ◌≢◌, ℕ, ◌<◌, ◌≤◌, List, [], ◌++◌, ◌∷◌, length, slice_get, Some, IsSome, All, ⊤}
+use Rattle.std.specs.Prelude.{◌≡◌, ◌≤◌, List, [], length, Some, IsSome, All, ⊤}
 use Rattle.std.specs.List.{IsAmong}
-use Rattle.hy_schema.specs.declared.refusal.Table.{Table}
+use Rattle.hy_rows.specs.declared.catalogue.Table.{Table}
 use Rattle.hy_query.specs.declared.column.Column.{Column}
 use Rattle.hy_query.specs.declared.column.Kind.{Kind}
 use Rattle.hy_query.specs.declared.column.Kind.TheVariants.{Text, Whole}
-use Rattle.hy_query.specs.declared.query.Comparison.{Comparison}
 use Rattle.hy_query.specs.declared.query.Condition.{Condition}
 use Rattle.hy_query.specs.declared.query.Operand.{Operand}
 use Rattle.hy_query.specs.declared.query.Operand.TheVariants as operands
 use Rattle.hy_query.specs.declared.query.SelectItem.{SelectItem}
 use Rattle.hy_query.specs.declared.query.SelectItem.TheVariants as items
 use Rattle.hy_query.specs.declared.query.SortKey.{SortKey}
-use Rattle.hy_query.specs.declared.value.Value.TheVariants as values
+use Rattle.hy_rows.specs.declared.value.Value.TheVariants as values
 use Rattle.hy_query.specs.Columns.{kind_of}
 
 -- `from` the tables, `where` the conditions hold, `group` by the columns, if there are any, `select` the items, `order` by

@@ -3,8 +3,8 @@ use Rattle.std.specs.Prelude.{ℕ, ◌==◌, ◌&&◌, ◌||◌, Bool, true, fal
 use Rattle.std.proofs.Common.{int_eq}
 use Rattle.hy_query.specs.declared.query.Comparison.{Comparison}
 use Rattle.hy_query.specs.declared.query.Comparison.TheVariants as comparisons
-use Rattle.hy_query.specs.declared.value.Value.{Value}
-use Rattle.hy_query.specs.declared.value.Value.TheVariants as values
+use Rattle.hy_rows.specs.declared.value.Value.{Value}
+use Rattle.hy_rows.specs.declared.value.Value.TheVariants as values
 
 -- texts by their bytes; a beginning of a text is less than it
 abbrev pub is_text_less : List ℕ → List ℕ → Bool

@@ -7,9 +7,9 @@ use Rattle.hy_rows.specs.Tables.{Lists, no_rows}
 use Rattle.hy_rows.specs.declared.district.District.{District}
 use Rattle.hy_rows.specs.declared.item.Item.{Item}
 use Rattle.hy_rows.specs.declared.stock.Stock.{Stock}
-use Rattle.hy_schema.specs.declared.refusal.Table.TheVariants as tables
+use Rattle.hy_rows.specs.declared.catalogue.Table.TheVariants as tables
 use Rattle.hy_query.specs.declared.query.SelectItem.TheVariants as items
-use Rattle.hy_query.specs.declared.value.Value.TheVariants.{Text, Whole}
+use Rattle.hy_rows.specs.declared.value.Value.TheVariants.{Text, Whole}
 use Rattle.hy_query.specs.Language.{query_of}
 use Rattle.hy_query.specs.Meaning.{answer_of, item_of}
 use Rattle.hy_query.specs.Queries.{QueryState, no_query}

@@ -1,13 +1,15 @@
 -- What texts say as queries; the checker computes each row.
-use Rattle.std.specs.Prelude.{◌≡◌, ◌++◌, ℕ, List, [], ◌∷◌, map, pos, negsuc, true, false, None, Some, Result, Ok, Err, codes, refl}
+use Rattle.std.specs.Prelude.{◌≡◌, ◌++◌, ℕ, List, [], ◌∷◌, map, replicate, pos, negsuc, true, false, None, Some, option_and_then, Result, Ok, Err, codes, refl}
 use Rattle.std.specs.Fmt.{digits}
 use Rattle.hy_decimal.specs.Numbers.{number_of}
-use Rattle.hy_schema.specs.declared.refusal.Table.TheVariants as tables
+use Rattle.hy_rows.specs.Catalogue.{all_tables}
+use Rattle.hy_rows.specs.declared.catalogue.Table.TheVariants as tables
 use Rattle.hy_query.specs.declared.query.Comparison.TheVariants as comparisons
 use Rattle.hy_query.specs.declared.query.Operand.TheVariants as operands
 use Rattle.hy_query.specs.declared.query.SelectItem.TheVariants as items
-use Rattle.hy_query.specs.declared.value.Value.TheVariants as values
-use Rattle.hy_query.specs.Columns.{table_named}
+use Rattle.hy_rows.specs.declared.value.Value.TheVariants as values
+use Rattle.hy_query.specs.declared.column.Kind.TheVariants.{Text, Whole}
+use Rattle.hy_query.specs.Columns.{column_among, kind_of, table_named}
 use Rattle.hy_query.specs.Language.{query_of, text_of, whole_of}
 use Rattle.hy_query.specs.Queries.{QueryState, no_query}
 use Rattle.hy_query.specs.Tokens.{Token, tokens}
@@ -58,6 +60,43 @@ no_numbers : map whole_of (codes "+5" ∷ codes "01" ∷ codes "-0" ∷ codes "9
     ≡ None ∷ None ∷ None ∷ None ∷ None ∷ None ∷ None ∷ None ∷ []
 unfolding number_of digits
 no_numbers = refl
+
+-- ---- names
+
+-- each table has its word, in small letters
+abbrev tables_by_word : map table_named (codes "warehouse" ∷ codes "district" ∷ codes "customer" ∷ codes "history" ∷
+    codes "neworder" ∷ codes "orders" ∷ codes "orderline" ∷ codes "stock" ∷ codes "item" ∷ codes "WAREHOUSE" ∷
+    codes "Item" ∷ codes "new-order" ∷ codes "order" ∷ [])
+    ≡ map Some all_tables ++ None ∷ None ∷ None ∷ None ∷ []
+tables_by_word = refl
+
+-- a column of each table, by its name in small letters
+abbrev columns_by_name : map (column_among all_tables) (codes "w_ytd" ∷ codes "d_next_o_id" ∷ codes "c_ytd_payment" ∷
+    codes "h_data" ∷ codes "no_w_id" ∷ codes "o_entry_d" ∷ codes "ol_supply_w_id" ∷ codes "s_i_id" ∷ codes "i_im_id" ∷
+    [])
+    ≡ Some (record { table = tables.Warehouse; place = 3 })
+    ∷ Some (record { table = tables.District; place = 5 })
+    ∷ Some (record { table = tables.Customer; place = 9 })
+    ∷ Some (record { table = tables.History; place = 7 })
+    ∷ Some (record { table = tables.NewOrder; place = 2 })
+    ∷ Some (record { table = tables.Order; place = 4 })
+    ∷ Some (record { table = tables.OrderLine; place = 5 })
+    ∷ Some (record { table = tables.Stock; place = 0 })
+    ∷ Some (record { table = tables.Item; place = 1 }) ∷ []
+columns_by_name = refl
+
+-- and by no name with a capital letter, nor by a part of one
+abbrev no_columns : map (column_among all_tables) (codes "W_YTD" ∷ codes "D_NEXT_O_ID" ∷ codes "C_ID" ∷
+    codes "H_DATA" ∷ codes "NO_W_ID" ∷ codes "O_ENTRY_D" ∷ codes "ol_supply_W_id" ∷ codes "S_i_id" ∷
+    codes "i_im_iD" ∷ codes "c_i" ∷ codes "c_idd" ∷ [] ∷ [])
+    ≡ replicate 12 None
+no_columns = refl
+
+-- what their values are
+abbrev kinds_by_name : map (λ word. option_and_then kind_of (column_among all_tables word)) (codes "w_id" ∷
+    codes "w_name" ∷ codes "c_balance" ∷ codes "c_credit" ∷ codes "s_ytd" ∷ [])
+    ≡ Some Whole ∷ Some Text ∷ Some Whole ∷ Some Text ∷ Some Whole ∷ []
+kinds_by_name = refl
 
 -- ---- queries
 

@@ -1,9 +1,10 @@
 //! The columns of all tables, as queries name them.
 
 ghost use Rattle.std.specs.Prelude.{◌≡◌, IsSome, Some};
-ghost use Rattle.hy_query.specs.Columns.{kind_of};
+ghost use Rattle.hy_rows.specs.Columns.{domain_of};
+ghost use Rattle.hy_query.specs.Columns.{kind_in, kind_of};
 
-use hy_schema::Table;
+use hy_rows::{Domain, Table};
 
 /// What the values of a column are.
 #[derive(Clone, Copy, Debug, PartialEq, Eq)]
@@ -29,14 +30,17 @@ impl Column {
         requires { IsSome (kind_of self.now) }
         ensures { kind_of self.now ≡ Some result }
     {
-        let is_text = match self.table {
-            Table::Warehouse => self.place == 1,
-            Table::District => self.place == 2,
-            Table::Customer => (3..7).contains(&self.place),
-            Table::History => self.place == 7,
-            Table::Item => self.place == 2,
-            Table::NewOrder | Table::Order | Table::OrderLine | Table::Stock => false,
-        };
-        if is_text { Kind::Text } else { Kind::Whole }
+        let definition = &self.table.columns()[self.place];
+        kind_in(definition.domain)
+    }
+}
+
+/// What the values of a domain are.
+fn kind_in(domain: Domain) -> Kind
+    ensures { result ≡ kind_in (domain_of domain) }
+{
+    match domain {
+        Domain::Unsigned { .. } | Domain::Signed { .. } => Kind::Whole,
+        Domain::Text { .. } | Domain::OneOf { .. } => Kind::Text,
     }
 }

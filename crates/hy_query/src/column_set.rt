@@ -1,27 +1,28 @@
 //! Sets of columns.
 
-ghost use Rattle.std.specs.Prelude.{◌≡◌, ◌<◌, ◌||◌, false, IsSome};
+ghost use Rattle.std.specs.Prelude.{◌≡◌, ◌<◌, ◌||◌, false, true, IsSome, length, slice_set};
+ghost use Rattle.hy_rows.specs.Catalogue.{place_of};
 ghost use Rattle.hy_query.specs.Columns.{kind_of};
 ghost use Rattle.hy_query.specs.Language.{is_column};
 ghost use Rattle.hy_query.specs.declared.column.Column.{Column};
-ghost use Rattle.hy_query.specs.inside.ColumnSets.{has_column, index_of};
+ghost use Rattle.hy_query.specs.inside.ColumnSets.{has_column};
 
 use crate::column::Column;
-use hy_schema::Table;
+use hy_rows::{MAX_COLUMNS, TABLES, Table};
 use std::marker::Model;
 
 /// A set of columns of all tables. It takes no memory of an allocator.
 #[derive(Debug, Drop)]
 pub(crate) struct ColumnSet {
-    /// Whether the set has a column: a row of twelve places for each of nine tables.
-    has: [bool; 108],
+    /// Whether the set has a column, by its table and its place.
+    has: [[bool; MAX_COLUMNS]; TABLES],
 }
 
 // Clauses see the flags.
 impl Model for ColumnSet {
     ghost use Rattle.std.specs.Prelude.{List, Bool};
 
-    ghost Value = { List Bool };
+    ghost Value = { List (List Bool) };
 
     ghost view = { λ set. set.has };
 }
@@ -31,7 +32,9 @@ impl ColumnSet {
     pub(crate) fn new() -> ColumnSet
         ensures { (column : Column) → has_column result column ≡ false }
     {
-        ColumnSet { has: [false; 108] }
+        ColumnSet {
+            has: [[false; MAX_COLUMNS]; TABLES],
+        }
     }
 
     /// Whether a column is in the set.
@@ -39,7 +42,7 @@ impl ColumnSet {
         requires { IsSome (kind_of column) }
         ensures { result ≡ has_column self.now column }
     {
-        self.has[index_of(column)]
+        self.has[place_of(column.table)][column.place]
     }
 
     /// Adds a column.
@@ -48,15 +51,23 @@ impl ColumnSet {
         ensures { (other : Column) → IsSome (kind_of other)
             → has_column self.new other ≡ (has_column self.old other || is_column other column) }
     {
-        self.has[index_of(column)] = true;
+        set_flag(&mut self.has[place_of(column.table)], column.place);
     }
 }
 
-/// Where the flag of a column stands.
-fn index_of(column: Column) -> usize
-    requires { IsSome (kind_of column) }
-    ensures same { result ≡ index_of column }
-    ensures within { result < 108 }
+/// Sets the flag at a place.
+fn set_flag(flags: &mut [bool; MAX_COLUMNS], place: usize)
+    requires { place < MAX_COLUMNS }
+    ensures set { flags.new ≡ slice_set flags.old place true }
+    ensures many { length flags.old ≡ MAX_COLUMNS }
 {
-    column.table as usize * 12 + column.place
+    flags[place] = true;
+}
+
+/// The place of a table among all.
+fn place_of(table: Table) -> usize
+    ensures same { result ≡ place_of table }
+    ensures few { result < TABLES }
+{
+    table as usize
 }

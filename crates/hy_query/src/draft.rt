@@ -16,9 +16,9 @@ use crate::names::{column_among, table_named};
 use crate::outline::Outline;
 use crate::parse::{Aggregate, Next};
 use crate::query::{Comparison, Condition, Operand, Query, SelectItem, SortKey};
-use crate::value::Value;
 use crate::words::{aggregate_named, comparison_named, operand_of};
 use hy_decimal::number;
+use hy_rows::Value;
 use hy_schema::Refusal;
 use std::alloc::Global;
 

@@ -11,10 +11,9 @@ mod parse;
 mod query;
 mod tables;
 mod tokens;
-mod value;
 mod words;
 
 pub use column::{Column, Kind};
+pub use hy_rows::{Letters, Value};
 pub use parse::parse_query;
 pub use query::{Comparison, Condition, Operand, Query, SelectItem, SortKey};
-pub use value::{Letters, Value};

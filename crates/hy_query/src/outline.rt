@@ -11,7 +11,7 @@ use crate::column::Column;
 use crate::column_set::ColumnSet;
 use crate::query::SelectItem;
 use crate::tables::Tables;
-use hy_schema::Table;
+use hy_rows::Table;
 
 /// What the rest of a text asks about its beginning: which tables, groups and items there are.
 #[derive(Debug, Drop)]

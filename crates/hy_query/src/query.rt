@@ -4,8 +4,7 @@ ghost use Rattle.std.specs.Prelude.{◌≡◌};
 ghost use Rattle.hy_query.specs.Queries.{IsQuery};
 
 use crate::column::Column;
-use crate::value::Value;
-use hy_schema::Table;
+use hy_rows::{Table, Value};
 use std::marker::Model;
 
 /// How two values are compared.

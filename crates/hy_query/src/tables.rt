@@ -2,7 +2,7 @@
 
 ghost use Rattle.std.specs.Prelude.{◌≡◌, ◌<◌, [], ◌∷◌, ◌++◌, length};
 
-use hy_schema::Table;
+use hy_rows::Table;
 use std::marker::Model;
 
 /// At most four tables. They take no memory of an allocator.
@@ -15,7 +15,7 @@ pub(crate) struct Tables {
 // Clauses see the list.
 impl Model for Tables {
     ghost use Rattle.std.specs.Prelude.{List, ◌≤◌, take};
-    ghost use Rattle.hy_schema.specs.declared.refusal.Table.{Table};
+    ghost use Rattle.hy_rows.specs.declared.catalogue.Table.{Table};
 
     ghost Value = { List Table };
 

@@ -6,9 +6,8 @@ ghost use Rattle.hy_query.specs.Language.{aggregate_named, comparison_named, kin
 use crate::names::column_among;
 use crate::parse::Aggregate;
 use crate::query::{Comparison, Operand};
-use crate::value::{Letters, Value};
 use hy_decimal::number;
-use hy_schema::Table;
+use hy_rows::{Letters, Table, Value};
 
 /// The comparison with a sign.
 pub(crate) fn comparison_named(word: &[u8]) -> Option<Comparison>

@@ -7,7 +7,7 @@ use Rattle.std.proofs.lemmas.List.{append-nil, drop-append-le, drop-drop, drop-s
 use Rattle.std.proofs.lemmas.List.Folds.{concat-append}
 use Rattle.hy_page.specs.Bytes.{bytes_at, bytes_of, overwritten}
 use Rattle.hy_page.proofs.ByteLaws.{field_written}
-use Rattle.hy_rows.specs.Rows.{number_at}
+use Rattle.hy_rows.specs.Columns.{number_at}
 use Rattle.hy_rows.specs.Spelling.{list_at, slot_at, slot_bytes, slot_width, slots_per_page, used_slots}
 use Rattle.hy_relation.specs.inside.Addresses.{CountsSlots, GrowsSlots, WritesSlot, slot_offset, slot_page}
 

@@ -1,7 +1,8 @@
 -- Where only the segment of one table changes, only its rows do.
 use Rattle.std.proofs.Common.{◌≡◌, ◌≢◌, ℕ, zero, suc, ◌<◌, ◌≤◌, List, ◌∷◌, Some, length, set, inl, inr, refl, sym, subst, ap, ◌∙◌, ap₂, arith, lit≤}
 use Rattle.std.proofs.lemmas.Bool.{cases_eq}
-use Rattle.hy_rows.specs.Spelling.{HasSlots, HasTables, IsTable, list_at, rows_of, segments, tables_of}
+use Rattle.hy_rows.specs.Spelling.{HasSlots, HasTables, IsTable, list_at, rows_of, tables_of}
+use Rattle.hy_rows.specs.Catalogue.{segments}
 use Rattle.hy_rows.specs.Tables.{Tables}
 use Rattle.hy_rows.specs.inside.Places.{by_places, items}
 use Rattle.hy_relation.specs.Relation.{ChangesSegment}

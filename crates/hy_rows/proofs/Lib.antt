@@ -1,8 +1,11 @@
 pub mod TextLaws
 pub mod BetweenLaws
+pub mod ListLaws
 pub mod ColumnLaws
+pub mod CatalogueLaws
 pub mod RowLaws
+pub mod RangeLaws
+pub mod RecordLaws
 pub mod ChangedRows
 pub mod FirstItems
 pub mod PrintableLaws
-pub mod WorkedRanges

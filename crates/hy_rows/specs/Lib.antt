@@ -1,9 +1,14 @@
 pub mod Limits
 pub mod Texts
-pub mod Rows
 pub mod Ranges
+pub mod Columns
+pub mod Catalogue
+pub mod Rows
+pub mod Records
 pub mod Tables
 pub mod Finding
 pub mod Spelling
+pub mod WorkedCatalogue
 pub mod WorkedRows
+pub mod WorkedRanges
 pub mod inside

@@ -2,44 +2,15 @@
 -- a segment, and others may follow them. Page 0 of a segment begins with the number of used slots in eight bytes; the
 -- slots lie in the bytes of the pages from 1 on, joined, as many in those of each page as fit it. A slot is a mark,
 -- 1 for a live row and 0 for an erased one, and the bytes of the row.
-use Rattle.std.specs.Prelude.{◌≡◌, ℕ, ◌+◌, ◌-◌, ◌*◌, ◌/◌, ◌%◌, ◌<◌, ◌≤◌, ◌==◌, Bool, if◌then◌else◌, Option, None, Some, option_to_list, List, [], ◌∷◌, ◌++◌, length, drop, slice_get, slice_index, slice_index_or, zero, suc}
+use Rattle.std.specs.Prelude.{◌≡◌, ℕ, ◌+◌, ◌-◌, ◌*◌, ◌/◌, ◌%◌, ◌<◌, ◌≤◌, ◌==◌, Bool, if◌then◌else◌, Option, None, Some, option_to_list, List, [], ◌∷◌, ◌++◌, length, drop, slice_get, slice_index_or, zero, suc}
 use Rattle.std.specs.List.{concat, flat_map}
 use Rattle.hy_page.specs.Bytes.{bytes_at}
-use Rattle.hy_rows.specs.Rows.{number_at, warehouse_of, district_of, customer_of, history_of, new_order_of, order_of, order_line_of, stock_of}
+use Rattle.hy_rows.specs.Catalogue.{columns_of, row_widths, segment_of, segments}
+use Rattle.hy_rows.specs.declared.catalogue.Table.{Table}
+use Rattle.hy_rows.specs.declared.catalogue.Table.TheVariants as tables
+use Rattle.hy_rows.specs.Columns.{number_at, row_width}
+use Rattle.hy_rows.specs.Rows.{warehouse_of, district_of, customer_of, history_of, new_order_of, order_of, order_line_of, stock_of}
 use Rattle.hy_rows.specs.Tables.{Tables}
-
--- the segment of each table
-abbrev pub warehouse_segment : ℕ
-warehouse_segment = 0
-
-abbrev pub district_segment : ℕ
-district_segment = 1
-
-abbrev pub customer_segment : ℕ
-customer_segment = 2
-
-abbrev pub history_segment : ℕ
-history_segment = 3
-
-abbrev pub new_order_segment : ℕ
-new_order_segment = 4
-
-abbrev pub order_segment : ℕ
-order_segment = 5
-
-abbrev pub order_line_segment : ℕ
-order_line_segment = 6
-
-abbrev pub stock_segment : ℕ
-stock_segment = 7
-
--- how many bytes a row of each table has, by segment
-abbrev pub row_widths : List ℕ
-row_widths = 21 ∷ 26 ∷ 74 ∷ 46 ∷ 6 ∷ 19 ∷ 29 ∷ 31 ∷ []
-
--- how many segments hold the tables; others may follow them
-abbrev pub segments : ℕ
-segments = length row_widths
 
 -- a segment is that of a table whose rows have so many bytes
 abbrev pub IsTable : ℕ → ℕ → Type 0
@@ -104,21 +75,21 @@ pub record HasSlots (n row_bytes : ℕ) (pages : List (List ℕ)) : Type 0 where
   pub first : 0 < length pages
   pub slots : used_slots pages ≤ slots_per_page n row_bytes * (length pages - 1)
 
--- the rows of one segment of a page table
-abbrev pub segment_rows : {Row : Type 0} → ℕ → List (List (List ℕ)) → ℕ → (List ℕ → Row) → List Row
-segment_rows n bytes segment row_of = rows_of n (slice_index row_widths segment) row_of (list_at bytes segment)
+-- the rows of a table, of the segment that is its own
+abbrev pub table_rows : {Row : Type 0} → ℕ → List (List (List ℕ)) → Table → (List ℕ → Row) → List Row
+table_rows n bytes table row_of = rows_of n (row_width (columns_of table)) row_of (list_at bytes (segment_of table))
 
 -- the rows that the bytes of a page table say
 abbrev pub tables_of : ℕ → List (List (List ℕ)) → Tables
 tables_of n bytes = record {
-  warehouses = segment_rows n bytes warehouse_segment warehouse_of;
-  districts = segment_rows n bytes district_segment district_of;
-  customers = segment_rows n bytes customer_segment customer_of;
-  history = segment_rows n bytes history_segment history_of;
-  new_orders = segment_rows n bytes new_order_segment new_order_of;
-  orders = segment_rows n bytes order_segment order_of;
-  order_lines = segment_rows n bytes order_line_segment order_line_of;
-  stock = segment_rows n bytes stock_segment stock_of;
+  warehouses = table_rows n bytes tables.Warehouse warehouse_of;
+  districts = table_rows n bytes tables.District district_of;
+  customers = table_rows n bytes tables.Customer customer_of;
+  history = table_rows n bytes tables.History history_of;
+  new_orders = table_rows n bytes tables.NewOrder new_order_of;
+  orders = table_rows n bytes tables.Order order_of;
+  order_lines = table_rows n bytes tables.OrderLine order_line_of;
+  stock = table_rows n bytes tables.Stock stock_of;
 }
 
 -- each table's segment is there, with its slots

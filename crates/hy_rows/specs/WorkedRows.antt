@@ -1,7 +1,7 @@
--- Worked examples, which the checker computes: a fresh load of one warehouse with three customers in each district, the
--- bytes of one row of each table on pages, and a small page table.
-use Rattle.std.specs.Prelude.{◌≡◌, ℕ, pos, negsuc, ◌*◌, ◌<◌, List, [], ◌∷◌, ◌++◌, map, replicate, codes, refl}
-use Rattle.std.specs.List.{flat_map}
+-- Worked examples, which the checker computes: a fresh load of one warehouse with three customers in each district, where
+-- columns lie in rows, the bytes of one row of each table on pages, and a small page table.
+use Rattle.std.specs.Prelude.{◌≡◌, ℕ, pos, negsuc, ◌*◌, ◌<◌, List, [], ◌∷◌, ◌++◌, length, map, replicate, codes, refl}
+use Rattle.std.specs.List.{flat_map, range_with_len}
 use Rattle.std.proofs.Common.{subst, sym, zero, suc, Some, arith, lit<, lit≤}
 use Rattle.std.proofs.lemmas.List.{get_or-replicate}
 use Rattle.hy_rows.specs.declared.warehouse.Warehouse.{Warehouse}
@@ -14,8 +14,12 @@ use Rattle.hy_rows.specs.declared.order_line.OrderLine.{OrderLine}
 use Rattle.hy_rows.specs.declared.stock.Stock.{Stock}
 use Rattle.hy_rows.specs.Texts.{text_of, padded}
 use Rattle.hy_rows.specs.Rows.{warehouse_bytes, warehouse_of, district_bytes, district_of, customer_bytes, customer_of, history_bytes, history_of, new_order_bytes, new_order_of, order_bytes, order_of, order_line_bytes, order_line_of, stock_bytes, stock_of}
-use Rattle.hy_rows.specs.Tables.{Tables, no_rows, of_warehouse}
-use Rattle.hy_rows.specs.Spelling.{HasSlots, IsTable, Spells, list_at, segments, slots_per_page, rows_of, used_slots}
+use Rattle.hy_rows.specs.Tables.{Tables, all_of, no_rows, of_warehouse, row_counts, values_of}
+use Rattle.hy_rows.specs.declared.catalogue.Table.TheVariants as tables
+use Rattle.hy_rows.specs.declared.value.Value.TheVariants.{Text, Whole}
+use Rattle.hy_rows.specs.Spelling.{HasSlots, IsTable, Spells, list_at, slots_per_page, rows_of, used_slots}
+use Rattle.hy_rows.specs.Catalogue.{all_tables, columns_of, row_widths, segments}
+use Rattle.hy_rows.specs.Columns.{offset_of}
 use Rattle.hy_rows.specs.inside.Places.{segment_there}
 
 -- the warehouse of the fresh load
@@ -100,6 +104,23 @@ two-of_warehouse_1 = refl
 
 pub two-of_warehouse_2 : of_warehouse 2 two_warehouses ≡ second
 two-of_warehouse_2 = refl
+
+-- how many columns each table has
+pub tables-columns : map (λ table. length (columns_of table)) all_tables ≡ 4 ∷ 6 ∷ 12 ∷ 8 ∷ 3 ∷ 8 ∷ 9 ∷ 6 ∷ 4 ∷ []
+tables-columns = refl
+
+-- how many bytes a row of each table on pages has
+pub tables-widths : row_widths ≡ 21 ∷ 26 ∷ 74 ∷ 46 ∷ 6 ∷ 19 ∷ 29 ∷ 31 ∷ []
+tables-widths = refl
+
+-- where columns begin in the bytes of a row
+pub customer-offsets : map (offset_of (columns_of tables.Customer)) (range_with_len 0 12)
+    ≡ 0 ∷ 2 ∷ 3 ∷ 4 ∷ 20 ∷ 22 ∷ 38 ∷ 40 ∷ 42 ∷ 50 ∷ 58 ∷ 66 ∷ []
+customer-offsets = refl
+
+pub order_line-offsets : map (offset_of (columns_of tables.OrderLine)) (range_with_len 0 9)
+    ≡ 0 ∷ 4 ∷ 5 ∷ 6 ∷ 7 ∷ 11 ∷ 12 ∷ 20 ∷ 21 ∷ []
+order_line-offsets = refl
 
 -- a text ends before the first zero byte of its field
 pub text-ends : text_of (65 ∷ 66 ∷ 0 ∷ 67 ∷ []) ≡ codes "AB"
@@ -272,6 +293,32 @@ some-of_warehouse_4 = refl
 
 pub some-of_warehouse_10 : of_warehouse 10 some_rows ≡ record no_rows { stock = some_stock ∷ [] }
 some-of_warehouse_10 = refl
+
+-- the rows of two warehouses are those of each, one behind the other
+pub two-all_of : all_of (fresh ∷ second ∷ []) ≡ two_warehouses
+two-all_of = refl
+
+pub some-all_of : all_of (some_rows ∷ some_rows ∷ []) ≡ record no_rows {
+  history = some_history ∷ some_history ∷ [];
+  new_orders = some_new_order ∷ some_new_order ∷ [];
+  orders = some_order ∷ some_order ∷ [];
+  order_lines = some_order_line ∷ some_order_line ∷ [];
+  stock = some_stock ∷ some_stock ∷ [];
+}
+some-all_of = refl
+
+-- how many rows each table has
+pub two-row_counts : row_counts two_warehouses ≡ 2 ∷ 20 ∷ 60 ∷ 0 ∷ 0 ∷ 0 ∷ 0 ∷ 0 ∷ []
+two-row_counts = refl
+
+pub some-row_counts : row_counts some_rows ≡ 0 ∷ 0 ∷ 0 ∷ 1 ∷ 1 ∷ 1 ∷ 1 ∷ 1 ∷ []
+some-row_counts = refl
+
+-- a row of each kind of value, as its values
+pub history-values : values_of (record { items = []; tables = some_rows }) tables.History
+    ≡ (Whole (pos 2) ∷ Whole (pos 3) ∷ Whole (pos 4) ∷ Whole (pos 5) ∷ Whole (pos 6) ∷ Whole (pos 1_700_000_000)
+    ∷ Whole (negsuc 299) ∷ Text (codes "W6    D5") ∷ []) ∷ []
+history-values = refl
 
 -- two slots of a warehouse lie on a page of 64 bytes
 pub page-slots : slots_per_page 64 21 ≡ 2

@@ -3,15 +3,13 @@
 ghost use Rattle.std.specs.Prelude.{◌≡◌, ◌+◌, ◌^◌, ◌<◌, ◌≤◌, ◌++◌, length};
 ghost use Rattle.arrayvec.specs.ArrayVec.{array_vec_len};
 ghost use Rattle.hy_page.specs.Bytes.{bytes_of};
-ghost use Rattle.hy_rows.specs.Rows.{number_at, signed_at, text_at, signed_bytes};
+ghost use Rattle.hy_rows.specs.Columns.{number_at, signed_at, text_at, signed_bytes};
 ghost use Rattle.hy_rows.specs.Texts.{IsText, padded};
 
+use crate::catalogue::MAX_SLOT_BYTES;
 use crate::text::Text;
 use arrayvec::ArrayVec;
 use hy_page::number;
-
-/// The greatest slot: its mark, and the bytes of a CUSTOMER row.
-pub const MAX_SLOT_BYTES: usize = 75;
 
 /// The bytes of a slot, as they are put together.
 pub type SlotBytes = ArrayVec<u8, MAX_SLOT_BYTES>;

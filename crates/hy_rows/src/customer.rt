@@ -1,16 +1,13 @@
 //! Rows of CUSTOMER.
 
-ghost use Rattle.std.specs.Prelude.{◌≤◌, ◌↔◌, IsTrue};
-ghost use Rattle.hy_rows.specs.Ranges.{IsCredit};
-
+use crate::catalogue::{CUSTOMER, Table};
 use crate::codec::{
     SlotBytes, push_number, push_signed, push_text, read_number, read_signed, read_text,
 };
-use crate::district::DISTRICTS_PER_WAREHOUSE;
+use crate::record::{Record, ValueSink, ValueSource};
 use crate::row::Row;
 use crate::tables::Tables;
 use crate::text::Text;
-use crate::warehouse::{MAX_RATE, MAX_WAREHOUSES, is_loaded_money};
 
 /// The greatest C_ID (TPC-C clause 1.2.1).
 pub const MAX_CUSTOMERS: u16 = 3_000;
@@ -45,6 +42,70 @@ pub struct Customer {
     pub payment_count: u64,
     /// C_DELIVERY_CNT.
     pub delivery_count: u64,
+}
+
+impl Record for Customer {
+    ghost use Rattle.std.proofs.Common.{refl};
+    ghost use Rattle.hy_rows.specs.declared.catalogue.Table.TheVariants as tables;
+    ghost use Rattle.hy_rows.specs.Rows.{customer_values, customer_with};
+
+    const TABLE: Table = Table::Customer;
+
+    ghost TABLE = { tables.Customer };
+
+    ghost values_of = { customer_values };
+
+    ghost row_with = { customer_with };
+
+    fn put<S: ValueSink>(&self, sink: &mut S) -> Result<(), S::Refused> {
+        let [
+            id,
+            district,
+            warehouse,
+            first,
+            middle,
+            last,
+            credit,
+            discount,
+            balance,
+            ytd_payment,
+            payment_count,
+            delivery_count,
+        ] = CUSTOMER;
+        sink.u16(id, self.id)?;
+        sink.u8(district, self.district)?;
+        sink.u8(warehouse, self.warehouse)?;
+        sink.text(first, self.first.as_bytes())?;
+        sink.text(middle, self.middle.as_bytes())?;
+        sink.text(last, self.last.as_bytes())?;
+        sink.text(credit, self.credit.as_bytes())?;
+        sink.u16(discount, self.discount)?;
+        sink.i64(balance, self.balance)?;
+        sink.i64(ytd_payment, self.ytd_payment)?;
+        sink.u64(payment_count, self.payment_count)?;
+        sink.u64(delivery_count, self.delivery_count)
+    }
+
+    fn take<S: ValueSource>(source: &S) -> Option<Customer> {
+        Some(Customer {
+            id: source.u16(0)?,
+            district: source.u8(1)?,
+            warehouse: source.u8(2)?,
+            first: Text::of_bytes(source.text(3, 16)?),
+            middle: Text::of_bytes(source.text(4, 2)?),
+            last: Text::of_bytes(source.text(5, 16)?),
+            credit: Text::of_bytes(source.text(6, 2)?),
+            discount: source.u16(7)?,
+            balance: source.i64(8)?,
+            ytd_payment: source.i64(9)?,
+            payment_count: source.u64(10)?,
+            delivery_count: source.u64(11)?,
+        })
+    }
+
+    ghost has_all = { λ row. refl };
+
+    ghost same_row = { λ row. refl };
 }
 
 impl Row for Customer {
@@ -122,6 +183,8 @@ impl Row for Customer {
 
     ghost last_rows = { λ tables rows others. refl };
 
+    ghost joined_rows = { λ several. refl };
+
     ghost spelled = { λ n bytes. refl };
 
     ghost respelled = { λ n bytes pages whole. by_places (λ all. tables_of n (slice_set all 2 pages)
@@ -129,8 +192,6 @@ impl Row for Customer {
 }
 
 impl Customer {
-    ghost use Rattle.hy_rows.specs.Limits.{districts_per_warehouse, max_count, max_customers, max_warehouses};
-    ghost use Rattle.hy_rows.specs.Ranges.{IsBetween, IsRate, IsLoadedMoney, IsLoadedText, IsCredit, IsCustomerInRange};
     ghost use Rattle.std.specs.Prelude.{◌≡◌, length};
     ghost use Rattle.hy_rows.specs.Rows.{customer_of};
 
@@ -149,54 +210,4 @@ impl Customer {
     {
         read_number(bytes, 40, 2) as u16
     }
-
-    /// Whether each column has a value that a load may have.
-    pub fn is_in_range(&self) -> bool
-        ensures { IsTrue result ↔ IsCustomerInRange self.now }
-    {
-        self.has_key_in_range() && self.has_texts_in_range() && self.has_numbers_in_range()
-    }
-
-    /// Whether C_ID, C_D_ID and C_W_ID are in range.
-    fn has_key_in_range(&self) -> bool
-        ensures { IsTrue result
-            ↔ (IsBetween 1 max_customers self.now.id × IsBetween 1 districts_per_warehouse self.now.district
-            × IsBetween 1 max_warehouses self.now.warehouse) }
-    {
-        (1..=MAX_CUSTOMERS).contains(&self.id)
-            && (1..=DISTRICTS_PER_WAREHOUSE).contains(&self.district)
-            && (1..=MAX_WAREHOUSES).contains(&self.warehouse)
-    }
-
-    /// Whether the names and C_CREDIT are in range.
-    fn has_texts_in_range(&self) -> bool
-        ensures { IsTrue result
-            ↔ (IsLoadedText 16 self.now.first × IsLoadedText 2 self.now.middle × IsLoadedText 16 self.now.last
-            × IsCredit self.now.credit) }
-    {
-        self.first.is_printable()
-            && self.middle.is_printable()
-            && self.last.is_printable()
-            && is_credit(&self.credit)
-    }
-
-    /// Whether C_DISCOUNT, the amounts and the counts are in range.
-    fn has_numbers_in_range(&self) -> bool
-        ensures { IsTrue result
-            ↔ (IsRate self.now.discount × IsLoadedMoney self.now.balance × IsLoadedMoney self.now.ytd_payment
-            × (self.now.payment_count ≤ max_count) × (self.now.delivery_count ≤ max_count)) }
-    {
-        self.discount <= MAX_RATE
-            && is_loaded_money(self.balance)
-            && is_loaded_money(self.ytd_payment)
-            && self.payment_count <= MAX_COUNT
-            && self.delivery_count <= MAX_COUNT
-    }
-}
-
-/// Whether a text is `GC` or `BC`.
-fn is_credit(text: &Text<2>) -> bool
-    ensures { IsTrue result ↔ IsCredit text.now }
-{
-    text.as_bytes() == b"GC".as_slice() || text.as_bytes() == b"BC".as_slice()
 }

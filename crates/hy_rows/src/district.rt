@@ -1,14 +1,13 @@
 //! Rows of DISTRICT.
 
-ghost use Rattle.std.specs.Prelude.{◌↔◌, IsTrue};
-
+use crate::catalogue::{DISTRICT, Table};
 use crate::codec::{
     SlotBytes, push_number, push_signed, push_text, read_number, read_signed, read_text,
 };
+use crate::record::{Record, ValueSink, ValueSource};
 use crate::row::Row;
 use crate::tables::Tables;
 use crate::text::Text;
-use crate::warehouse::{MAX_RATE, MAX_WAREHOUSES, is_loaded_money};
 
 /// How many districts a warehouse has (TPC-C clause 1.2.1).
 pub const DISTRICTS_PER_WAREHOUSE: u8 = 10;
@@ -31,6 +30,45 @@ pub struct District {
     pub ytd: i64,
     /// D_NEXT_O_ID.
     pub next_order: u32,
+}
+
+impl Record for District {
+    ghost use Rattle.std.proofs.Common.{refl};
+    ghost use Rattle.hy_rows.specs.declared.catalogue.Table.TheVariants as tables;
+    ghost use Rattle.hy_rows.specs.Rows.{district_values, district_with};
+
+    const TABLE: Table = Table::District;
+
+    ghost TABLE = { tables.District };
+
+    ghost values_of = { district_values };
+
+    ghost row_with = { district_with };
+
+    fn put<S: ValueSink>(&self, sink: &mut S) -> Result<(), S::Refused> {
+        let [id, warehouse, name, tax, ytd, next_order] = DISTRICT;
+        sink.u8(id, self.id)?;
+        sink.u8(warehouse, self.warehouse)?;
+        sink.text(name, self.name.as_bytes())?;
+        sink.u16(tax, self.tax)?;
+        sink.i64(ytd, self.ytd)?;
+        sink.u32(next_order, self.next_order)
+    }
+
+    fn take<S: ValueSource>(source: &S) -> Option<District> {
+        Some(District {
+            id: source.u8(0)?,
+            warehouse: source.u8(1)?,
+            name: Text::of_bytes(source.text(2, 10)?),
+            tax: source.u16(3)?,
+            ytd: source.i64(4)?,
+            next_order: source.u32(5)?,
+        })
+    }
+
+    ghost has_all = { λ row. refl };
+
+    ghost same_row = { λ row. refl };
 }
 
 impl Row for District {
@@ -96,6 +134,8 @@ impl Row for District {
 
     ghost last_rows = { λ tables rows others. refl };
 
+    ghost joined_rows = { λ several. refl };
+
     ghost spelled = { λ n bytes. refl };
 
     ghost respelled = { λ n bytes pages whole. by_places (λ all. tables_of n (slice_set all 1 pages)
@@ -103,8 +143,6 @@ impl Row for District {
 }
 
 impl District {
-    ghost use Rattle.hy_rows.specs.Limits.{districts_per_warehouse, max_order, max_warehouses};
-    ghost use Rattle.hy_rows.specs.Ranges.{IsBetween, IsRate, IsLoadedMoney, IsLoadedText, IsDistrictInRange};
     ghost use Rattle.std.specs.Prelude.{◌≡◌, length};
     ghost use Rattle.hy_rows.specs.Rows.{district_of};
 
@@ -122,33 +160,5 @@ impl District {
         ensures { result ≡ (district_of bytes.now).next_order }
     {
         read_number(bytes, 22, 4) as u32
-    }
-
-    /// Whether each column has a value that a load may have.
-    pub fn is_in_range(&self) -> bool
-        ensures { IsTrue result ↔ IsDistrictInRange self.now }
-    {
-        self.has_key_in_range() && self.has_columns_in_range()
-    }
-
-    /// Whether D_ID and D_W_ID are in range.
-    fn has_key_in_range(&self) -> bool
-        ensures { IsTrue result ↔ (IsBetween 1 districts_per_warehouse self.now.id
-            × IsBetween 1 max_warehouses self.now.warehouse) }
-    {
-        (1..=DISTRICTS_PER_WAREHOUSE).contains(&self.id)
-            && (1..=MAX_WAREHOUSES).contains(&self.warehouse)
-    }
-
-    /// Whether the columns behind the key are in range.
-    fn has_columns_in_range(&self) -> bool
-        ensures { IsTrue result
-            ↔ (IsLoadedText 10 self.now.name × IsRate self.now.tax × IsLoadedMoney self.now.ytd
-            × IsBetween 1 max_order self.now.next_order) }
-    {
-        self.name.is_printable()
-            && self.tax <= MAX_RATE
-            && is_loaded_money(self.ytd)
-            && (1..=MAX_ORDER).contains(&self.next_order)
     }
 }

@@ -1,17 +1,13 @@
 //! Rows of HISTORY.
 
-ghost use Rattle.std.specs.Prelude.{◌↔◌, IsTrue};
-ghost use Rattle.hy_rows.specs.Ranges.{HasHistoryKey};
-
+use crate::catalogue::{HISTORY, Table};
 use crate::codec::{
     SlotBytes, push_number, push_signed, push_text, read_number, read_signed, read_text,
 };
-use crate::customer::MAX_CUSTOMERS;
-use crate::district::DISTRICTS_PER_WAREHOUSE;
+use crate::record::{Record, ValueSink, ValueSource};
 use crate::row::Row;
 use crate::tables::Tables;
 use crate::text::Text;
-use crate::warehouse::{MAX_WAREHOUSES, is_loaded_money};
 
 /// The last moment.
 pub const MAX_MOMENT: u64 = 1_000_000_000_000_000;
@@ -35,6 +31,58 @@ pub struct History {
     pub amount: i64,
     /// H_DATA.
     pub information: Text<24>,
+}
+
+impl Record for History {
+    ghost use Rattle.std.proofs.Common.{refl};
+    ghost use Rattle.hy_rows.specs.declared.catalogue.Table.TheVariants as tables;
+    ghost use Rattle.hy_rows.specs.Rows.{history_values, history_with};
+
+    const TABLE: Table = Table::History;
+
+    ghost TABLE = { tables.History };
+
+    ghost values_of = { history_values };
+
+    ghost row_with = { history_with };
+
+    fn put<S: ValueSink>(&self, sink: &mut S) -> Result<(), S::Refused> {
+        let [
+            customer,
+            customer_district,
+            customer_warehouse,
+            district,
+            warehouse,
+            date,
+            amount,
+            information,
+        ] = HISTORY;
+        sink.u16(customer, self.customer)?;
+        sink.u8(customer_district, self.customer_district)?;
+        sink.u8(customer_warehouse, self.customer_warehouse)?;
+        sink.u8(district, self.district)?;
+        sink.u8(warehouse, self.warehouse)?;
+        sink.u64(date, self.date)?;
+        sink.i64(amount, self.amount)?;
+        sink.text(information, self.information.as_bytes())
+    }
+
+    fn take<S: ValueSource>(source: &S) -> Option<History> {
+        Some(History {
+            customer: source.u16(0)?,
+            customer_district: source.u8(1)?,
+            customer_warehouse: source.u8(2)?,
+            district: source.u8(3)?,
+            warehouse: source.u8(4)?,
+            date: source.u64(5)?,
+            amount: source.i64(6)?,
+            information: Text::of_bytes(source.text(7, 24)?),
+        })
+    }
+
+    ghost has_all = { λ row. refl };
+
+    ghost same_row = { λ row. refl };
 }
 
 impl Row for History {
@@ -104,34 +152,10 @@ impl Row for History {
 
     ghost last_rows = { λ tables rows others. refl };
 
+    ghost joined_rows = { λ several. refl };
+
     ghost spelled = { λ n bytes. refl };
 
     ghost respelled = { λ n bytes pages whole. by_places (λ all. tables_of n (slice_set all 3 pages)
         ≡ record (tables_of n all) { history = rows_of n 46 history_of pages }) bytes whole refl };
-}
-
-impl History {
-    ghost use Rattle.hy_rows.specs.Limits.{districts_per_warehouse, max_customers, max_warehouses};
-    ghost use Rattle.hy_rows.specs.Ranges.{IsBetween, IsHistoryInRange};
-
-    /// Whether each column has a value that a load may have.
-    pub fn is_in_range(&self) -> bool
-        ensures { IsTrue result ↔ IsHistoryInRange self.now }
-    {
-        self.has_key_in_range()
-            && (1..=MAX_MOMENT).contains(&self.date)
-            && is_loaded_money(self.amount)
-            && self.information.is_printable()
-    }
-
-    /// Whether the numbers of the customer, of the district and of their warehouses are in range.
-    fn has_key_in_range(&self) -> bool
-        ensures { IsTrue result ↔ HasHistoryKey self.now }
-    {
-        (1..=MAX_CUSTOMERS).contains(&self.customer)
-            && (1..=DISTRICTS_PER_WAREHOUSE).contains(&self.customer_district)
-            && (1..=MAX_WAREHOUSES).contains(&self.customer_warehouse)
-            && (1..=DISTRICTS_PER_WAREHOUSE).contains(&self.district)
-            && (1..=MAX_WAREHOUSES).contains(&self.warehouse)
-    }
 }

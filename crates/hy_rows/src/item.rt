@@ -1,8 +1,8 @@
 //! Rows of ITEM. Loads list them, and no pages hold them.
 
-ghost use Rattle.std.specs.Prelude.{◌↔◌, IsTrue};
-
+use crate::catalogue::{ITEM, Table};
 use crate::lists::Lists;
+use crate::record::{Record, ValueSink, ValueSource};
 use crate::row::{Listed, Source};
 use crate::text::Text;
 use std::alloc::AllocError;
@@ -29,6 +29,41 @@ pub struct Item {
     pub price: u32,
 }
 
+impl Record for Item {
+    ghost use Rattle.std.proofs.Common.{refl};
+    ghost use Rattle.hy_rows.specs.declared.catalogue.Table.TheVariants as tables;
+    ghost use Rattle.hy_rows.specs.Rows.{item_values, item_with};
+
+    const TABLE: Table = Table::Item;
+
+    ghost TABLE = { tables.Item };
+
+    ghost values_of = { item_values };
+
+    ghost row_with = { item_with };
+
+    fn put<S: ValueSink>(&self, sink: &mut S) -> Result<(), S::Refused> {
+        let [id, image, name, price] = ITEM;
+        sink.u32(id, self.id)?;
+        sink.u32(image, self.image)?;
+        sink.text(name, self.name.as_bytes())?;
+        sink.u32(price, self.price)
+    }
+
+    fn take<S: ValueSource>(source: &S) -> Option<Item> {
+        Some(Item {
+            id: source.u32(0)?,
+            image: source.u32(1)?,
+            name: Text::of_bytes(source.text(2, 24)?),
+            price: source.u32(3)?,
+        })
+    }
+
+    ghost has_all = { λ row. refl };
+
+    ghost same_row = { λ row. refl };
+}
+
 impl Listed for Item {
     ghost list_in = { λ lists. lists.items };
 
@@ -38,19 +73,5 @@ impl Listed for Item {
 
     fn copy_from<S: Source>(source: &S) -> Result<Vec<Item>, AllocError> {
         source.copy_items()
-    }
-}
-
-impl Item {
-    ghost use Rattle.hy_rows.specs.Ranges.{IsItemInRange};
-
-    /// Whether each column has a value that a load may have.
-    pub fn is_in_range(&self) -> bool
-        ensures { IsTrue result ↔ IsItemInRange self.now }
-    {
-        (1..=MAX_ITEMS).contains(&self.id)
-            && (1..=MAX_IMAGES).contains(&self.image)
-            && self.name.is_printable()
-            && (1..=MAX_PRICE).contains(&self.price)
     }
 }

@@ -1,7 +1,9 @@
 //! The rows of the order-entry database: their columns, their bytes in slots, and what the bytes of pages spell.
 #![tactic(auto)]
 
+mod catalogue;
 mod codec;
+mod column;
 mod customer;
 mod district;
 mod history;
@@ -10,13 +12,17 @@ mod lists;
 mod new_order;
 mod order;
 mod order_line;
+mod record;
 mod row;
 mod stock;
 mod tables;
 mod text;
+mod value;
 mod warehouse;
 
+pub use catalogue::{ALL_TABLES, MAX_COLUMNS, SEGMENTS, TABLES, TABLES_BY_FILE, Table};
 pub use codec::SlotBytes;
+pub use column::{ColumnDefinition, Domain, row_width};
 pub use customer::{Customer, MAX_COUNT, MAX_CUSTOMERS};
 pub use district::{DISTRICTS_PER_WAREHOUSE, District, MAX_ORDER};
 pub use history::{History, MAX_MOMENT};
@@ -25,8 +31,10 @@ pub use lists::Lists;
 pub use new_order::NewOrder;
 pub use order::{MAX_CARRIERS, MAX_LINES, MIN_LINES, Order};
 pub use order_line::{MAX_LINE_CENTS, MAX_QUANTITY, OrderLine};
-pub use row::{Listed, Row, SEGMENTS, Source};
+pub use record::{Never, Record, ValueSink, ValueSource};
+pub use row::{Listed, Row, RowSource, Source};
 pub use stock::{MAX_STOCK, Stock};
-pub use tables::Tables;
-pub use text::Text;
+pub use tables::{PerTable, Tables};
+pub use text::{Text, is_printable};
+pub use value::{Letters, Value};
 pub use warehouse::{MAX_CENTS, MAX_RATE, MAX_WAREHOUSES, Warehouse};

@@ -1,9 +1,8 @@
 //! Rows of NEW-ORDER.
 
-ghost use Rattle.std.specs.Prelude.{◌↔◌, IsTrue};
-
+use crate::catalogue::{NEW_ORDER, Table};
 use crate::codec::{SlotBytes, push_number, read_number};
-use crate::order::is_order_key;
+use crate::record::{Record, ValueSink, ValueSource};
 use crate::row::Row;
 use crate::tables::Tables;
 
@@ -16,6 +15,39 @@ pub struct NewOrder {
     pub district: u8,
     /// NO_W_ID, from 1 to `MAX_WAREHOUSES`.
     pub warehouse: u8,
+}
+
+impl Record for NewOrder {
+    ghost use Rattle.std.proofs.Common.{refl};
+    ghost use Rattle.hy_rows.specs.declared.catalogue.Table.TheVariants as tables;
+    ghost use Rattle.hy_rows.specs.Rows.{new_order_values, new_order_with};
+
+    const TABLE: Table = Table::NewOrder;
+
+    ghost TABLE = { tables.NewOrder };
+
+    ghost values_of = { new_order_values };
+
+    ghost row_with = { new_order_with };
+
+    fn put<S: ValueSink>(&self, sink: &mut S) -> Result<(), S::Refused> {
+        let [order, district, warehouse] = NEW_ORDER;
+        sink.u32(order, self.order)?;
+        sink.u8(district, self.district)?;
+        sink.u8(warehouse, self.warehouse)
+    }
+
+    fn take<S: ValueSource>(source: &S) -> Option<NewOrder> {
+        Some(NewOrder {
+            order: source.u32(0)?,
+            district: source.u8(1)?,
+            warehouse: source.u8(2)?,
+        })
+    }
+
+    ghost has_all = { λ row. refl };
+
+    ghost same_row = { λ row. refl };
 }
 
 impl Row for NewOrder {
@@ -75,19 +107,10 @@ impl Row for NewOrder {
 
     ghost last_rows = { λ tables rows others. refl };
 
+    ghost joined_rows = { λ several. refl };
+
     ghost spelled = { λ n bytes. refl };
 
     ghost respelled = { λ n bytes pages whole. by_places (λ all. tables_of n (slice_set all 4 pages)
         ≡ record (tables_of n all) { new_orders = rows_of n 6 new_order_of pages }) bytes whole refl };
-}
-
-impl NewOrder {
-    ghost use Rattle.hy_rows.specs.Ranges.{IsNewOrderInRange};
-
-    /// Whether each column has a value that a load may have.
-    pub fn is_in_range(&self) -> bool
-        ensures { IsTrue result ↔ IsNewOrderInRange self.now }
-    {
-        is_order_key(self.order, self.district, self.warehouse)
-    }
 }

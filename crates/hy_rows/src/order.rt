@@ -1,16 +1,10 @@
 //! Rows of ORDER.
 
-ghost use Rattle.std.specs.Prelude.{◌↔◌, IsTrue};
-ghost use Rattle.hy_rows.specs.Limits.{districts_per_warehouse, max_order, max_warehouses};
-ghost use Rattle.hy_rows.specs.Ranges.{IsBetween};
-
+use crate::catalogue::{ORDER, Table};
 use crate::codec::{SlotBytes, push_number, read_number};
-use crate::customer::MAX_CUSTOMERS;
-use crate::district::{DISTRICTS_PER_WAREHOUSE, MAX_ORDER};
-use crate::history::MAX_MOMENT;
+use crate::record::{Record, ValueSink, ValueSource};
 use crate::row::Row;
 use crate::tables::Tables;
-use crate::warehouse::MAX_WAREHOUSES;
 
 /// The greatest O_CARRIER_ID (TPC-C clause 2.7.1.2).
 pub const MAX_CARRIERS: u8 = 10;
@@ -39,6 +33,58 @@ pub struct Order {
     pub line_count: u8,
     /// O_ALL_LOCAL: 1 where the warehouse of the order supplies each line, else 0.
     pub all_local: u8,
+}
+
+impl Record for Order {
+    ghost use Rattle.std.proofs.Common.{refl};
+    ghost use Rattle.hy_rows.specs.declared.catalogue.Table.TheVariants as tables;
+    ghost use Rattle.hy_rows.specs.Rows.{order_values, order_with};
+
+    const TABLE: Table = Table::Order;
+
+    ghost TABLE = { tables.Order };
+
+    ghost values_of = { order_values };
+
+    ghost row_with = { order_with };
+
+    fn put<S: ValueSink>(&self, sink: &mut S) -> Result<(), S::Refused> {
+        let [
+            id,
+            district,
+            warehouse,
+            customer,
+            entry_date,
+            carrier,
+            line_count,
+            all_local,
+        ] = ORDER;
+        sink.u32(id, self.id)?;
+        sink.u8(district, self.district)?;
+        sink.u8(warehouse, self.warehouse)?;
+        sink.u16(customer, self.customer)?;
+        sink.u64(entry_date, self.entry_date)?;
+        sink.u8(carrier, self.carrier)?;
+        sink.u8(line_count, self.line_count)?;
+        sink.u8(all_local, self.all_local)
+    }
+
+    fn take<S: ValueSource>(source: &S) -> Option<Order> {
+        Some(Order {
+            id: source.u32(0)?,
+            district: source.u8(1)?,
+            warehouse: source.u8(2)?,
+            customer: source.u16(3)?,
+            entry_date: source.u64(4)?,
+            carrier: source.u8(5)?,
+            line_count: source.u8(6)?,
+            all_local: source.u8(7)?,
+        })
+    }
+
+    ghost has_all = { λ row. refl };
+
+    ghost same_row = { λ row. refl };
 }
 
 impl Row for Order {
@@ -108,35 +154,10 @@ impl Row for Order {
 
     ghost last_rows = { λ tables rows others. refl };
 
+    ghost joined_rows = { λ several. refl };
+
     ghost spelled = { λ n bytes. refl };
 
     ghost respelled = { λ n bytes pages whole. by_places (λ all. tables_of n (slice_set all 5 pages)
         ≡ record (tables_of n all) { orders = rows_of n 19 order_of pages }) bytes whole refl };
-}
-
-impl Order {
-    ghost use Rattle.hy_rows.specs.Ranges.{IsOrderInRange};
-
-    /// Whether each column has a value that a load may have.
-    pub fn is_in_range(&self) -> bool
-        ensures { IsTrue result ↔ IsOrderInRange self.now }
-    {
-        is_order_key(self.id, self.district, self.warehouse)
-            && (1..=MAX_CUSTOMERS).contains(&self.customer)
-            && (1..=MAX_MOMENT).contains(&self.entry_date)
-            && self.carrier <= MAX_CARRIERS
-            && (MIN_LINES..=MAX_LINES).contains(&self.line_count)
-            && self.all_local <= 1
-    }
-}
-
-/// Whether the numbers of an order, of its district and of its warehouse are in range.
-pub fn is_order_key(order: u32, district: u8, warehouse: u8) -> bool
-    ensures { IsTrue result
-        ↔ (IsBetween 1 max_order order × IsBetween 1 districts_per_warehouse district
-        × IsBetween 1 max_warehouses warehouse) }
-{
-    (1..=MAX_ORDER).contains(&order)
-        && (1..=DISTRICTS_PER_WAREHOUSE).contains(&district)
-        && (1..=MAX_WAREHOUSES).contains(&warehouse)
 }

@@ -1,14 +1,10 @@
 //! Rows of ORDER-LINE.
 
-ghost use Rattle.std.specs.Prelude.{◌↔◌, IsTrue};
-
+use crate::catalogue::{ORDER_LINE, Table};
 use crate::codec::{SlotBytes, push_number, push_signed, read_number, read_signed};
-use crate::history::MAX_MOMENT;
-use crate::item::MAX_ITEMS;
-use crate::order::{MAX_LINES, is_order_key};
+use crate::record::{Record, ValueSink, ValueSource};
 use crate::row::Row;
 use crate::tables::Tables;
-use crate::warehouse::MAX_WAREHOUSES;
 
 /// The greatest quantity of an order line (TPC-C clause 2.4.1.5).
 pub const MAX_QUANTITY: u8 = 10;
@@ -37,6 +33,61 @@ pub struct OrderLine {
     pub quantity: u8,
     /// OL_AMOUNT in cents, from 0 to `MAX_LINE_CENTS`.
     pub amount: i64,
+}
+
+impl Record for OrderLine {
+    ghost use Rattle.std.proofs.Common.{refl};
+    ghost use Rattle.hy_rows.specs.declared.catalogue.Table.TheVariants as tables;
+    ghost use Rattle.hy_rows.specs.Rows.{order_line_values, order_line_with};
+
+    const TABLE: Table = Table::OrderLine;
+
+    ghost TABLE = { tables.OrderLine };
+
+    ghost values_of = { order_line_values };
+
+    ghost row_with = { order_line_with };
+
+    fn put<S: ValueSink>(&self, sink: &mut S) -> Result<(), S::Refused> {
+        let [
+            order,
+            district,
+            warehouse,
+            number,
+            item,
+            supply_warehouse,
+            delivery_date,
+            quantity,
+            amount,
+        ] = ORDER_LINE;
+        sink.u32(order, self.order)?;
+        sink.u8(district, self.district)?;
+        sink.u8(warehouse, self.warehouse)?;
+        sink.u8(number, self.number)?;
+        sink.u32(item, self.item)?;
+        sink.u8(supply_warehouse, self.supply_warehouse)?;
+        sink.u64(delivery_date, self.delivery_date)?;
+        sink.u8(quantity, self.quantity)?;
+        sink.i64(amount, self.amount)
+    }
+
+    fn take<S: ValueSource>(source: &S) -> Option<OrderLine> {
+        Some(OrderLine {
+            order: source.u32(0)?,
+            district: source.u8(1)?,
+            warehouse: source.u8(2)?,
+            number: source.u8(3)?,
+            item: source.u32(4)?,
+            supply_warehouse: source.u8(5)?,
+            delivery_date: source.u64(6)?,
+            quantity: source.u8(7)?,
+            amount: source.i64(8)?,
+        })
+    }
+
+    ghost has_all = { λ row. refl };
+
+    ghost same_row = { λ row. refl };
 }
 
 impl Row for OrderLine {
@@ -108,36 +159,10 @@ impl Row for OrderLine {
 
     ghost last_rows = { λ tables rows others. refl };
 
+    ghost joined_rows = { λ several. refl };
+
     ghost spelled = { λ n bytes. refl };
 
     ghost respelled = { λ n bytes pages whole. by_places (λ all. tables_of n (slice_set all 6 pages)
         ≡ record (tables_of n all) { order_lines = rows_of n 29 order_line_of pages }) bytes whole refl };
-}
-
-impl OrderLine {
-    ghost use Rattle.std.specs.Prelude.{◌≤◌};
-    ghost use Rattle.hy_rows.specs.Limits.{max_moment, max_quantity};
-    ghost use Rattle.hy_rows.specs.Ranges.{IsBetween, IsLineAmount, IsOrderLineInRange};
-
-    /// Whether each column has a value that a load may have.
-    pub fn is_in_range(&self) -> bool
-        ensures { IsTrue result ↔ IsOrderLineInRange self.now }
-    {
-        is_order_key(self.order, self.district, self.warehouse)
-            && (1..=MAX_LINES).contains(&self.number)
-            && (1..=MAX_ITEMS).contains(&self.item)
-            && (1..=MAX_WAREHOUSES).contains(&self.supply_warehouse)
-            && self.has_numbers_in_range()
-    }
-
-    /// Whether OL_DELIVERY_D, OL_QUANTITY and OL_AMOUNT are in range.
-    fn has_numbers_in_range(&self) -> bool
-        ensures { IsTrue result
-            ↔ ((self.now.delivery_date ≤ max_moment) × IsBetween 1 max_quantity self.now.quantity
-            × IsLineAmount self.now.amount) }
-    {
-        self.delivery_date <= MAX_MOMENT
-            && (1..=MAX_QUANTITY).contains(&self.quantity)
-            && (0..=MAX_LINE_CENTS).contains(&self.amount)
-    }
 }

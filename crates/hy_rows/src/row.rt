@@ -1,22 +1,23 @@
 //! What the rows of all tables have in common.
 
 ghost use Rattle.std.specs.Prelude.{◌≡◌, ℕ, ◌+◌, ◌<◌, ◌≤◌, ◌++◌, Bool, List, length, slice_set, IfOk};
+ghost use Rattle.std.specs.List.{flat_map};
 ghost use Rattle.arrayvec.specs.ArrayVec.{array_vec_len};
-ghost use Rattle.hy_rows.specs.Tables.{Lists, Tables};
-ghost use Rattle.hy_rows.specs.Spelling.{IsTable, list_at, rows_of as rows_of_pages, segments, tables_of};
-ghost use Rattle.hy_rows.specs.declared.codec.TheConstants.{MAX_SLOT_BYTES};
+ghost use Rattle.hy_rows.specs.Tables.{Lists, Tables, all_of};
+ghost use Rattle.hy_rows.specs.Spelling.{IsTable, list_at, rows_of as rows_of_pages, tables_of};
+ghost use Rattle.hy_rows.specs.Catalogue.{segments};
+ghost use Rattle.hy_rows.specs.declared.item.Item.{Item as ItemRow};
+ghost use Rattle.hy_rows.specs.declared.catalogue.TheConstants.{MAX_SLOT_BYTES};
 
 use crate::codec::SlotBytes;
 use crate::item::Item;
 use crate::lists::Lists;
+use crate::record::Record;
 use crate::tables::Tables;
 use std::alloc::AllocError;
 
-/// How many segments hold the tables, one each; others may follow them.
-pub const SEGMENTS: u32 = 8;
-
 /// A row of a table: how it lies in the slots of its segment, and where lists of all tables have it.
-pub trait Row: Copy {
+pub trait Row: Record {
     /// The segment of the table.
     const SEGMENT: u32;
 
@@ -47,6 +48,9 @@ pub trait Row: Copy {
 
     ghost last_rows: { (tables : Tables) (rows others : List Self)
         → with_rows (with_rows tables rows) others ≡ with_rows tables others };
+
+    /// The rows of several warehouses are those of each behind those of the one before.
+    ghost joined_rows: { (several : List Tables) → rows_in (all_of several) ≡ flat_map rows_in several };
 
     /// Whether a row belongs to a warehouse.
     ghost is_of: { ℕ → Self → Bool };
@@ -89,7 +93,7 @@ pub trait Row: Copy {
 }
 
 /// A row of any table, also of one that no pages hold: where the lists of a load have it.
-pub trait Listed: Copy {
+pub trait Listed: Record {
     /// The rows of this table.
     ghost list_in: { Lists → List Self };
 
@@ -99,21 +103,28 @@ pub trait Listed: Copy {
 
     /// A copy of the rows of this table. Only memory can lack.
     fn copy_from<S: Source>(source: &S) -> Result<Vec<Self>, AllocError>
-        ensures { IfOk result (λ rows. rows.items ≡ list_in (S.lists_of source.now)) };
+        ensures { IfOk result (λ rows. rows.items
+            ≡ list_in (record { items = S.items_of source.now; tables = S.tables_of source.now })) };
 }
 
-/// What has the rows of all tables: those of tables that lie on pages, and the items beside them.
-pub trait Source {
-    /// The rows of all tables.
-    ghost lists_of: { Self → Lists };
+/// What has the rows of the tables that lie on pages.
+pub trait RowSource {
+    /// The rows of these tables.
+    ghost tables_of: { Self → Tables };
 
-    /// A copy of the rows of a table that lies on pages. Only memory can lack.
+    /// A copy of the rows of a table. Only memory can lack.
     fn copy_rows<R: Row>(&self) -> Result<Vec<R>, AllocError>
-        ensures { IfOk result (λ rows. rows.items ≡ R.rows_in (lists_of self.now).tables) };
+        ensures { IfOk result (λ rows. rows.items ≡ R.rows_in (tables_of self.now)) };
+}
+
+/// What has the rows of all tables: also those of ITEM.
+pub trait Source: RowSource {
+    /// The rows of ITEM.
+    ghost items_of: { Self → List ItemRow };
 
     /// A copy of the rows of ITEM. Only memory can lack.
     fn copy_items(&self) -> Result<Vec<Item>, AllocError>
-        ensures { IfOk result (λ items. items.items ≡ (lists_of self.now).items) };
+        ensures { IfOk result (λ items. items.items ≡ items_of self.now) };
 }
 
 // The rows of a table in a segment are those of its list.

@@ -1,13 +1,10 @@
 //! Rows of STOCK.
 
-ghost use Rattle.std.specs.Prelude.{◌↔◌, IsTrue};
-
+use crate::catalogue::{STOCK, Table};
 use crate::codec::{SlotBytes, push_number, read_number};
-use crate::customer::MAX_COUNT;
-use crate::item::MAX_ITEMS;
+use crate::record::{Record, ValueSink, ValueSource};
 use crate::row::Row;
 use crate::tables::Tables;
-use crate::warehouse::MAX_WAREHOUSES;
 
 /// The greatest quantity of an item that a loaded row has in stock.
 pub const MAX_STOCK: u16 = 9_999;
@@ -27,6 +24,45 @@ pub struct Stock {
     pub order_count: u64,
     /// S_REMOTE_CNT, up to `MAX_COUNT`.
     pub remote_count: u64,
+}
+
+impl Record for Stock {
+    ghost use Rattle.std.proofs.Common.{refl};
+    ghost use Rattle.hy_rows.specs.declared.catalogue.Table.TheVariants as tables;
+    ghost use Rattle.hy_rows.specs.Rows.{stock_values, stock_with};
+
+    const TABLE: Table = Table::Stock;
+
+    ghost TABLE = { tables.Stock };
+
+    ghost values_of = { stock_values };
+
+    ghost row_with = { stock_with };
+
+    fn put<S: ValueSink>(&self, sink: &mut S) -> Result<(), S::Refused> {
+        let [item, warehouse, quantity, ytd, order_count, remote_count] = STOCK;
+        sink.u32(item, self.item)?;
+        sink.u8(warehouse, self.warehouse)?;
+        sink.u16(quantity, self.quantity)?;
+        sink.u64(ytd, self.ytd)?;
+        sink.u64(order_count, self.order_count)?;
+        sink.u64(remote_count, self.remote_count)
+    }
+
+    fn take<S: ValueSource>(source: &S) -> Option<Stock> {
+        Some(Stock {
+            item: source.u32(0)?,
+            warehouse: source.u8(1)?,
+            quantity: source.u16(2)?,
+            ytd: source.u64(3)?,
+            order_count: source.u64(4)?,
+            remote_count: source.u64(5)?,
+        })
+    }
+
+    ghost has_all = { λ row. refl };
+
+    ghost same_row = { λ row. refl };
 }
 
 impl Row for Stock {
@@ -92,24 +128,10 @@ impl Row for Stock {
 
     ghost last_rows = { λ tables rows others. refl };
 
+    ghost joined_rows = { λ several. refl };
+
     ghost spelled = { λ n bytes. refl };
 
     ghost respelled = { λ n bytes pages whole. by_places (λ all. tables_of n (slice_set all 7 pages)
         ≡ record (tables_of n all) { stock = rows_of n 31 stock_of pages }) bytes whole refl };
-}
-
-impl Stock {
-    ghost use Rattle.hy_rows.specs.Ranges.{IsStockInRange};
-
-    /// Whether each column has a value that a load may have.
-    pub fn is_in_range(&self) -> bool
-        ensures { IsTrue result ↔ IsStockInRange self.now }
-    {
-        (1..=MAX_ITEMS).contains(&self.item)
-            && (1..=MAX_WAREHOUSES).contains(&self.warehouse)
-            && self.quantity <= MAX_STOCK
-            && self.ytd <= MAX_COUNT
-            && self.order_count <= MAX_COUNT
-            && self.remote_count <= MAX_COUNT
-    }
 }

@@ -8,7 +8,7 @@ use crate::history::History;
 use crate::new_order::NewOrder;
 use crate::order::Order;
 use crate::order_line::OrderLine;
-use crate::row::Row;
+use crate::row::{Row, RowSource};
 use crate::stock::Stock;
 use crate::warehouse::Warehouse;
 use std::alloc::{AllocError, Global};
@@ -26,6 +26,41 @@ pub struct Tables {
     pub orders: Vec<Order>,
     pub order_lines: Vec<OrderLine>,
     pub stock: Vec<Stock>,
+}
+
+/// A value for each table.
+#[derive(Clone, Copy, Debug, PartialEq, Eq)]
+pub struct PerTable<T> {
+    pub warehouses: T,
+    pub districts: T,
+    pub customers: T,
+    pub history: T,
+    pub new_orders: T,
+    pub orders: T,
+    pub order_lines: T,
+    pub stock: T,
+    pub items: T,
+}
+
+impl<T: Copy> PerTable<T> {
+    ghost use Rattle.hy_rows.specs.Tables.{same_for_all};
+
+    /// The same value for each table.
+    pub fn of(value: T) -> PerTable<T>
+        ensures { result ≡ same_for_all value }
+    {
+        PerTable {
+            warehouses: value,
+            districts: value,
+            customers: value,
+            history: value,
+            new_orders: value,
+            orders: value,
+            order_lines: value,
+            stock: value,
+            items: value,
+        }
+    }
 }
 
 // Clauses see the lists.
@@ -47,13 +82,45 @@ impl Model for Tables {
 }
 
 impl Tables {
-    ghost use Rattle.hy_rows.specs.Tables.{of_warehouse};
+    ghost use Rattle.hy_rows.specs.Tables.{no_rows, of_warehouse};
+
+    /// No rows.
+    pub fn new(alloc: Global) -> Tables
+        ensures { result ≡ no_rows }
+    {
+        Tables {
+            warehouses: Vec::new(alloc),
+            districts: Vec::new(alloc),
+            customers: Vec::new(alloc),
+            history: Vec::new(alloc),
+            new_orders: Vec::new(alloc),
+            orders: Vec::new(alloc),
+            order_lines: Vec::new(alloc),
+            stock: Vec::new(alloc),
+        }
+    }
 
     /// The rows of one table.
     pub fn list<R: Row>(&self) -> &[R]
         ensures { result.now ≡ R.rows_in self.now }
     {
         R::rows_of(self)
+    }
+
+    /// A copy of the rows that a source has. Only memory can lack.
+    pub fn copied_from<S: RowSource>(source: &S) -> Result<Tables, AllocError>
+        ensures { IfOk result (λ tables. tables ≡ S.tables_of source.now) }
+    {
+        Ok(Tables {
+            warehouses: source.copy_rows()?,
+            districts: source.copy_rows()?,
+            customers: source.copy_rows()?,
+            history: source.copy_rows()?,
+            new_orders: source.copy_rows()?,
+            orders: source.copy_rows()?,
+            order_lines: source.copy_rows()?,
+            stock: source.copy_rows()?,
+        })
     }
 
     /// A copy of the rows of one warehouse.

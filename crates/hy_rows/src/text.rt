@@ -1,8 +1,10 @@
 //! Texts of a fixed width.
 
-ghost use Rattle.std.specs.Prelude.{◌≡◌, ℕ, ◌==◌, ◌<◌, ◌≤◌, ◌↔◌, List, length, IsTrue, IsSome, IfSome, ◌++◌, take, drop};
+ghost use Rattle.std.specs.Prelude.{◌≡◌, ℕ, ◌==◌, ◌<◌, ◌≤◌, ◌↔◌, List, length, IsSome, IfSome, ◌++◌, take, drop};
 ghost use Rattle.std.specs.List.{list_all};
-ghost use Rattle.hy_rows.specs.Texts.{IsText, IsPrintable, padded, text_of};
+ghost use Rattle.hy_rows.specs.Columns.{is_printable};
+ghost use Rattle.hy_rows.specs.Ranges.{is_between};
+ghost use Rattle.hy_rows.specs.Texts.{IsText, padded, text_of};
 
 use std::marker::Model;
 
@@ -58,7 +60,7 @@ impl<const WIDTH: usize> Text<WIDTH> {
     }
 
     /// The text with these bytes, which fit and are none of them zero.
-    fn of_bytes(bytes: &[u8]) -> Text<WIDTH>
+    pub fn of_bytes(bytes: &[u8]) -> Text<WIDTH>
         requires { IsText WIDTH bytes.now }
         ensures { result ≡ bytes.now }
     {
@@ -84,14 +86,17 @@ impl<const WIDTH: usize> Text<WIDTH> {
         let field = self.field();
         &field[..text_len(field)]
     }
+}
 
-    /// Whether each byte is printable ASCII.
-    pub fn is_printable(&self) -> bool
-        ensures printable { IsTrue result ↔ IsPrintable self.now }
-        ensures text { IsText WIDTH self.now }
-    {
-        self.as_bytes().iter().all(|byte| (32..=126).contains(byte))
-    }
+/// Whether each byte is printable ASCII, from the space to the tilde.
+pub fn is_printable(text: &[u8]) -> bool
+    ensures { result ≡ is_printable text.now }
+{
+    text.iter().all(
+        |byte: &u8| -> bool
+            ensures { result ≡ is_between 32 126 byte.now }
+        { (32..=126).contains(byte) },
+    )
 }
 
 /// How many bytes stand before the first zero byte.

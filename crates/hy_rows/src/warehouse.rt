@@ -1,11 +1,10 @@
 //! Rows of WAREHOUSE.
 
-ghost use Rattle.std.specs.Prelude.{◌↔◌, IsTrue};
-ghost use Rattle.hy_rows.specs.Ranges.{IsLoadedMoney};
-
+use crate::catalogue::{Table, WAREHOUSE};
 use crate::codec::{
     SlotBytes, push_number, push_signed, push_text, read_number, read_signed, read_text,
 };
+use crate::record::{Record, ValueSink, ValueSource};
 use crate::row::Row;
 use crate::tables::Tables;
 use crate::text::Text;
@@ -30,6 +29,41 @@ pub struct Warehouse {
     pub tax: u16,
     /// W_YTD in cents.
     pub ytd: i64,
+}
+
+impl Record for Warehouse {
+    ghost use Rattle.std.proofs.Common.{refl};
+    ghost use Rattle.hy_rows.specs.declared.catalogue.Table.TheVariants as tables;
+    ghost use Rattle.hy_rows.specs.Rows.{warehouse_values, warehouse_with};
+
+    const TABLE: Table = Table::Warehouse;
+
+    ghost TABLE = { tables.Warehouse };
+
+    ghost values_of = { warehouse_values };
+
+    ghost row_with = { warehouse_with };
+
+    fn put<S: ValueSink>(&self, sink: &mut S) -> Result<(), S::Refused> {
+        let [id, name, tax, ytd] = WAREHOUSE;
+        sink.u8(id, self.id)?;
+        sink.text(name, self.name.as_bytes())?;
+        sink.u16(tax, self.tax)?;
+        sink.i64(ytd, self.ytd)
+    }
+
+    fn take<S: ValueSource>(source: &S) -> Option<Warehouse> {
+        Some(Warehouse {
+            id: source.u8(0)?,
+            name: Text::of_bytes(source.text(1, 10)?),
+            tax: source.u16(2)?,
+            ytd: source.i64(3)?,
+        })
+    }
+
+    ghost has_all = { λ row. refl };
+
+    ghost same_row = { λ row. refl };
 }
 
 impl Row for Warehouse {
@@ -91,6 +125,8 @@ impl Row for Warehouse {
 
     ghost last_rows = { λ tables rows others. refl };
 
+    ghost joined_rows = { λ several. refl };
+
     ghost spelled = { λ n bytes. refl };
 
     ghost respelled = { λ n bytes pages whole. by_places (λ all. tables_of n (slice_set all 0 pages)
@@ -98,7 +134,6 @@ impl Row for Warehouse {
 }
 
 impl Warehouse {
-    ghost use Rattle.hy_rows.specs.Ranges.{IsWarehouseInRange};
     ghost use Rattle.std.specs.Prelude.{◌≡◌, length};
     ghost use Rattle.hy_rows.specs.Rows.{warehouse_of};
 
@@ -109,21 +144,4 @@ impl Warehouse {
     {
         read_number(bytes, 11, 2) as u16
     }
-
-    /// Whether each column has a value that a load may have.
-    pub fn is_in_range(&self) -> bool
-        ensures { IsTrue result ↔ IsWarehouseInRange self.now }
-    {
-        (1..=MAX_WAREHOUSES).contains(&self.id)
-            && self.name.is_printable()
-            && self.tax <= MAX_RATE
-            && is_loaded_money(self.ytd)
-    }
-}
-
-/// Whether a loaded row may have an amount in cents.
-pub fn is_loaded_money(cents: i64) -> bool
-    ensures { IsTrue result ↔ IsLoadedMoney cents }
-{
-    (-MAX_CENTS..=MAX_CENTS).contains(&cents)
 }

@@ -13,10 +13,14 @@ use Rattle.hy_rows.specs.declared.district.District.{District}
 use Rattle.hy_rows.specs.declared.customer.Customer.{Customer}
 use Rattle.hy_rows.specs.Tables.{Lists, Tables, of_warehouse}
 use Rattle.hy_schema.specs.Keys.{AreUnique, HasUniqueKeys, IsOneWarehouse, customer_key, district_key, district_numbers}
-use Rattle.hy_rows.specs.Ranges.{IsBetween, IsCustomerInRange}
+use Rattle.hy_rows.specs.Ranges.{IsBetween}
+use Rattle.hy_rows.specs.Catalogue.{columns_of}
+use Rattle.hy_rows.specs.Rows.{IsCustomerInRange, customer_values}
+use Rattle.hy_rows.specs.declared.catalogue.Table.TheVariants as tables
 use Rattle.hy_schema.specs.Loads.{IsLoad, IsWarehouseAt, IsDistrictAt, IsCustomerAt, IsCustomerAfter, row_before}
 use Rattle.hy_rows.specs.Spelling.{first_items}
 use Rattle.hy_rows.proofs.BetweenLaws.{bounds}
+use Rattle.hy_rows.proofs.RangeLaws.{allowed-at}
 use Rattle.hy_rows.proofs.FirstItems.{first_items-same}
 
 -- what a test says of the rows that pass it
@@ -197,8 +201,9 @@ customers-rising_behind : (before : Customer) (rows : List Customer) → IsCusto
 customers-rising_behind before [] in_range each = tt
 customers-rising_behind before (row ∷ rows) in_range each =
     let here = each 0 in
-    let few = bounds 1 3_000 before.id in_range.id in
-    let within = bounds 1 10 before.district in_range.district in
+    let ranges = allowed-at (columns_of tables.Customer) (customer_values before) in_range in
+    let few = bounds 1 3_000 before.id (ranges 0) in
+    let within = bounds 1 10 before.district (ranges 1) in
     let above : customer_rank before < customer_rank row = elim here.1 [
       | inl same ↦ omega (arith, same.0, same.1, same.2)
       | inr (inl same, first) ↦ omega (arith, same.0, same.1, first, few.1)
@@ -221,8 +226,9 @@ customers-rising warehouses (row ∷ rows) each =
     let After : ℕ → Customer
     → Type 0 = λ place next. IsCustomerInRange next × IsCustomerAfter (slice_get
     (row ∷ rows) place) next in
-    let here = each 0 in (
-      omega (arith, (bounds 1 3_000 row.id here.0.id).0),
+    let here = each 0 in
+    let ranges = allowed-at (columns_of tables.Customer) (customer_values row) here.0 in (
+      omega (arith, (bounds 1 3_000 row.id (ranges 0)).0),
       customers-rising_behind row rows here.0 (λ place. IfSome_then
           (slice_get rows place) {P = IsCustomerAt warehouses (row ∷ rows) (suc place)} {Q = After place}
           (each (suc place))

@@ -14,15 +14,15 @@ use Rattle.hy_rows.specs.declared.order_line.OrderLine.{OrderLine}
 use Rattle.hy_rows.specs.declared.history.History.{History}
 use Rattle.hy_schema.specs.declared.refusal.LoadFault.{LoadFault}
 use Rattle.hy_schema.specs.declared.refusal.LoadFault.TheVariants as faults
-use Rattle.hy_schema.specs.declared.refusal.Table.{Table}
-use Rattle.hy_schema.specs.declared.refusal.Table.TheVariants as table
+use Rattle.hy_rows.specs.declared.catalogue.Table.{Table}
+use Rattle.hy_rows.specs.declared.catalogue.Table.TheVariants as table
 use Rattle.hy_schema.specs.declared.files.FileEnd.{FileEnd}
-use Rattle.hy_schema.specs.declared.files.FileEnds.{FileEnds}
 use Rattle.hy_schema.specs.declared.files.FileEnd.TheVariants as end
 use Rattle.hy_rows.specs.Limits.{districts_per_warehouse}
 use Rattle.hy_rows.specs.Finding.{is_customer, is_district, is_warehouse}
-use Rattle.hy_rows.specs.Tables.{Lists, Tables}
-use Rattle.hy_rows.specs.Ranges.{IsWarehouseInRange, IsDistrictInRange, IsCustomerInRange, IsItemInRange, IsStockInRange, IsOrderInRange, IsNewOrderInRange, IsOrderLineInRange, IsHistoryInRange}
+use Rattle.hy_rows.specs.Tables.{Lists, Tables, same_for_all}
+use Rattle.hy_rows.specs.declared.tables.PerTable.{PerTable}
+use Rattle.hy_rows.specs.Rows.{IsWarehouseInRange, IsDistrictInRange, IsCustomerInRange, IsItemInRange, IsStockInRange, IsOrderInRange, IsNewOrderInRange, IsOrderLineInRange, IsHistoryInRange}
 use Rattle.hy_schema.specs.Related.{is_item, is_line, is_new_order, is_order}
 use Rattle.hy_schema.specs.Conditions.{first_broken}
 
@@ -200,22 +200,12 @@ pub record IsLoad (lists : Lists) : Type 0 where
   pub conditions : first_broken lists.tables ≡ None
 
 -- each file was read to its end
-abbrev pub all_whole : FileEnds
-all_whole = record {
-  warehouses = end.Whole;
-  districts = end.Whole;
-  customers = end.Whole;
-  items = end.Whole;
-  stock = end.Whole;
-  orders = end.Whole;
-  new_orders = end.Whole;
-  order_lines = end.Whole;
-  history = end.Whole;
-}
+abbrev pub all_whole : PerTable FileEnd
+all_whole = same_for_all end.Whole
 
 -- the first fault of lists whose files were read so far. Where all lists up to STOCK are right, it is one of the lists
 -- that gain rows, or else the first broken condition
-abbrev pub HasFaultInOrders : FileEnds → Lists → LoadFault → Type 0
+abbrev pub HasFaultInOrders : PerTable FileEnd → Lists → LoadFault → Type 0
 HasFaultInOrders ends lists fault =
     let tables : Tables = lists.tables in
     IsFirstIn table.Order ends.orders (IsOrderAt tables.districts tables.customers tables.orders) ⊤ tables.orders fault
@@ -225,7 +215,7 @@ HasFaultInOrders ends lists fault =
     (IsFirstIn table.History ends.history (IsHistoryAt tables.districts tables.customers) ⊤ tables.history fault
     ((number : ℕ) × (fault ≡ faults.Condition number) × (first_broken tables ≡ Some number)))))
 
-abbrev pub HasFault : FileEnds → Lists → LoadFault → Type 0
+abbrev pub HasFault : PerTable FileEnd → Lists → LoadFault → Type 0
 HasFault ends lists fault =
     let tables : Tables = lists.tables in
     let warehouses : ℕ = length tables.warehouses in

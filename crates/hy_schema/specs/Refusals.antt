@@ -1,27 +1,15 @@
 -- The text of a refusal: its number and its name, and what it was given.
 use Rattle.std.specs.Prelude.{ℕ, List, ◌++◌, codes}
 use Rattle.std.specs.Fmt.{decimal}
+use Rattle.hy_rows.specs.Catalogue.{definition_of}
 use Rattle.hy_schema.specs.declared.refusal.LoadFault.{LoadFault}
 use Rattle.hy_schema.specs.declared.refusal.LoadFault.TheVariants as fault
 use Rattle.hy_schema.specs.declared.refusal.Refusal.{Refusal}
 use Rattle.hy_schema.specs.declared.refusal.Refusal.TheVariants as refusal
-use Rattle.hy_schema.specs.declared.refusal.Table.{Table}
-use Rattle.hy_schema.specs.declared.refusal.Table.TheVariants as table
-
-abbrev pub table_text : Table → List ℕ
-table_text table.Warehouse = codes "WAREHOUSE"
-table_text table.District = codes "DISTRICT"
-table_text table.Customer = codes "CUSTOMER"
-table_text table.Item = codes "ITEM"
-table_text table.Stock = codes "STOCK"
-table_text table.Order = codes "ORDER"
-table_text table.NewOrder = codes "NEW-ORDER"
-table_text table.OrderLine = codes "ORDER-LINE"
-table_text table.History = codes "HISTORY"
 
 -- the broken row or condition
 abbrev pub load_fault_text : LoadFault → List ℕ
-load_fault_text (fault.Row table number) = table_text table ++ codes " row " ++ decimal number
+load_fault_text (fault.Row table number) = (definition_of table).name ++ codes " row " ++ decimal number
 load_fault_text (fault.Condition number) = codes "condition " ++ decimal number
 
 abbrev pub refusal_text : Refusal → List ℕ

@@ -8,6 +8,7 @@ use Rattle.hy_rows.specs.declared.history.History.{History}
 use Rattle.hy_rows.specs.declared.new_order.NewOrder.{NewOrder}
 use Rattle.hy_rows.specs.declared.order.Order.{Order}
 use Rattle.hy_rows.specs.declared.order_line.OrderLine.{OrderLine}
+use Rattle.hy_rows.specs.Rows.{customer_with}
 use Rattle.hy_rows.specs.Tables.{Tables, no_rows}
 use Rattle.hy_rows.specs.WorkedRows.{fresh}
 use Rattle.hy_schema.specs.Conditions.{condition_1, condition_12, conditions, first_broken, is_consistent}
@@ -20,7 +21,7 @@ abbrev one_district : District
 one_district = record { id = 1; warehouse = 1; name = codes "D1"; tax = 100; ytd = pos 1_000; next_order = 3 }
 
 abbrev one_customer : Customer
-one_customer = record {
+one_customer = record (customer_with []) {
   id = 1;
   district = 1;
   warehouse = 1;

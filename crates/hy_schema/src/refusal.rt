@@ -2,52 +2,12 @@
 
 ghost use Rattle.std.specs.Prelude.{◌≡◌, Some};
 ghost use Rattle.hy_schema.specs.declared.refusal.Refusal.TheVariants.{NoMemory};
-ghost use Rattle.hy_schema.specs.Refusals.{load_fault_text, refusal_text, table_text};
+ghost use Rattle.hy_schema.specs.Refusals.{load_fault_text, refusal_text};
 
+use hy_rows::Table;
 use std::alloc::AllocError;
 use std::error::Error;
 use std::fmt;
-
-/// A table, as a refusal names it.
-#[derive(Clone, Copy, Debug, PartialEq, Eq)]
-pub enum Table {
-    /// WAREHOUSE.
-    Warehouse,
-    /// DISTRICT.
-    District,
-    /// CUSTOMER.
-    Customer,
-    /// ITEM.
-    Item,
-    /// STOCK.
-    Stock,
-    /// ORDER.
-    Order,
-    /// NEW-ORDER.
-    NewOrder,
-    /// ORDER-LINE.
-    OrderLine,
-    /// HISTORY.
-    History,
-}
-
-impl fmt::Display for Table {
-    ghost output = { λ table. Some (table_text table) };
-
-    fn fmt<W: fmt::Write>(&self, f: &mut fmt::Formatter<W>) -> fmt::Result {
-        f.write_str(match self {
-            Table::Warehouse => "WAREHOUSE",
-            Table::District => "DISTRICT",
-            Table::Customer => "CUSTOMER",
-            Table::Item => "ITEM",
-            Table::Stock => "STOCK",
-            Table::Order => "ORDER",
-            Table::NewOrder => "NEW-ORDER",
-            Table::OrderLine => "ORDER-LINE",
-            Table::History => "HISTORY",
-        })
-    }
-}
 
 /// What is wrong with lists of rows that are no load: the first wrong row, counted from 1, or else the first broken
 /// consistency condition.

@@ -2,10 +2,9 @@
 use Rattle.std.proofs.Common.{◌≡◌, ◌∙◌, ◌-◌, ◌≤◌, ℕ, suc, List, [], ◌∷◌, length, map, slice_index_or, ap, arith, refl}
 use Rattle.std.specs.Prelude.{IfSome, Option, None, Some, slice_get}
 use Rattle.hy_rows.specs.Spelling.{tables_of}
-use Rattle.hy_rows.specs.Tables.{Tables, no_rows}
+use Rattle.hy_rows.specs.Tables.{Tables, all_of, no_rows}
 use Rattle.hy_rows.specs.declared.item.Item.{Item}
 use Rattle.hy_commands.specs.Parts.{Database, rows_of}
-use Rattle.hy_database.specs.Database.{all_rows}
 use Rattle.hy_forks.specs.Snapshots.{SnapshotState}
 use Rattle.hy_forks.specs.Forks.{SpellsDatabase}
 use Rattle.hy_answers.specs.Snapshots.{items_of, lists_of_all}
@@ -46,9 +45,9 @@ same-lists n database snapshots some spells =
     same-items database n snapshots (omega (arith, some, spells.count)) spells in
     ap (λ (warehouses : List Tables). record {
       items = items_of snapshots;
-      tables = all_rows (record { items = []; warehouses = warehouses });
+      tables = all_of warehouses;
     }) tables
-    ∙ ap (λ (all : List Item). record { items = all; tables = all_rows database }) items
+    ∙ ap (λ (all : List Item). record { items = all; tables = all_of database.warehouses }) items
   where
     number : (place : ℕ) → rows_of (suc place) database ≡ slice_index_or database.warehouses place no_rows
     number place =

@@ -5,7 +5,7 @@ ghost use Rattle.hy_answers.specs.Snapshots.{lists_of_all};
 ghost use Rattle.hy_session.specs.inside.Joined.{joined};
 
 use hy_forks::SnapshotAll;
-use hy_rows::{Row, Tables};
+use hy_rows::{Row, RowSource, Tables};
 use std::alloc::{AllocError, Global};
 
 /// The rows of one table, those of each warehouse behind those of the one before. Only memory can lack.
@@ -23,6 +23,21 @@ pub(crate) fn rows_of_all<R: Row, const N: usize>(
     Ok(rows)
 }
 
+/// The snapshots of all warehouses, as what has the rows of all tables.
+#[derive(Drop)]
+struct AllSnapshots<'s, const N: usize> {
+    alloc: Global,
+    all: &'s SnapshotAll<N>,
+}
+
+impl<'s, const N: usize> RowSource for AllSnapshots<'s, N> {
+    ghost tables_of = { λ source. (lists_of_all N source.all.now).tables };
+
+    fn copy_rows<R: Row>(&self) -> Result<Vec<R>, AllocError> {
+        rows_of_all(self.alloc, self.all)
+    }
+}
+
 /// The rows of all tables that lie on pages. Only memory can lack.
 pub(crate) fn tables_of_all<const N: usize>(
     alloc: Global,
@@ -30,14 +45,5 @@ pub(crate) fn tables_of_all<const N: usize>(
 ) -> Result<Tables, AllocError>
     ensures { IfOk result (λ tables. tables ≡ (lists_of_all N all.now).tables) }
 {
-    Ok(Tables {
-        warehouses: rows_of_all(alloc, all)?,
-        districts: rows_of_all(alloc, all)?,
-        customers: rows_of_all(alloc, all)?,
-        history: rows_of_all(alloc, all)?,
-        new_orders: rows_of_all(alloc, all)?,
-        orders: rows_of_all(alloc, all)?,
-        order_lines: rows_of_all(alloc, all)?,
-        stock: rows_of_all(alloc, all)?,
-    })
+    Tables::copied_from(&AllSnapshots { alloc, all })
 }

@@ -9,6 +9,10 @@ use Rattle.hy_rows.specs.Finding.{is_district}
 use Rattle.hy_rows.specs.Tables.{Lists, Tables}
 use Rattle.hy_rows.specs.declared.item.Item.{Item}
 use Rattle.hy_rows.proofs.BetweenLaws.{bounds}
+use Rattle.hy_rows.proofs.RangeLaws.{allowed-at}
+use Rattle.hy_rows.specs.Catalogue.{columns_of}
+use Rattle.hy_rows.specs.Rows.{item_values, warehouse_values}
+use Rattle.hy_rows.specs.declared.catalogue.Table.TheVariants as table
 use Rattle.hy_schema.specs.Loads.{IsItemAt, IsLoad, IsWarehouseAt}
 use Rattle.hy_commands.specs.declared.command.Command.{Command}
 use Rattle.hy_commands.specs.declared.command.Command.TheVariants as commands
@@ -178,7 +182,9 @@ items-fit load is_load =
     all-by_place (λ row. (row.id ≤ 100_000) × (row.price ≤ 1_000_000)) load.items
     (λ place. IfSome_then (slice_get load.items place) {P = IsItemAt place}
     {Q = λ row. (row.id ≤ 100_000) × (row.price ≤ 1_000_000)} (is_load.items.each place)
-    (λ row right. ((bounds 1 100_000 row.id (right.0).id).1, (bounds 1 1_000_000 row.price (right.0).price).1)))
+    (λ row right.
+    let ranges = allowed-at (columns_of table.Item) (item_values row) right.0 in
+    ((bounds 1 100_000 row.id (ranges 0)).1, (bounds 1 1_000_000 row.price (ranges 3)).1)))
 
 -- the number of a warehouse is that of its row
 pub number-near : (load : Lists) → IsLoad load → (number : ℕ) → HasWarehouse load number → number ≤ 16
@@ -187,7 +193,7 @@ number-near load is_load number between =
     let row = take-more load.tables.warehouses (number - 1) (omega (arith, ends.0, ends.1)) in
     let right : IsWarehouseAt (number - 1) row.0 = subst (λ row. IfSome row (IsWarehouseAt (number - 1))) row.1
     (is_load.warehouses.each (number - 1)) in
-    omega (arith, ends.0, (bounds 1 16 (row.0).id (right.0).id).1, right.1)
+    omega (arith, ends.0, (bounds 1 16 (row.0).id (allowed-at (columns_of table.Warehouse) (warehouse_values row.0) right.0 0)).1, right.1)
 
 pub grown-between : (load : Lists) → IsLoad load → (number : ℕ) (commits : List Commit) (command : Command) (done : ℕ)
     → HasWarehouse load number → Begins number command (rows_after load number commits)

@@ -219,7 +219,7 @@ sliced_payment done = after_slices items 1 bill done sample
 abbrev warehouse_ytd : ℕ → List ℤ
 warehouse_ytd done = map (λ (row : Warehouse). row.ytd) (sliced_payment done).warehouses
 
--- C_BALANCE, C_YTD_PAYMENT and C_PAYMENT_CNT of the customer
+-- what the customer owes, has paid in all, and how often
 abbrev payer_columns : ℕ → ℤ × ℤ × ℕ
 payer_columns done =
     let row : Customer = first_or (customer_of []) (is_customer 1 1 1) (sliced_payment done).customers in

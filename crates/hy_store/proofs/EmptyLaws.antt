@@ -5,7 +5,9 @@ use Rattle.std.proofs.lemmas.Option.{slice_get_within}
 use Rattle.hy_page.proofs.ByteLaws.{field_of_zeros}
 use Rattle.hy_rows.specs.declared.new_order.NewOrder.{NewOrder}
 use Rattle.hy_rows.specs.Rows.{new_order_of}
-use Rattle.hy_rows.specs.Spelling.{IsTable, list_at, new_order_segment, row_widths, segments, slots_of, tables_of, used_slots}
+use Rattle.hy_rows.specs.Spelling.{IsTable, list_at, slots_of, tables_of, used_slots}
+use Rattle.hy_store.specs.Stored.{new_order_segment}
+use Rattle.hy_rows.specs.Catalogue.{row_widths, segments}
 use Rattle.hy_rows.specs.Tables.{Tables, no_rows}
 use Rattle.hy_rows.specs.inside.Places.{segment_there}
 use Rattle.hy_space.specs.Space.{SpaceState, owner_bytes, with_new_page}

@@ -4,7 +4,8 @@ use Rattle.std.specs.Prelude.{OnErr, OnOk, slice_get}
 use Rattle.std.proofs.lemmas.Bool.{cases_eq}
 use Rattle.std.proofs.lemmas.List.{length-map}
 use Rattle.hy_frames.specs.FrameTable.{page_of}
-use Rattle.hy_rows.specs.Spelling.{IsTable, list_at, row_widths, segments, used_slots}
+use Rattle.hy_rows.specs.Spelling.{IsTable, list_at, used_slots}
+use Rattle.hy_rows.specs.Catalogue.{row_widths, segments}
 use Rattle.hy_rows.specs.inside.Places.{segment_there}
 use Rattle.hy_space.specs.Space.{SpaceState, owner_bytes}
 use Rattle.hy_undo.specs.UndoLog.{UndoLog}

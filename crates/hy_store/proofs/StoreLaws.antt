@@ -5,7 +5,9 @@ use Rattle.std.proofs.lemmas.List.{length-map}
 use Rattle.hy_frames.specs.FrameTable.{page_of}
 use Rattle.hy_rows.specs.declared.new_order.NewOrder.{NewOrder}
 use Rattle.hy_rows.specs.Rows.{new_order_of}
-use Rattle.hy_rows.specs.Spelling.{HasSlots, HasTables, IsTable, list_at, live_rows, new_order_segment, rows_of, segments, slots_of, tables_of}
+use Rattle.hy_rows.specs.Spelling.{HasSlots, HasTables, IsTable, list_at, live_rows, rows_of, slots_of, tables_of}
+use Rattle.hy_store.specs.Stored.{new_order_segment}
+use Rattle.hy_rows.specs.Catalogue.{segments}
 use Rattle.hy_rows.specs.Tables.{Tables}
 use Rattle.hy_rows.specs.inside.Places.{by_places, segment_there}
 use Rattle.hy_space.specs.Space.{SpaceState, owner_bytes}

@@ -1,6 +1,7 @@
 -- How many pages the segments of a store have at most.
 use Rattle.std.specs.Prelude.{◌≡◌, ℕ, ◌+◌, ◌/◌, ◌≤◌, Some, List, [], ◌∷◌, ◌++◌, length, slice_get}
-use Rattle.hy_rows.specs.Spelling.{IsTable, list_at, row_widths, segments, slots_per_page, used_slots}
+use Rattle.hy_rows.specs.Spelling.{IsTable, list_at, slots_per_page, used_slots}
+use Rattle.hy_rows.specs.Catalogue.{row_widths, segments}
 use Rattle.hy_space.specs.Space.{SpaceState, owner_bytes}
 use Rattle.hy_relation.specs.Relation.{HasFewPages}
 use Rattle.hy_trees.specs.Nodes.{least_items}

@@ -1,10 +1,13 @@
 -- What the pages of a warehouse's store say: the rows of each table, the slots of NEW-ORDER, which alone loses rows,
 -- and the entries of four indexes. The tables' segments come first, and then one for each index. In a table that never
 -- loses a row, the row of slot k stands at place k of the list.
-use Rattle.std.specs.Prelude.{◌≡◌, ◌≢◌, ℕ, ◌<◌, ◌≤◌, true, List, [], Option, length, slice_index}
+use Rattle.std.specs.Prelude.{◌≡◌, ◌≢◌, ℕ, ◌+◌, ◌<◌, ◌≤◌, true, List, [], Option, length}
 use Rattle.hy_rows.specs.declared.new_order.NewOrder.{NewOrder}
 use Rattle.hy_rows.specs.Rows.{new_order_of}
-use Rattle.hy_rows.specs.Spelling.{HasTables, IsTable, is_live, list_at, new_order_segment, row_widths, slot_at, slots_of, tables_of, used_slots}
+use Rattle.hy_rows.specs.Spelling.{HasTables, IsTable, is_live, list_at, slot_at, slots_of, tables_of, used_slots}
+use Rattle.hy_rows.specs.Catalogue.{columns_of, segment_of, segments}
+use Rattle.hy_rows.specs.Columns.{row_width}
+use Rattle.hy_rows.specs.declared.catalogue.Table.TheVariants as tables
 use Rattle.hy_rows.specs.Tables.{Tables, no_rows}
 use Rattle.hy_index.specs.declared.key.Entry.{Entry}
 use Rattle.hy_index.specs.Writes.{IsIndex, entries}
@@ -14,21 +17,25 @@ use Rattle.hy_store.specs.declared.keys.OrderKey.{OrderKey}
 use Rattle.hy_store.specs.declared.keys.WaitingKey.{WaitingKey}
 use Rattle.hy_store.specs.Keys.{IsCustomerKey, IsLineKey, IsOrderKey, IsWaitingKey, customer_key_bytes, customer_key_of, line_key_bytes, line_key_of, order_key_bytes, order_key_of, waiting_key_bytes, waiting_key_of}
 
--- the segments of the indexes, and how many segments there are
+-- the segment of the table that loses rows
+abbrev pub new_order_segment : ℕ
+new_order_segment = segment_of tables.NewOrder
+
+-- the segments of the indexes, behind those of the tables, and how many segments there are
 abbrev pub order_index : ℕ
-order_index = 8
+order_index = segments
 
 abbrev pub last_order_index : ℕ
-last_order_index = 9
+last_order_index = segments + 1
 
 abbrev pub waiting_index : ℕ
-waiting_index = 10
+waiting_index = segments + 2
 
 abbrev pub line_index : ℕ
-line_index = 11
+line_index = segments + 3
 
 abbrev pub all_segments : ℕ
-all_segments = 12
+all_segments = segments + 4
 
 -- what the pages say
 pub record Stored : Type 0 where
@@ -59,7 +66,7 @@ abbrev pub stored : ℕ → List (List (List ℕ)) → Stored
 stored n bytes = record {
   tables = tables_of n bytes;
   new_order_slots =
-      slots_of n (slice_index row_widths new_order_segment) new_order_of (list_at bytes new_order_segment);
+      slots_of n (row_width (columns_of tables.NewOrder)) new_order_of (list_at bytes new_order_segment);
   orders = entries n 5 order_key_of (list_at bytes order_index);
   last_orders = entries n 3 customer_key_of (list_at bytes last_order_index);
   waiting = entries n 5 waiting_key_of (list_at bytes waiting_index);

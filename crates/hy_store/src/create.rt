@@ -8,11 +8,12 @@ ghost use Rattle.hy_store.specs.Stored.{HasStore, all_segments, nothing_stored};
 ghost use Rattle.hy_store.specs.Writes.{stored_in};
 
 use hy_frames::Shortage;
+use hy_rows::SEGMENTS;
 use hy_space::Space;
 use std::alloc::Global;
 
 /// How many segments a store has: one for each table, and one for each index.
-const ALL_SEGMENTS: u32 = 12;
+const ALL_SEGMENTS: u32 = SEGMENTS + 4;
 
 /// Pages that say nothing: all tables without rows, and all indexes without entries. Takes one frame for each segment;
 /// `NoFrame` where `max_frames` is less.

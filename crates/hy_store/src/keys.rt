@@ -14,6 +14,7 @@ ghost use Rattle.hy_store.specs.inside.Places.{by_all_places};
 use crate::indexes::Indexed;
 use hy_index::codec::{push_number, read_number};
 use hy_index::{Key, KeyBytes};
+use hy_rows::SEGMENTS;
 
 /// O_ID and O_D_ID, for the slot of an order. The number comes first, so that a new order's entry comes near the end.
 #[derive(Clone, Copy, Debug, PartialEq, Eq)]
@@ -92,7 +93,7 @@ impl Key for OrderKey {
 }
 
 impl Indexed for OrderKey {
-    const SEGMENT: u32 = 8;
+    const SEGMENT: u32 = SEGMENTS;
 
     ghost SEGMENT = { order_index };
 
@@ -157,7 +158,7 @@ impl Key for CustomerKey {
 }
 
 impl Indexed for CustomerKey {
-    const SEGMENT: u32 = 9;
+    const SEGMENT: u32 = SEGMENTS + 1;
 
     ghost SEGMENT = { last_order_index };
 
@@ -222,7 +223,7 @@ impl Key for WaitingKey {
 }
 
 impl Indexed for WaitingKey {
-    const SEGMENT: u32 = 10;
+    const SEGMENT: u32 = SEGMENTS + 2;
 
     ghost SEGMENT = { waiting_index };
 
@@ -299,7 +300,7 @@ impl Key for LineKey {
 }
 
 impl Indexed for LineKey {
-    const SEGMENT: u32 = 11;
+    const SEGMENT: u32 = SEGMENTS + 3;
 
     ghost SEGMENT = { line_index };
 

@@ -2,7 +2,8 @@
 
 ghost use Rattle.std.specs.Prelude.{◌≡◌, ◌≢◌, ◌+◌, ◌<◌, ◌++◌, ◌∷◌, [], Some, IfOk, OnOk, IsErrOf, length, map, slice_get, slice_set};
 ghost use Rattle.hy_frames.specs.FrameTable.{free_of};
-ghost use Rattle.hy_rows.specs.Spelling.{HasTables, live_rows, new_order_segment, tables_of};
+ghost use Rattle.hy_rows.specs.Spelling.{HasTables, live_rows, tables_of};
+ghost use Rattle.hy_store.specs.Stored.{new_order_segment};
 ghost use Rattle.hy_space.specs.Space.{owner_bytes};
 ghost use Rattle.hy_undo.specs.Writes.{IsOutOfFrames};
 ghost use Rattle.hy_relation.specs.Relation.{HasRelation, IsLive, relation_slots};

@@ -9,7 +9,8 @@ use Rattle.hy_rows.specs.declared.district.District.{District}
 use Rattle.hy_rows.specs.declared.history.History.{History}
 use Rattle.hy_rows.specs.Finding.{is_customer, is_district}
 use Rattle.hy_rows.specs.Limits.{districts_per_warehouse, max_customers, max_warehouses}
-use Rattle.hy_rows.specs.Ranges.{IsBetween, IsCustomerInRange}
+use Rattle.hy_rows.specs.Ranges.{IsBetween}
+use Rattle.hy_rows.specs.Rows.{IsCustomerInRange}
 use Rattle.hy_rows.proofs.BetweenLaws.{bounds}
 use Rattle.hy_schema.specs.Loads.{HasAllCustomers, IsCustomerAfter, IsCustomerAt, IsHistoryAt, IsRight, row_before}
 use Rattle.hy_tables.specs.Generated.{by_customer, generated_customer, generated_district, generated_payment, joined_up_to, rows_up_to}

@@ -1,11 +1,13 @@
 -- The texts in generated rows are printable and fit their fields.
-use Rattle.std.proofs.Common.{◌≡◌, ℕ, ◌+◌, ◌/◌, ◌%◌, ◌<◌, ◌≤◌, ◌^◌, ◌==◌, Bool, true, false, cond, ◌&&◌, nat_le, List, [], ◌∷◌, ◌++◌, length, codes, arith, refl, inl, inr, length-append, lit<}
-use Rattle.std.specs.List.{list_all}
+use Rattle.std.proofs.Common.{◌≡◌, ℕ, ◌+◌, ◌/◌, ◌%◌, ◌<◌, ◌≤◌, ◌^◌, ◌==◌, true, false, cond, IsTrue, List, [], ◌∷◌, ◌++◌, length, codes, arith, refl, length-append, lit<}
+use Rattle.std.specs.List.{list_any}
+use Rattle.std.specs.Prelude.{bytes_eq}
 use Rattle.std.specs.Fmt.{decimal}
 use Rattle.std.proofs.lemmas.Fmt.{decimal_by_steps}
 use Rattle.std.proofs.lemmas.List.Elements.{All-nil, All-cons, All-append, All-from_recursion}
 use Rattle.std.proofs.lemmas.List.Sums.{AllPass-from_list_all}
-use Rattle.hy_rows.specs.Ranges.{IsCredit, IsLoadedText}
+use Rattle.hy_rows.specs.Columns.{is_printable}
+use Rattle.hy_rows.specs.Ranges.{IsLoadedText}
 use Rattle.hy_rows.specs.Texts.{IsPrintable}
 use Rattle.hy_rows.proofs.PrintableLaws.{printable}
 use Rattle.hy_tables.specs.Generated.{credit, digit, last_name, payment_information, syllable, syllables, with_four_digits}
@@ -13,10 +15,6 @@ use Rattle.hy_tables.proofs.TextLaws.{decimal_text, information_text, last_name_
 
 abbrev IsPrintableByte : ℕ → Type 0
 IsPrintableByte byte = (32 ≤ byte) × (byte ≤ 126)
-
--- whether a text is printable
-abbrev is_printable : List ℕ → Bool
-is_printable text = list_all (λ byte. nat_le 32 byte && nat_le byte 126) text
 
 -- a number in decimal digits
 decimal-printable : (number : ℕ) → number < 2 ^ 64 → IsPrintable (decimal number)
@@ -86,8 +84,8 @@ four_digits_loaded letter number above below = (
 )
 
 -- good or bad credit
-pub credit_loaded : (number : ℕ) → IsCredit (credit number)
-credit_loaded number = elim (number % 10 == 0) as (λ b. IsCredit (cond b (codes "BC") (codes "GC"))) [
-  | true ↦ inr refl
-  | false ↦ inl refl
-]
+pub credit_allowed : (number : ℕ)
+    → IsTrue (list_any (λ word. bytes_eq word (credit number)) (codes "GC" ∷ codes "BC" ∷ []))
+credit_allowed number =
+    elim (number % 10 == 0) as (λ bad. IsTrue (list_any (λ word. bytes_eq word (cond bad (codes "BC") (codes "GC")))
+    (codes "GC" ∷ codes "BC" ∷ []))) [ true ↦ refl | false ↦ refl ]

@@ -1,6 +1,6 @@
 -- The nine files of a database: which texts are a load, and the texts that a load is written as. Their order is that of
--- the tables: WAREHOUSE, DISTRICT, CUSTOMER, ITEM, STOCK, ORDER, NEW-ORDER, ORDER-LINE, HISTORY.
-use Rattle.std.specs.Prelude.{ℕ, suc, zero, List, [], ◌∷◌, Option, None, Some, get_or}
+-- `tables_by_file`.
+use Rattle.std.specs.Prelude.{ℕ, suc, zero, List, [], map, Option, None, Some, get_or}
 use Rattle.hy_rows.specs.declared.warehouse.Warehouse.{Warehouse}
 use Rattle.hy_rows.specs.declared.district.District.{District}
 use Rattle.hy_rows.specs.declared.customer.Customer.{Customer}
@@ -10,12 +10,14 @@ use Rattle.hy_rows.specs.declared.order.Order.{Order}
 use Rattle.hy_rows.specs.declared.order_line.OrderLine.{OrderLine}
 use Rattle.hy_rows.specs.declared.stock.Stock.{Stock}
 use Rattle.hy_rows.specs.declared.item.Item.{Item}
-use Rattle.hy_rows.specs.Tables.{Lists, Tables}
-use Rattle.hy_csv.specs.Tables.{customer_fields, customer_names, customer_of, district_fields, district_names, district_of, history_fields, history_names, history_of, item_fields, item_names, item_of, new_order_fields, new_order_names, new_order_of, order_fields, order_line_fields, order_line_names, order_line_of, order_names, order_of, stock_fields, stock_names, stock_of, warehouse_fields, warehouse_names, warehouse_of}
-use Rattle.hy_csv.specs.Texts.{Reading, reading, text_of_rows}
+use Rattle.hy_rows.specs.Catalogue.{tables_by_file}
+use Rattle.hy_rows.specs.Rows.{customer_with, district_with, history_with, item_with, new_order_with, order_line_with, order_with, stock_with, warehouse_with}
+use Rattle.hy_rows.specs.Tables.{Lists, values_of}
+use Rattle.hy_rows.specs.declared.catalogue.Table.TheVariants as tables
+use Rattle.hy_csv.specs.Texts.{Reading, table_reading, table_text}
 use Rattle.hy_schema.specs.declared.files.FileEnd.{FileEnd}
 use Rattle.hy_schema.specs.declared.files.FileEnd.TheVariants as end
-use Rattle.hy_schema.specs.declared.files.FileEnds.{FileEnds}
+use Rattle.hy_rows.specs.declared.tables.PerTable.{PerTable}
 
 -- what each text says as rows of its table
 pub record Readings : Type 0 where
@@ -31,15 +33,15 @@ pub record Readings : Type 0 where
 
 abbrev pub readings_of : List (List ℕ) → Readings
 readings_of texts = record {
-  warehouses = reading warehouse_names warehouse_of (get_or texts 0 []);
-  districts = reading district_names district_of (get_or texts 1 []);
-  customers = reading customer_names customer_of (get_or texts 2 []);
-  items = reading item_names item_of (get_or texts 3 []);
-  stock = reading stock_names stock_of (get_or texts 4 []);
-  orders = reading order_names order_of (get_or texts 5 []);
-  new_orders = reading new_order_names new_order_of (get_or texts 6 []);
-  order_lines = reading order_line_names order_line_of (get_or texts 7 []);
-  history = reading history_names history_of (get_or texts 8 []);
+  warehouses = table_reading tables.Warehouse warehouse_with (get_or texts 0 []);
+  districts = table_reading tables.District district_with (get_or texts 1 []);
+  customers = table_reading tables.Customer customer_with (get_or texts 2 []);
+  items = table_reading tables.Item item_with (get_or texts 3 []);
+  stock = table_reading tables.Stock stock_with (get_or texts 4 []);
+  orders = table_reading tables.Order order_with (get_or texts 5 []);
+  new_orders = table_reading tables.NewOrder new_order_with (get_or texts 6 []);
+  order_lines = table_reading tables.OrderLine order_line_with (get_or texts 7 []);
+  history = table_reading tables.History history_with (get_or texts 8 []);
 }
 
 -- the rows that were read
@@ -64,7 +66,7 @@ end_of None = end.Whole
 end_of (Some zero) = end.BadHeader
 end_of (Some (suc number)) = end.BadRecord
 
-abbrev pub ends_read : Readings → FileEnds
+abbrev pub ends_read : Readings → PerTable FileEnd
 ends_read readings = record {
   warehouses = end_of readings.warehouses.unread;
   districts = end_of readings.districts.unread;
@@ -77,15 +79,6 @@ ends_read readings = record {
   history = end_of readings.history.unread;
 }
 
--- the texts that lists are written as
+-- the texts that lists are written as: one for each table, of its rows
 abbrev pub texts_of : Lists → List (List ℕ)
-texts_of lists =
-    text_of_rows warehouse_names warehouse_fields lists.tables.warehouses
-    ∷ text_of_rows district_names district_fields lists.tables.districts
-    ∷ text_of_rows customer_names customer_fields lists.tables.customers
-    ∷ text_of_rows item_names item_fields lists.items
-    ∷ text_of_rows stock_names stock_fields lists.tables.stock
-    ∷ text_of_rows order_names order_fields lists.tables.orders
-    ∷ text_of_rows new_order_names new_order_fields lists.tables.new_orders
-    ∷ text_of_rows order_line_names order_line_fields lists.tables.order_lines
-    ∷ text_of_rows history_names history_fields lists.tables.history ∷ []
+texts_of lists = map (λ table. table_text table (λ row. row) (values_of lists table)) tables_by_file

@@ -1,5 +1,5 @@
 -- Worked examples of generated rows, with values from hand calculation, which the checker computes.
-use Rattle.std.specs.Prelude.{◌≡◌, true, false, [], ◌∷◌, length, slice_get, Some, codes, refl}
+use Rattle.std.specs.Prelude.{◌≡◌, true, false, length, codes, refl}
 use Rattle.std.specs.Fmt.{digits}
 use Rattle.hy_rows.specs.WorkedRows.{fresh}
 use Rattle.hy_schema.specs.Conditions.{is_consistent}

@@ -1,6 +1,7 @@
 //! The nine files of a database: reading a load from their texts, and the texts of a load.
 
 ghost use Rattle.std.specs.Prelude.{◌≡◌, ◌⊎◌, IfOk, IsTrue, MatchResult, map, true};
+ghost use Rattle.hy_csv.specs.Texts.{table_text};
 ghost use Rattle.hy_schema.specs.declared.refusal.LoadFault.{LoadFault};
 ghost use Rattle.hy_schema.specs.declared.refusal.Refusal.TheVariants as refusals;
 ghost use Rattle.hy_schema.specs.Loads.{HasFault, IsLoad, all_whole};
@@ -10,16 +11,17 @@ ghost use Rattle.hy_tables.specs.Files.{end_of, ends_read, lists_read, readings_
 use hy_csv::{read, reads_back, write};
 use hy_loads::Load;
 use hy_rows::{
-    Customer, District, History, Item, Lists, NewOrder, Order, OrderLine, Stock, Tables, Warehouse,
+    Customer, District, History, Item, Listed, Lists, NewOrder, Order, OrderLine, PerTable, Stock,
+    TABLES, Tables, Warehouse,
 };
-use hy_schema::{FileEnd, FileEnds, Refusal};
+use hy_schema::{FileEnd, Refusal};
 use std::alloc::{AllocError, Global};
 
 /// The load that nine texts say: those of the files of WAREHOUSE, DISTRICT, CUSTOMER, ITEM, STOCK, ORDER, NEW-ORDER,
 /// ORDER-LINE and HISTORY, in this order. E12 names the first broken row, in this order, or else the first broken
 /// consistency condition; a file whose header isn't the names of the columns breaks at row 0. E1 where memory is
 /// refused.
-pub fn load(alloc: Global, texts: &[&[u8]; 9]) -> Result<Load, Refusal>
+pub fn load(alloc: Global, texts: &[&[u8]; TABLES]) -> Result<Load, Refusal>
     ensures { let readings = readings_of (map (λ text. text.now) texts.now) in
         MatchResult result
         (λ load. (load ≡ lists_read readings) × (ends_read readings ≡ all_whole) × IsLoad (lists_read readings))
@@ -34,7 +36,7 @@ pub fn load(alloc: Global, texts: &[&[u8]; 9]) -> Result<Load, Refusal>
     let new_orders = read(alloc, texts[6])?;
     let order_lines = read(alloc, texts[7])?;
     let history = read(alloc, texts[8])?;
-    let ends = FileEnds {
+    let ends = PerTable {
         warehouses: end_of(warehouses.unread),
         districts: end_of(districts.unread),
         customers: end_of(customers.unread),
@@ -74,22 +76,28 @@ fn end_of(unread: Option<u64>) -> FileEnd
 
 /// The nine texts of a load, in the order in which `load` takes them: each the names of the columns, and then the rows as
 /// `Load::list` gives them.
-pub fn save(alloc: Global, load: &Load) -> Result<[Vec<u8>; 9], AllocError>
+pub fn save(alloc: Global, load: &Load) -> Result<[Vec<u8>; TABLES], AllocError>
     ensures { IfOk result (λ texts. map (λ text. text.items) texts ≡ texts_of load.now) }
 {
-    let lists = load.lists();
-    let tables = &lists.tables;
     Ok([
-        write(alloc, &tables.warehouses)?,
-        write(alloc, &tables.districts)?,
-        write(alloc, &tables.customers)?,
-        write(alloc, &lists.items)?,
-        write(alloc, &tables.stock)?,
-        write(alloc, &tables.orders)?,
-        write(alloc, &tables.new_orders)?,
-        write(alloc, &tables.order_lines)?,
-        write(alloc, &tables.history)?,
+        text_of::<Warehouse>(alloc, load)?,
+        text_of::<District>(alloc, load)?,
+        text_of::<Customer>(alloc, load)?,
+        text_of::<Item>(alloc, load)?,
+        text_of::<Stock>(alloc, load)?,
+        text_of::<Order>(alloc, load)?,
+        text_of::<NewOrder>(alloc, load)?,
+        text_of::<OrderLine>(alloc, load)?,
+        text_of::<History>(alloc, load)?,
     ])
+}
+
+/// The text of one table's rows.
+fn text_of<R: Listed>(alloc: Global, load: &Load) -> Result<Vec<u8>, AllocError>
+    ensures { IfOk result
+        (λ text. text.items ≡ table_text R.TABLE (λ row. row) (map R.values_of (R.list_in load.now))) }
+{
+    write::<R>(alloc, load.list())
 }
 
 /// What is saved loads again as the same load: the texts of a load say its rows, whole, and have no fault.

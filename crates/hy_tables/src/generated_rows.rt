@@ -3,8 +3,8 @@
 ghost use Rattle.std.specs.Prelude.{◌≡◌, ◌≤◌, IfOk};
 ghost use Rattle.hy_tables.specs.Generated.{generated_customer, generated_district, generated_item, generated_payment, generated_stock, generated_warehouse};
 
-use crate::generated_texts::{credit, first_name, information, last_name, name, text};
-use hy_rows::{Customer, District, History, Item, Stock, Warehouse};
+use crate::generated_texts::{credit, first_name, information, last_name, name};
+use hy_rows::{Customer, District, History, Item, Stock, Text, Warehouse};
 use std::alloc::{AllocError, Global};
 
 /// A generated row of WAREHOUSE, with so many customers in each district.
@@ -52,7 +52,7 @@ pub(crate) fn customer(
         district,
         warehouse,
         first: first_name(id),
-        middle: text(b"OE"),
+        middle: Text::of_bytes(b"OE"),
         last: last_name(alloc, id.saturating_sub(1))?,
         credit: credit(id),
         discount: (100 * u32::from(id) % 5001) as u16,

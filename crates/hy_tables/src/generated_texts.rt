@@ -26,7 +26,7 @@ pub(crate) fn name<const WIDTH: usize>(
     ensures { IfOk result (λ text. text ≡ letters.now ++ decimal number) }
 {
     let made = format!(in alloc; "{letters}{number}")?;
-    Ok(text(made.as_bytes()))
+    Ok(Text::of_bytes(made.as_bytes()))
 }
 
 /// What is noted of a payment in a district: the names of its warehouse and of the district.
@@ -38,7 +38,7 @@ pub(crate) fn information(
     ensures { IfOk result (λ text. text ≡ payment_information warehouse district) }
 {
     let made = format!(in alloc; "W{warehouse}    D{district}")?;
-    Ok(text(made.as_bytes()))
+    Ok(Text::of_bytes(made.as_bytes()))
 }
 
 /// The letter F and a number in four digits.
@@ -52,7 +52,7 @@ pub(crate) fn first_name(number: u16) -> Text<16>
         digit(number / 10),
         digit(number),
     ];
-    text(&made)
+    Text::of_bytes(&made)
 }
 
 /// The last name of the last three digits of a number.
@@ -63,7 +63,7 @@ pub(crate) fn last_name(alloc: Global, number: u16) -> Result<Text<16>, AllocErr
     let tens = syllable(number / 10);
     let ones = syllable(number);
     let made = format!(in alloc; "{hundreds}{tens}{ones}")?;
-    Ok(text(made.as_bytes()))
+    Ok(Text::of_bytes(made.as_bytes()))
 }
 
 /// Bad credit for each tenth customer, and good credit for the others.
@@ -71,9 +71,9 @@ pub(crate) fn credit(number: u16) -> Text<2>
     ensures { result ≡ credit_of number }
 {
     if number % 10 == 0 {
-        text(b"BC")
+        Text::of_bytes(b"BC")
     } else {
-        text(b"GC")
+        Text::of_bytes(b"GC")
     }
 }
 
@@ -89,15 +89,4 @@ fn digit(number: u16) -> u8
     ensures { result ≡ digit_of number }
 {
     b'0' + (number % 10) as u8
-}
-
-/// A field of a row with these bytes.
-pub(crate) fn text<const WIDTH: usize>(bytes: &[u8]) -> Text<WIDTH>
-    requires { IsText WIDTH bytes.now }
-    ensures { result ≡ bytes.now }
-{
-    match Text::new(bytes) {
-        Some(text) => text,
-        None => unreachable!(),
-    }
 }

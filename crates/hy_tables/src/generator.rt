@@ -58,10 +58,8 @@ fn lists(alloc: Global, warehouses: u8, customers: u16, items: u32) -> Result<Li
         districts: district_rows(alloc, warehouses, customers)?,
         customers: customer_rows(alloc, warehouses, customers)?,
         history: history_rows(alloc, warehouses, customers)?,
-        new_orders: Vec::new(alloc),
-        orders: Vec::new(alloc),
-        order_lines: Vec::new(alloc),
         stock: stock_rows(alloc, warehouses, items)?,
+        ..Tables::new(alloc)
     };
     Ok(Lists {
         items: item_rows(alloc, items)?,

@@ -12,7 +12,7 @@ use Rattle.hy_rows.specs.declared.order.Order.{Order}
 use Rattle.hy_rows.specs.declared.order_line.OrderLine.{OrderLine}
 use Rattle.hy_rows.specs.Finding.{first_or, is_customer, with_changed}
 use Rattle.hy_rows.specs.Limits.{max_line_cents}
-use Rattle.hy_rows.specs.Ranges.{IsLineAmount}
+use Rattle.hy_commands.specs.Growth.{IsLineAmount}
 use Rattle.hy_rows.specs.Rows.{order_of}
 use Rattle.hy_rows.specs.Spelling.{live_rows}
 use Rattle.hy_schema.specs.Conditions.{column_sum, least}

@@ -17,7 +17,7 @@ use Rattle.hy_commands.specs.Sorting.{inserted, sorted, with_all_changed}
 use Rattle.hy_store.specs.Keys.{is_lesser_line as is_lesser_key}
 use Rattle.hy_indexes.proofs.IndexLaws.{between-in}
 use Rattle.hy_indexes.proofs.KeyOrders.{order-of_lines}
-use Rattle.hy_rows.specs.Ranges.{IsLineAmount}
+use Rattle.hy_commands.specs.Growth.{IsLineAmount}
 use Rattle.hy_rows.specs.declared.order_line.OrderLine.{OrderLine}
 use Rattle.hy_index.specs.declared.key.Entry.{Entry}
 use Rattle.hy_commands.specs.Deliveries.{delivered_line, order_cents}

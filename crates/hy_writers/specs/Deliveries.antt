@@ -5,7 +5,7 @@ use Rattle.hy_rows.specs.declared.customer.Customer.{Customer}
 use Rattle.hy_rows.specs.declared.order.Order.{Order}
 use Rattle.hy_rows.specs.declared.order_line.OrderLine.{OrderLine}
 use Rattle.hy_rows.specs.Limits.{max_lines}
-use Rattle.hy_rows.specs.Ranges.{IsLineAmount}
+use Rattle.hy_commands.specs.Growth.{IsLineAmount}
 use Rattle.hy_schema.specs.Keys.{AreUnique}
 use Rattle.hy_schema.specs.Related.{is_line_of, lines_of}
 use Rattle.hy_index.specs.declared.key.Entry.{Entry}

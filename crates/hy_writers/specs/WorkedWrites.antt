@@ -10,6 +10,7 @@ use Rattle.hy_rows.specs.declared.order.Order.{Order}
 use Rattle.hy_rows.specs.declared.order_line.OrderLine.{OrderLine}
 use Rattle.hy_rows.specs.declared.stock.Stock.{Stock}
 use Rattle.hy_rows.specs.declared.warehouse.Warehouse.{Warehouse}
+use Rattle.hy_rows.specs.Rows.{customer_with as customer_of_values}
 use Rattle.hy_rows.specs.Tables.{no_rows}
 use Rattle.hy_index.specs.declared.key.Entry.{Entry}
 use Rattle.hy_commands.specs.declared.command.Delivery.{Delivery}
@@ -69,7 +70,7 @@ district_with next_order = record {
 }
 
 abbrev customer_with : ℕ → ℕ → Customer
-customer_with cents deliveries = record {
+customer_with cents deliveries = record (customer_of_values []) {
   id = 4;
   district = 3;
   warehouse = 1;

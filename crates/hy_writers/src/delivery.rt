@@ -3,7 +3,8 @@
 ghost use Rattle.std.specs.Prelude.{◌≡◌, ◌+◌, ◌*◌, ◌≤◌, ◌<◌, ◌+ℤ◌, ◌≤ℤ◌, pos, Some, true, length, All, IfSome, OnOk, IfOk, IsErrOf};
 ghost use Rattle.hy_rows.specs.declared.order_line.OrderLine.{OrderLine};
 ghost use Rattle.hy_rows.specs.Limits.{max_carriers, max_line_cents, max_lines};
-ghost use Rattle.hy_rows.specs.Ranges.{IsBetween, IsLineAmount};
+ghost use Rattle.hy_rows.specs.Ranges.{IsBetween};
+ghost use Rattle.hy_commands.specs.Growth.{IsLineAmount};
 ghost use Rattle.hy_space.specs.Space.{owner_bytes};
 ghost use Rattle.hy_undo.specs.Writes.{IsOutOfFrames};
 ghost use Rattle.hy_index.specs.declared.key.Entry.{Entry};

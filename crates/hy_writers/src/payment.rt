@@ -87,10 +87,7 @@ fn information(warehouse: &Warehouse, district: &District) -> Text<24>
     push_all(&mut bytes, warehouse.name.as_bytes());
     push_all(&mut bytes, b"    ");
     push_all(&mut bytes, district.name.as_bytes());
-    match Text::new(bytes.as_slice()) {
-        Some(text) => text,
-        None => unreachable!(),
-    }
+    Text::of_bytes(bytes.as_slice())
 }
 
 /// Puts bytes behind others.

@@ -5,9 +5,10 @@ use Rattle.std.specs.declared.cmp.Ordering.{Ordering}
 use Rattle.std.specs.declared.cmp.Ordering.TheVariants.{Less, Equal, Greater}
 use Rattle.std.specs.Ordering.{int_cmp, nat_cmp, ordering_then}
 use Rattle.hy_query.specs.declared.query.SortKey.{SortKey}
-use Rattle.hy_query.specs.declared.value.Value.{Value}
-use Rattle.hy_query.specs.declared.value.Value.TheVariants.{Text, Whole}
-use Rattle.hy_query.specs.Rows.{Row, value_at}
+use Rattle.hy_rows.specs.declared.value.Value.{Value}
+use Rattle.hy_rows.specs.declared.value.Value.TheVariants.{Text, Whole}
+use Rattle.hy_query.specs.Rows.{Row}
+use Rattle.hy_rows.specs.Rows.{value_at}
 
 -- numbers by their size, texts by their bytes, and numbers before texts
 abbrev pub value_order : Value → Value → Ordering

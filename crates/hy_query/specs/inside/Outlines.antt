@@ -1,7 +1,7 @@
 -- What an outline says of a query that is being read.
 use Rattle.std.specs.Prelude.{◌≡◌, ◌-◌, ◌^◌, ◌==◌, not, min, List, length, IsSome}
 use Rattle.std.specs.List.{list_any}
-use Rattle.hy_schema.specs.declared.refusal.Table.{Table}
+use Rattle.hy_rows.specs.declared.catalogue.Table.{Table}
 use Rattle.hy_query.specs.declared.column.Column.{Column}
 use Rattle.hy_query.specs.declared.outline.Outline.{Outline}
 use Rattle.hy_query.specs.declared.query.SelectItem.{SelectItem}

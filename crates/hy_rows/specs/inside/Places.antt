@@ -1,7 +1,8 @@
 -- A page table is known by its segments, one by one.
 use Rattle.std.specs.Prelude.{◌≡◌, ℕ, zero, suc, ◌<◌, ◌≤◌, Some, List, [], ◌∷◌, ◌++◌, length, drop, slice_get, refl}
 use Rattle.std.proofs.Common.{ap, sym, subst, arith}
-use Rattle.hy_rows.specs.Spelling.{IsTable, list_at, row_widths, segments}
+use Rattle.hy_rows.specs.Spelling.{IsTable, list_at}
+use Rattle.hy_rows.specs.Catalogue.{row_widths, segments}
 
 -- the items of a sequence, so many
 abbrev pub items : {Item : Type 0} → (ℕ → Item) → ℕ → List Item

@@ -1,16 +1,21 @@
 use Rattle.std.proofs.Common.{sym, arith}
 use Rattle.hy_query.specs.declared.column.Column.{Column}
+use Rattle.hy_columns.proofs.FieldLaws.{field-read_of}
 use Rattle.hy_columns.proofs.ResultLaws.{values-same}
 use Rattle.hy_columns.proofs.TableLaws.{column-all, field-fits, segment-is_table}
 use Rattle.hy_columns.proofs.column.column_of.Goals as goal
 
 pub page_values-requires : goal.page_values-requires
 page_values-requires g c =
-    let column : Column = c.args.column.now in (
+    let column : Column = c.args.column.now in
+    let field = c.field_at-field.result in (
       omega arith,
       (
         segment-is_table column.table c.in-Some.segment (sym c.in-Some.ensures),
-        field-fits column.table c.in-Some.segment column.place c.field_at-field.result (sym c.in-Some.ensures) c.field_at-field.ensures,
+        (
+          field-fits column.table c.in-Some.segment column.place field (sym c.in-Some.ensures) c.field_at-field.ensures,
+          field-read_of column.table column.place field c.field_at-field.ensures,
+        ),
       ),
     )
 

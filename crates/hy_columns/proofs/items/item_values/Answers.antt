@@ -1,7 +1,7 @@
 use Rattle.hy_columns.proofs.items.item_values.Goals as goal
 use Rattle.std.proofs.Common.{◌≡◌, ℕ, pos, List, map, refl, sym, ap, ◌∙◌, arith, Bor}
 use Rattle.std.proofs.lemmas.Simd.{map-map}
-use Rattle.hy_query.specs.declared.value.Value.TheVariants.{Text, Whole}
+use Rattle.hy_rows.specs.declared.value.Value.TheVariants.{Text, Whole}
 use Rattle.hy_columns.specs.Columns.{values_of}
 use Rattle.hy_columns.proofs.ItemLaws.{values-of_column}
 use Rattle.hy_columns.proofs.items.item_values.Goals.{in-0+in_ok-ids-in-0, in-1+in_ok-images-in-1, in-2+in_ok-names-in-2, in_default+in_ok-prices-in_default}

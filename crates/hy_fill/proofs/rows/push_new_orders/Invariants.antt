@@ -1,5 +1,5 @@
 use Rattle.std.proofs.Common.{◌≡◌, ◌==◌, ◌+◌, take, filter, length}
-use Rattle.hy_rows.specs.Spelling.{new_order_segment}
+use Rattle.hy_store.specs.Stored.{new_order_segment}
 use Rattle.hy_store.specs.Pages.{KeepsPagesUpTo}
 use Rattle.hy_store.specs.Writes.{IsWritableStore, stored_in}
 use Rattle.hy_fill.specs.inside.Filling.{StaysOpen, with_new_orders}

@@ -3,7 +3,7 @@ use Rattle.std.specs.Prelude.{⊤}
 use Rattle.hy_rows.specs.Tables.{Lists}
 use Rattle.hy_schema.specs.Conditions.{first_broken}
 use Rattle.hy_schema.specs.declared.refusal.LoadFault.TheVariants as faults
-use Rattle.hy_schema.specs.declared.refusal.Table.TheVariants as table
+use Rattle.hy_rows.specs.declared.catalogue.Table.TheVariants as table
 use Rattle.hy_schema.specs.Loads.{IsHistoryAt}
 use Rattle.hy_loads.specs.Checks.{IsRefusalOf}
 use Rattle.hy_loads.proofs.RefusalLaws.{HasFault-orders, IfErr-this, IsRefusalOf-row}

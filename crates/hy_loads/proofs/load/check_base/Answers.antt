@@ -1,5 +1,5 @@
 use Rattle.std.proofs.Common.{inl, inr, length}
-use Rattle.hy_schema.specs.declared.refusal.Table.TheVariants as table
+use Rattle.hy_rows.specs.declared.catalogue.Table.TheVariants as table
 use Rattle.hy_schema.specs.Loads.{HasAllCustomers, HasAllStock, HasSome, IsCustomerAt, IsItemAt, IsStockAt}
 use Rattle.hy_loads.specs.Checks.{IsRefusalOf, IsRowRefusal}
 use Rattle.hy_loads.proofs.RefusalLaws.{IfErr-this, IfErr-weaker, IsRefusalOf-row}

@@ -1,6 +1,6 @@
 use Rattle.std.proofs.Common.{inl, inr}
 use Rattle.std.specs.Prelude.{⊤}
-use Rattle.hy_schema.specs.declared.refusal.Table.TheVariants as table
+use Rattle.hy_rows.specs.declared.catalogue.Table.TheVariants as table
 use Rattle.hy_schema.specs.Loads.{IsNewOrderAt, IsOrderLineAt}
 use Rattle.hy_loads.specs.Checks.{IsRefusalOf, IsRowRefusal}
 use Rattle.hy_loads.proofs.RefusalLaws.{HasFault-orders, IfErr-this, IfErr-weaker, IsRefusalOf-row}

@@ -1,6 +1,6 @@
 use Rattle.std.proofs.Common.{◌≡◌, ℕ, List, [], sym, ap, ◌∙◌}
 use Rattle.std.proofs.lemmas.List.{get_or_default}
-use Rattle.hy_rows.specs.Rows.{number_at}
+use Rattle.hy_rows.specs.Columns.{number_at}
 use Rattle.hy_rows.specs.Spelling.{list_at}
 use Rattle.hy_relation.proofs.RelationLaws.{length-slots_of}
 use Rattle.hy_relation.proofs.lent.used_on.Goals as goal

@@ -2,7 +2,7 @@ use Rattle.std.proofs.Common.{List, Option, Some, [], ◌∷◌, ◌++◌, ap, l
 use Rattle.std.proofs.lemmas.Result.{on_ok_weaker}
 use Rattle.hy_rows.specs.declared.new_order.NewOrder.{NewOrder}
 use Rattle.hy_rows.specs.Rows.{new_order_of}
-use Rattle.hy_rows.specs.Spelling.{new_order_segment}
+use Rattle.hy_store.specs.Stored.{new_order_segment}
 use Rattle.hy_space.specs.Space.{owner_bytes}
 use Rattle.hy_relation.proofs.ChangedRows.{live_rows-push}
 use Rattle.hy_store.specs.Stored.{Stored}

@@ -1,53 +1,62 @@
-use Rattle.std.proofs.Common.{length}
-use Rattle.hy_csv.specs.Tables.{CustomerFits, DistrictFits, HistoryFits, ItemFits, NewOrderFits, OrderFits, OrderLineFits, StockFits, WarehouseFits}
-use Rattle.hy_csv.proofs.InRangeLaws.{customer-fits, district-fits, history-fits, item-fits, new_order-fits, order-fits, order_line-fits, stock-fits, warehouse-fits}
+use Rattle.std.proofs.Common.{List, length}
+use Rattle.hy_rows.specs.Catalogue.{columns_of}
+use Rattle.hy_rows.specs.Rows.{customer_values, customer_with, district_values, district_with, history_values, history_with, item_values, item_with, new_order_values, new_order_with, order_line_values, order_line_with, order_values, order_with, stock_values, stock_with, warehouse_values, warehouse_with}
+use Rattle.hy_rows.specs.declared.catalogue.Table.{Table}
+use Rattle.hy_rows.specs.declared.catalogue.Table.TheVariants as tables
+use Rattle.hy_rows.specs.declared.value.Value.{Value}
+use Rattle.hy_csv.specs.Fields.{AllFitFields}
+use Rattle.hy_csv.proofs.InRangeLaws.{row-fits}
 use Rattle.hy_schema.specs.Loads.{IsCustomerAt, IsDistrictAt, IsHistoryAt, IsItemAt, IsNewOrderAt, IsOrderAt, IsOrderLineAt, IsStockAt, IsWarehouseAt}
-use Rattle.hy_tables.proofs.FilesLaws.{All-each, AllReadBack, ends-read_back, lists-read_back, read_back-sound}
+use Rattle.hy_tables.proofs.FilesLaws.{All-each, AllReadBack, ends-read_back, lists-read_back, read_back-sound, reads-back}
 use Rattle.hy_tables.proofs.files.saved_loads_again.Goals as goal
+
+-- the values of a row fit its fields
+abbrev Fits : {Row : Type 0} → Table → (Row → List Value) → Row → Type 0
+Fits table values_of row = AllFitFields (columns_of table) (values_of row)
 
 -- each text is read again, since the rows are in range
 back : (c : goal.After-reads_back-9) → AllReadBack c.args.load.now
 back c =
     let lists = c.args.load.now in
-    let tables = lists.tables in
-    let count = length tables.warehouses in
+    let held = lists.tables in
+    let count = length held.warehouses in
     record {
       warehouses =
-          (rw c.list.ensures at c.reads_back.ensures)
-          (All-each IsWarehouseAt WarehouseFits (λ place row right. warehouse-fits row right.0) lists.tables.warehouses
-          c.sound.ensures.warehouses.each);
+          reads-back tables.Warehouse warehouse_values warehouse_with held.warehouses ((rw c.list.ensures at c.reads_back.ensures)
+          (All-each IsWarehouseAt (Fits tables.Warehouse warehouse_values)
+          (λ place row right. row-fits tables.Warehouse (warehouse_values row) right.0) held.warehouses c.sound.ensures.warehouses.each));
       districts =
-          (rw c.list-2.ensures at c.reads_back-2.ensures)
-          (All-each (IsDistrictAt count) DistrictFits (λ place row right. district-fits row right.0) lists.tables.districts
-          c.sound.ensures.districts.each);
+          reads-back tables.District district_values district_with held.districts ((rw c.list-2.ensures at c.reads_back-2.ensures)
+          (All-each (IsDistrictAt count) (Fits tables.District district_values)
+          (λ place row right. row-fits tables.District (district_values row) right.0) held.districts c.sound.ensures.districts.each));
       customers =
-          (rw c.list-3.ensures at c.reads_back-3.ensures)
-          (All-each (IsCustomerAt count tables.customers) CustomerFits (λ place row right. customer-fits row right.0) lists.tables.customers
-          c.sound.ensures.customers.each);
+          reads-back tables.Customer customer_values customer_with held.customers ((rw c.list-3.ensures at c.reads_back-3.ensures)
+          (All-each (IsCustomerAt count held.customers) (Fits tables.Customer customer_values)
+          (λ place row right. row-fits tables.Customer (customer_values row) right.0) held.customers c.sound.ensures.customers.each));
       items =
-          (rw c.list-4.ensures at c.reads_back-4.ensures)
-          (All-each IsItemAt ItemFits (λ place row right. item-fits row right.0) lists.items
-          c.sound.ensures.items.each);
+          reads-back tables.Item item_values item_with lists.items ((rw c.list-4.ensures at c.reads_back-4.ensures)
+          (All-each IsItemAt (Fits tables.Item item_values)
+          (λ place row right. row-fits tables.Item (item_values row) right.0) lists.items c.sound.ensures.items.each));
       stock =
-          (rw c.list-5.ensures at c.reads_back-5.ensures)
-          (All-each (IsStockAt count (length lists.items)) StockFits (λ place row right. stock-fits row right.0) lists.tables.stock
-          c.sound.ensures.stock.each);
+          reads-back tables.Stock stock_values stock_with held.stock ((rw c.list-5.ensures at c.reads_back-5.ensures)
+          (All-each (IsStockAt count (length lists.items)) (Fits tables.Stock stock_values)
+          (λ place row right. row-fits tables.Stock (stock_values row) right.0) held.stock c.sound.ensures.stock.each));
       orders =
-          (rw c.list-6.ensures at c.reads_back-6.ensures)
-          (All-each (IsOrderAt tables.districts tables.customers tables.orders) OrderFits (λ place row right. order-fits row right.0) lists.tables.orders
-          c.sound.ensures.orders.each);
+          reads-back tables.Order order_values order_with held.orders ((rw c.list-6.ensures at c.reads_back-6.ensures)
+          (All-each (IsOrderAt held.districts held.customers held.orders) (Fits tables.Order order_values)
+          (λ place row right. row-fits tables.Order (order_values row) right.0) held.orders c.sound.ensures.orders.each));
       new_orders =
-          (rw c.list-7.ensures at c.reads_back-7.ensures)
-          (All-each (IsNewOrderAt tables.orders tables.new_orders) NewOrderFits (λ place row right. new_order-fits row right.0) lists.tables.new_orders
-          c.sound.ensures.new_orders.each);
+          reads-back tables.NewOrder new_order_values new_order_with held.new_orders ((rw c.list-7.ensures at c.reads_back-7.ensures)
+          (All-each (IsNewOrderAt held.orders held.new_orders) (Fits tables.NewOrder new_order_values)
+          (λ place row right. row-fits tables.NewOrder (new_order_values row) right.0) held.new_orders c.sound.ensures.new_orders.each));
       order_lines =
-          (rw c.list-8.ensures at c.reads_back-8.ensures)
-          (All-each (IsOrderLineAt tables.warehouses lists.items tables.orders tables.order_lines) OrderLineFits (λ place row right. order_line-fits row right.0) lists.tables.order_lines
-          c.sound.ensures.order_lines.each);
+          reads-back tables.OrderLine order_line_values order_line_with held.order_lines ((rw c.list-8.ensures at c.reads_back-8.ensures)
+          (All-each (IsOrderLineAt held.warehouses lists.items held.orders held.order_lines) (Fits tables.OrderLine order_line_values)
+          (λ place row right. row-fits tables.OrderLine (order_line_values row) right.0) held.order_lines c.sound.ensures.order_lines.each));
       history =
-          (rw c.list-9.ensures at c.reads_back-9.ensures)
-          (All-each (IsHistoryAt tables.districts tables.customers) HistoryFits (λ place row right. history-fits row right.0) lists.tables.history
-          c.sound.ensures.history.each);
+          reads-back tables.History history_values history_with held.history ((rw c.list-9.ensures at c.reads_back-9.ensures)
+          (All-each (IsHistoryAt held.districts held.customers) (Fits tables.History history_values)
+          (λ place row right. row-fits tables.History (history_values row) right.0) held.history c.sound.ensures.history.each));
     }
 
 pub returns-clause-rows : goal.returns-clause-rows

@@ -1,7 +1,7 @@
 use Rattle.std.proofs.Common.{◌≡◌, of_z, rules, to_z, w64, ◌∙◌, ap, arith, get_or}
 use Rattle.std.proofs.lemmas.Int.{ints, to_z-of_z}
 use Rattle.hy_rows.specs.declared.order_line.OrderLine.{OrderLine}
-use Rattle.hy_rows.specs.Ranges.{IsLineAmount}
+use Rattle.hy_commands.specs.Growth.{IsLineAmount}
 use Rattle.hy_index.specs.declared.key.Entry.{Entry}
 use Rattle.hy_store.specs.declared.keys.LineKey.{LineKey}
 use Rattle.hy_store.specs.Stored.{Stored}

@@ -3,7 +3,7 @@ use Rattle.std.proofs.Common.{◌≡◌, ◌*◌, pos, ◌≤ℤ◌, drop, lengt
 use Rattle.std.specs.Prelude.{All}
 use Rattle.hy_rows.specs.declared.order_line.OrderLine.{OrderLine}
 use Rattle.hy_rows.specs.Limits.{max_line_cents}
-use Rattle.hy_rows.specs.Ranges.{IsLineAmount}
+use Rattle.hy_commands.specs.Growth.{IsLineAmount}
 use Rattle.hy_space.specs.Space.{owner_bytes}
 use Rattle.hy_store.specs.Stored.{HasStore}
 use Rattle.hy_store.specs.Writes.{WritesStore, stored_in}

@@ -1,9 +1,12 @@
-use Rattle.std.proofs.Common.{◌≡◌, ◌++◌, drop, refl, sym, ◌∙◌, rules}
+use Rattle.std.proofs.Common.{◌≡◌, [], ◌∷◌, ◌++◌, refl, sym, ap, ◌∙◌, rules}
 use Rattle.hy_page.specs.Bytes.{bytes_of}
-use Rattle.hy_rows.specs.Rows.{signed_bytes}
+use Rattle.hy_rows.specs.Catalogue.{columns_of}
+use Rattle.hy_rows.specs.Columns.{signed_bytes}
+use Rattle.hy_rows.specs.Rows.{history_values, history_with}
 use Rattle.hy_rows.specs.Texts.{padded}
-use Rattle.hy_rows.proofs.ColumnLaws.{joined, append-joined, append-number, append-pushed}
-use Rattle.hy_rows.proofs.RowLaws.{history_columns, history_of-bytes}
+use Rattle.hy_rows.specs.declared.catalogue.Table.TheVariants as tables
+use Rattle.hy_rows.proofs.ColumnLaws.{append-concat, append-number, append-pushed}
+use Rattle.hy_rows.proofs.RowLaws.{length-row_bytes, values_in-row_bytes}
 use Rattle.hy_rows.proofs.history.HistoryRow.encode.Goals as goal
 
 -- the columns were pushed one after another
@@ -11,7 +14,6 @@ pub returns-clause-bytes : goal.returns-clause-bytes
 returns-clause-bytes c =
     let row = c.args.self.now in
     let slot = c.args.slot.now.items in
-    let others = drop 1 (history_columns row) in
     let by_customer = append-number 2 row.customer refl c.into.ensures c.push_number.ensures.bytes in
     let by_customer_district = append-number 1 row.customer_district by_customer c.into-2.ensures c.push_number-2.ensures.bytes in
     let by_customer_warehouse = append-number 1 row.customer_warehouse by_customer_district c.into-3.ensures c.push_number-3.ensures.bytes in
@@ -20,19 +22,15 @@ returns-clause-bytes c =
     let by_date = append-pushed (bytes_of 8 row.date) by_warehouse c.push_number-6.ensures.bytes in
     let amount : c.push_signed.new.out.items ≡ c.push_number-6.new.out.items ++ signed_bytes row.amount = search rules in
     let by_amount = append-pushed (signed_bytes row.amount) by_date amount in
-    let pushed : c.push_text.new.out.items ≡ joined (slot ++ bytes_of 2 row.customer) others = append-pushed (padded 24 row.information) by_amount c.push_text.ensures.bytes in
-    pushed ∙ sym (append-joined slot (bytes_of 2 row.customer) others)
+    let by_information = append-pushed (padded 24 row.information) by_amount c.push_text.ensures.bytes in
+    by_information ∙ sym (append-concat slot (bytes_of 2 row.customer ∷ bytes_of 1 row.customer_district ∷ bytes_of 1 row.customer_warehouse ∷ bytes_of 1 row.district ∷ bytes_of 1 row.warehouse ∷ bytes_of 8 row.date ∷ signed_bytes row.amount ∷ padded 24 row.information ∷ []))
 
 -- each fits its width
+pub returns-clause-width : goal.returns-clause-width
+returns-clause-width c =
+    length-row_bytes (columns_of tables.History) (history_values c.args.self.now) (search rules, (search rules, (search rules, (search rules, (search rules, (search rules, (search rules, (search rules, tt))))))))
+
+-- so that the bytes say the row
 pub returns-clause-reads_back : goal.returns-clause-reads_back
 returns-clause-reads_back c =
-    history_of-bytes c.args.self.now (record {
-      customer = search rules;
-      customer_district = search rules;
-      customer_warehouse = search rules;
-      district = search rules;
-      warehouse = search rules;
-      date = search rules;
-      amount = search rules;
-      information = search rules;
-    })
+    ap history_with (values_in-row_bytes (columns_of tables.History) (history_values c.args.self.now) (search rules, (search rules, (search rules, (search rules, (search rules, (search rules, (search rules, (search rules, tt)))))))))

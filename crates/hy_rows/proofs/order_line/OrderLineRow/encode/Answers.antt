@@ -1,7 +1,11 @@
-use Rattle.std.proofs.Common.{◌≡◌, [], ◌∷◌, ◌++◌, refl, sym, ◌∙◌, rules}
+use Rattle.std.proofs.Common.{◌≡◌, [], ◌∷◌, ◌++◌, refl, sym, ap, ◌∙◌, rules}
 use Rattle.hy_page.specs.Bytes.{bytes_of}
-use Rattle.hy_rows.specs.Rows.{signed_bytes}
-use Rattle.hy_rows.proofs.ColumnLaws.{joined, append-joined, append-number, append-pushed}
+use Rattle.hy_rows.specs.Catalogue.{columns_of}
+use Rattle.hy_rows.specs.Columns.{signed_bytes}
+use Rattle.hy_rows.specs.Rows.{order_line_values, order_line_with}
+use Rattle.hy_rows.specs.declared.catalogue.Table.TheVariants as tables
+use Rattle.hy_rows.proofs.ColumnLaws.{append-concat, append-number, append-pushed}
+use Rattle.hy_rows.proofs.RowLaws.{length-row_bytes, values_in-row_bytes}
 use Rattle.hy_rows.proofs.order_line.OrderLineRow.encode.Goals as goal
 
 -- the columns were pushed one after another
@@ -9,10 +13,6 @@ pub returns-clause-bytes : goal.returns-clause-bytes
 returns-clause-bytes c =
     let row = c.args.self.now in
     let slot = c.args.slot.now.items in
-    let others =
-    bytes_of 1 row.district ∷ bytes_of 1 row.warehouse ∷ bytes_of 1 row.number ∷ bytes_of 4 row.item
-    ∷ bytes_of 1 row.supply_warehouse ∷ bytes_of 8 row.delivery_date ∷ bytes_of 1 row.quantity
-    ∷ signed_bytes row.amount ∷ [] in
     let by_order = append-number 4 row.order refl c.into.ensures c.push_number.ensures.bytes in
     let by_district = append-number 1 row.district by_order c.into-2.ensures c.push_number-2.ensures.bytes in
     let by_warehouse = append-number 1 row.warehouse by_district c.into-3.ensures c.push_number-3.ensures.bytes in
@@ -22,5 +22,15 @@ returns-clause-bytes c =
     let by_delivery_date = append-pushed (bytes_of 8 row.delivery_date) by_supply_warehouse c.push_number-7.ensures.bytes in
     let by_quantity = append-number 1 row.quantity by_delivery_date c.into-7.ensures c.push_number-8.ensures.bytes in
     let amount : c.push_signed.new.out.items ≡ c.push_number-8.new.out.items ++ signed_bytes row.amount = search rules in
-    let pushed : c.push_signed.new.out.items ≡ joined (slot ++ bytes_of 4 row.order) others = append-pushed (signed_bytes row.amount) by_quantity amount in
-    pushed ∙ sym (append-joined slot (bytes_of 4 row.order) others)
+    let by_amount = append-pushed (signed_bytes row.amount) by_quantity amount in
+    by_amount ∙ sym (append-concat slot (bytes_of 4 row.order ∷ bytes_of 1 row.district ∷ bytes_of 1 row.warehouse ∷ bytes_of 1 row.number ∷ bytes_of 4 row.item ∷ bytes_of 1 row.supply_warehouse ∷ bytes_of 8 row.delivery_date ∷ bytes_of 1 row.quantity ∷ signed_bytes row.amount ∷ []))
+
+-- each fits its width
+pub returns-clause-width : goal.returns-clause-width
+returns-clause-width c =
+    length-row_bytes (columns_of tables.OrderLine) (order_line_values c.args.self.now) (search rules, (search rules, (search rules, (search rules, (search rules, (search rules, (search rules, (search rules, (search rules, tt)))))))))
+
+-- so that the bytes say the row
+pub returns-clause-reads_back : goal.returns-clause-reads_back
+returns-clause-reads_back c =
+    ap order_line_with (values_in-row_bytes (columns_of tables.OrderLine) (order_line_values c.args.self.now) (search rules, (search rules, (search rules, (search rules, (search rules, (search rules, (search rules, (search rules, (search rules, tt))))))))))
