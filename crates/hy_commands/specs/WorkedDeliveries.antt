@@ -1,18 +1,21 @@
 -- Examples of Delivery, Order-Status and Stock-Level, each with values from hand calculation; the checker computes them.
-use Rattle.std.specs.Prelude.{◌≡◌, ℕ, pos, negsuc, List, [], ◌∷◌, ◌++◌, Some, None, map, codes, replicate, refl}
+use Rattle.std.specs.Prelude.{◌≡◌, ℕ, pos, negsuc, List, [], ◌∷◌, ◌++◌, Some, None, option_map, map, codes, replicate, refl}
 use Rattle.hy_rows.specs.declared.order.Order.{Order}
 use Rattle.hy_rows.specs.declared.order_line.OrderLine.{OrderLine}
 use Rattle.hy_rows.specs.Finding.{first_or}
 use Rattle.hy_rows.specs.Rows.{order_of}
 use Rattle.hy_schema.specs.Related.{is_order}
+use Rattle.hy_rows.specs.Tables.{Tables, no_rows}
 use Rattle.hy_schema.specs.Conditions.{first_broken}
+use Rattle.hy_schema.specs.declared.refusal.Refusal.TheVariants as refusals
 use Rattle.hy_commands.specs.declared.command.Command.{Command}
 use Rattle.hy_commands.specs.declared.command.Command.TheVariants as commands
 use Rattle.hy_commands.specs.declared.command.Who.TheVariants as who
 use Rattle.hy_commands.specs.declared.reply.Reply.{Reply}
 use Rattle.hy_commands.specs.declared.reply.Reply.TheVariants as replies
-use Rattle.hy_commands.specs.OrderStatus.{placed}
-use Rattle.hy_commands.specs.WorkedSample.{after, bought, customer_after, delivery, first_of, five_of_each, level, purchase, reply_after, status}
+use Rattle.hy_commands.specs.OrderStatus.{last_placed, placed}
+use Rattle.hy_commands.specs.StockLevels.{low_items}
+use Rattle.hy_commands.specs.WorkedSample.{after, bought, customer_after, delivery, district, first_of, five_of_each, level, purchase, reply_after, sample, status}
 
 -- ---- Delivery
 
@@ -104,6 +107,22 @@ abbrev lines_by_number : (placed (line 3 1 0 ∷ line 1 2 0 ∷ line 4 3 0 ∷ l
     ≡ line 1 2 0 ∷ line 2 4 0 ∷ line 3 1 0 ∷ line 4 3 0 ∷ []
 lines_by_number = refl
 
+-- the last order is that with the greatest number, wherever its row stands
+abbrev orders_in_any_order : Tables
+orders_in_any_order = record no_rows { orders = mixed ∷ record mixed { id = 5 } ∷ record mixed { id = 4 } ∷ [] }
+
+abbrev greatest_number : option_map (λ order. order.number) (last_placed (customer_after []) orders_in_any_order)
+    ≡ Some 5
+greatest_number = refl
+
+-- there is no district 0, and none behind the tenth
+abbrev status_in_district : ℕ → Reply
+status_in_district number =
+    reply_after [] (commands.OrderStatus record { warehouse = 1; district = number; who = who.Number 1 })
+
+abbrev status_of_no_district : map status_in_district (0 ∷ 11 ∷ []) ≡ replicate 2 (replies.Refused refusals.NoSuchDistrict)
+status_of_no_district = refl
+
 -- a customer without an order
 abbrev status_of_none : reply_after two_of_one (status 2)
     ≡ replies.OrderStatus 2 (codes "B") (codes "OE") (codes "TWO") (negsuc 999) None
@@ -147,3 +166,21 @@ abbrev item_of_another : reply_after (purchase 2 (bought 1 8 ∷ bought 2 1 ∷ 
     ∷ []) level
     ≡ replies.StockLevel 0
 item_of_another = refl
+
+-- an item of which a district's line came from another warehouse: that is low here
+abbrev line_from_elsewhere : Tables
+line_from_elsewhere = record sample {
+  districts = record (district 1) { next_order = 3 } ∷ [];
+  order_lines = record (line 13 100 0) { supply_warehouse = 2 } ∷ [];
+}
+
+abbrev low_from_elsewhere : low_items (record { warehouse = 1; district = 1; threshold = 12 }) line_from_elsewhere ≡ 1
+low_from_elsewhere = refl
+
+-- there is no district 0, and none behind the tenth
+abbrev level_in_district : ℕ → Reply
+level_in_district number =
+    reply_after [] (commands.StockLevel record { warehouse = 1; district = number; threshold = 11 })
+
+abbrev level_of_no_district : map level_in_district (0 ∷ 11 ∷ []) ≡ replicate 2 (replies.Refused refusals.NoSuchDistrict)
+level_of_no_district = refl

@@ -16,7 +16,7 @@ use Rattle.hy_commands.specs.declared.command.Who.{Who}
 use Rattle.hy_commands.specs.declared.command.Who.TheVariants as who
 use Rattle.hy_commands.specs.declared.reply.Reply.{Reply}
 use Rattle.hy_commands.specs.declared.reply.Reply.TheVariants as replies
-use Rattle.hy_commands.specs.NewOrders.{line_rows, order_row, supplied}
+use Rattle.hy_commands.specs.NewOrders.{line_rows, order_row, supplied, total_of}
 use Rattle.hy_commands.specs.Payments.{history_row}
 use Rattle.hy_commands.specs.Transactions.{act}
 use Rattle.hy_commands.specs.WorkedSample.{after, bought, customer, customer_after, customers, first_of, five_of_each, items, next_order_after, payment, purchase, reply_after, sample, stock_columns}
@@ -106,6 +106,19 @@ abbrev order_of_customer_3 : reply_after [] (commands.NewOrder record {
 }) ≡ replies.NewOrder 1 5_424
 order_of_customer_3 = refl
 
+-- the customer is that of the order's district: with half off and 7 % of taxes 5275 come to 2822.125
+abbrev half_off_in_district_2 : Tables
+half_off_in_district_2 = record sample {
+  customers = customers 1 ++ record (customer 2 1 (codes "ONE") (codes "A")) { discount = 5_000 } ∷ [];
+}
+
+abbrev order_with_half_off : (act items 1 (five_of_each 2) half_off_in_district_2).reply ≡ replies.NewOrder 1 2_822
+order_with_half_off = refl
+
+-- half a cent is a cent, and less is none
+abbrev half_cents : map (λ discount. total_of 1 discount 0 0) (5_000 ∷ 5_001 ∷ []) ≡ 1 ∷ 0 ∷ []
+half_cents = refl
+
 -- an item twice in one order: the second line finds what the first one left
 abbrev order_with_one_twice : Command
 order_with_one_twice = purchase 1 (bought 1 5 ∷ bought 1 5 ∷ bought 2 1 ∷ bought 3 1 ∷ bought 4 1 ∷ [])
@@ -182,6 +195,14 @@ named = record no_rows {
 
 abbrev payment_of : List ℕ → Reply
 payment_of name = (act items 1 (payment (who.Last name) 100) named).reply
+
+-- a name is looked for in the customer's district alone
+abbrev named_elsewhere : Tables
+named_elsewhere = record named { customers = customer 2 9 (codes "ONE") (codes "0") ∷ named.customers }
+
+abbrev payment_of_one_in_district_1 : (act items 1 (payment (who.Last (codes "ONE")) 100) named_elsewhere).reply
+    ≡ replies.Payment 1 (negsuc 1_099)
+payment_of_one_in_district_1 = refl
 
 abbrev payment_of_one : payment_of (codes "ONE") ≡ replies.Payment 1 (negsuc 1_099)
 payment_of_one = refl

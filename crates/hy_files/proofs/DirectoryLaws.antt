@@ -7,6 +7,7 @@ use Rattle.std.proofs.lemmas.Bool.{false≢true}
 use Rattle.std.proofs.lemmas.List.{append_cancel_left}
 use Rattle.std.proofs.lemmas.Option.{slice_get-get_or}
 use Rattle.std.proofs.lemmas.Slice.Eq.{bytes_eq-Decides}
+use Rattle.hy_rows.specs.declared.catalogue.TheConstants.{TABLES}
 use Rattle.hy_rows.specs.declared.catalogue.Table.{Table}
 use Rattle.hy_rows.specs.declared.catalogue.Table.TheVariants as table
 use Rattle.hy_schema.specs.declared.refusal.Refusal.TheVariants as refusals
@@ -36,7 +37,7 @@ AreFiles-push known directory (first ∷ before) (one ∷ texts) table text file
 
 -- the fault of the file at a number is one of the files, where those before it were read
 pub IsUnread-at : (known : Option FilesByPath) (directory : List ℕ) (texts : List (List ℕ)) (number : ℕ)
-    (why : FileFault) → number < 9 → AreFiles known directory (take number tables_by_file) texts
+    (why : FileFault) → number < TABLES → AreFiles known directory (take number tables_by_file) texts
     → (why ≡ fault.Refused refusals.NoMemory)
     ⊎ ((why ≡ fault.CannotRead (get_or tables_by_file number table.Warehouse))
     × IsMissing known (path_of directory (get_or tables_by_file number table.Warehouse)))
@@ -49,7 +50,7 @@ IsUnread-at known directory texts number why within files (inr missing) =
 
 -- and where those before it were written, and those behind it weren't
 pub IsUnwritten-at : (old new : Option FilesByPath) (directory : List ℕ) (texts : List (List ℕ)) (number : ℕ)
-    (why : FileFault) → number < 9 → AreFiles new directory (take number tables_by_file) (take number texts)
+    (why : FileFault) → number < TABLES → AreFiles new directory (take number tables_by_file) (take number texts)
     → KeepsOtherFiles old new directory (take (number + 1) tables_by_file)
     → (why ≡ fault.Refused refusals.NoMemory) ⊎ (why ≡ fault.CannotWrite (get_or tables_by_file number table.Warehouse))
     → IsUnwritten old new directory texts why
@@ -69,7 +70,7 @@ path-differs directory table other differs same =
     false≢true (ap not (sym ((bytes_eq-Decides (file_of other) (file_of table)).1 name)) ∙ differs)
 
 -- no table before a number has the file of the table at that number
-pub names-differ : (number : ℕ) → number < 9
+pub names-differ : (number : ℕ) → number < TABLES
     → list_all (λ other. not (bytes_eq (file_of other) (file_of (get_or tables_by_file number table.Warehouse))))
     (take number tables_by_file) ≡ true
 names-differ zero within = refl

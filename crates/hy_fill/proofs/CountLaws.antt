@@ -1,11 +1,12 @@
 -- How many rows are pushed, and how many entries an index has.
-use Rattle.std.proofs.Common.{◌≡◌, ℕ, ◌+◌, ◌<◌, ◌≤◌, Bool, true, false, cond, List, [], ◌∷◌, ◌++◌, length, map, filter, take, drop, get_or, Option, Some, refl, ap, ◌∙◌, sym, arith}
+use Rattle.std.proofs.Common.{◌≡◌, ℕ, ◌+◌, ◌<◌, ◌≤◌, Bool, true, false, cond, List, [], ◌∷◌, ◌++◌, length, map, filter, take, drop, get_or, Option, Some, refl, ap, ap₂, ◌∙◌, sym, arith}
 use Rattle.std.proofs.lemmas.List.{length-append, length-map, take-append-drop}
 use Rattle.std.proofs.lemmas.List.Elements.{filter-append}
 use Rattle.hy_rows.specs.declared.new_order.NewOrder.{NewOrder}
 use Rattle.hy_rows.specs.declared.order.Order.{Order}
 use Rattle.hy_store.specs.Stored.{new_order_segment}
-use Rattle.hy_rows.specs.Tables.{Tables}
+use Rattle.hy_rows.specs.Tables.{Lists, Tables, of_warehouse}
+use Rattle.hy_layout.specs.Layout.{LayoutState, own_rows}
 use Rattle.hy_space.specs.Space.{SpaceState}
 use Rattle.hy_index.specs.declared.key.Entry.{Entry}
 use Rattle.hy_index.specs.Index.{found, with_entry}
@@ -13,7 +14,7 @@ use Rattle.hy_store.specs.declared.keys.CustomerKey.{CustomerKey}
 use Rattle.hy_store.specs.Keys.{is_lesser_customer}
 use Rattle.hy_store.specs.Pages.{KeepsPagesUpTo}
 use Rattle.hy_store.specs.Stored.{Stored}
-use Rattle.hy_store.specs.Writes.{ChangesStore, stored_in}
+use Rattle.hy_store.specs.Writes.{stored_in}
 use Rattle.hy_layout.specs.Finds.{IsOrder}
 use Rattle.hy_fill.specs.Frames.{most_of}
 use Rattle.hy_fill.specs.inside.Filling.{StaysWithin, with_more, with_new_orders}
@@ -117,21 +118,20 @@ length-with_order orders entry entries =
 
 -- ---- one table after another
 
--- a store that is being filled has these rows and entries, and no more pages than those of a warehouse take
-pub record IsOnWay (n : ℕ) (own : Tables) (first now : SpaceState) (before : Stored) : Type 0 where
-  pub reads : stored_in n now ≡ before
-  pub within : StaysWithin n own first now
+-- the rows that are passed on are the layout's own
+pub own-passed : {Row : Type 0} (rows_in : Tables → List Row) (is_of : ℕ → Row → Bool)
+    → ((number : ℕ) (all : Tables) → rows_in (of_warehouse number all) ≡ filter (is_of number) (rows_in all))
+    → (layout : LayoutState) (lists : Lists) (tables : Tables) (number : ℕ) (rows : List Row)
+    → lists ≡ layout.load → tables ≡ lists.tables → number ≡ layout.warehouse → rows ≡ rows_in tables
+    → filter (is_of number) rows ≡ rows_in (own_rows layout)
+own-passed rows_in is_of own_in layout lists tables number rows load parts same list =
+    ap₂ (λ (n : ℕ) (all : List _). filter (is_of n) all) same
+    (list ∙ ap rows_in (parts ∙ ap (λ (l : Lists). l.tables) load))
+    ∙ sym (own_in layout.warehouse layout.load.tables)
 
--- a table was filled, or that was refused: no more pages either way
-module _ {Row : Type 0} (n : ℕ) (own : Tables) (first old new : SpaceState) (before : Stored) (way : IsOnWay n own first old before)
-    (segment : ℕ) (count_in : Stored → ℕ) (rows owned : List Row) (same : rows ≡ owned) where
-  pub within-next : count_in before ≡ 0 → length owned ≡ most_of own segment
-      → KeepsPagesUpTo n segment (count_in (stored_in n old) + length rows) old new → StaysWithin n own first new
-  within-next none counted keeps had =
-      stays-within n segment (count_in (stored_in n old) + length rows) own old new
-      (omega (arith, ap count_in way.reads, none, ap length same, counted)) keeps (way.within had)
-
-  pub way-next : (change : List Row → Stored → Stored) → ChangesStore n old new (change rows) → StaysWithin n own first new
-      → IsOnWay n own first new (change owned before)
-  way-next change changes within =
-      record { reads = changes.changed ∙ ap (change rows) way.reads ∙ ap (λ (r : List Row). change r before) same; within = within }
+-- a table without rows was given these, or that was refused: no more pages either way
+pub filled-within : {Slot Row : Type 0} (n segment : ℕ) (own : Tables) (old new : SpaceState) (had : List Slot) (rows owned : List Row)
+    → rows ≡ owned → had ≡ [] → most_of own segment ≡ length owned
+    → KeepsPagesUpTo n segment (length had + length rows) old new → StaysWithin n own old new
+filled-within n segment own old new had rows owned same none counted keeps =
+    stays-within n segment (length had + length rows) own old new (omega (arith, ap length none, ap length same, counted)) keeps

@@ -1,6 +1,7 @@
 -- Indexes over the orders of a small load, and frames for some rows, which the checker computes.
-use Rattle.std.specs.Prelude.{◌≡◌, ◌==◌, List, [], ◌∷◌, filter, fold, replicate, refl}
+use Rattle.std.specs.Prelude.{◌≡◌, ◌+◌, ◌-◌, ◌*◌, ◌==◌, List, [], ◌∷◌, filter, fold, replicate, refl}
 use Rattle.hy_rows.specs.declared.order.Order.{Order}
+use Rattle.hy_rows.specs.Catalogue.{segments}
 use Rattle.hy_rows.specs.Tables.{no_rows}
 use Rattle.hy_indexes.specs.Indexes.{order_key_at}
 use Rattle.hy_indexes.specs.WorkedIndexes.{of_customer, of_order, order}
@@ -35,12 +36,13 @@ last_backward = refl
 
 -- 100 orders: with pages of 256 bytes twelve rows of ORDER fit a page. A page of their index has 4 of at most 19 entries
 -- at least, and one of last orders 5 of at most 22. So there are 8 + 2 pages of rows, 100 / 3 + 3 and 100 / 4 + 3 of
--- entries, two for each of seven other tables and three for each of two other indexes
-of_orders : frames_for 256 (record no_rows { orders = replicate 100 (order 1 2 7 30) }) ≡ 94
+-- entries, two for each other table and three for each of two other indexes
+of_orders : frames_for 256 (record no_rows { orders = replicate 100 (order 1 2 7 30) })
+    ≡ 10 + 36 + 28 + 2 * (segments - 1) + 3 * 2
 unfolding frames_for
 of_orders = refl
 
--- without rows two pages for each of eight tables, and three for each of four indexes
-of_none : frames_for 256 no_rows ≡ 28
+-- without rows two pages for each table, and three for each of four indexes
+of_none : frames_for 256 no_rows ≡ 2 * segments + 3 * 4
 unfolding frames_for
 of_none = refl

@@ -6,13 +6,15 @@ ghost use Rattle.hy_undo.specs.PrivatePages.{IsUndoLog};
 ghost use Rattle.hy_index.specs.Index.{with_entry};
 ghost use Rattle.hy_store.specs.Pages.{KeepsPagesUpTo};
 ghost use Rattle.hy_store.specs.Writes.{ChangesStore, IsWritableStore, stored_in};
-ghost use Rattle.hy_layout.specs.Finds.{IsOrder};
+ghost use Rattle.hy_layout.specs.Layout.{own_rows};
 ghost use Rattle.hy_indexes.specs.Finds.{IsIndexOf};
-ghost use Rattle.hy_fill.specs.inside.Filling.{HasOneSlotEach, HasSameEntries, StaysOpen, TellsApart, with_row};
+ghost use Rattle.hy_fill.specs.Frames.{most_of};
+ghost use Rattle.hy_fill.specs.inside.Filling.{HasOneSlotEach, HasSameEntries, StaysOpen, StaysWithin, TellsApart, with_row};
 
 use crate::keys::{Filled, Keyed};
 use hy_frames::Shortage;
 use hy_index::Entry;
+use hy_layout::Layout;
 use hy_space::Space;
 use hy_store::insert_entry;
 use hy_undo::Undo;
@@ -23,39 +25,36 @@ pub(crate) fn fill_index<K: Filled, R: Keyed<K>, const N: usize>(
     alloc: Global,
     space: &mut Space<N>,
     undo: &mut Undo<N>,
-    rows: &[R],
-    warehouse: u8,
+    layout: &Layout,
 ) -> Result<(), Shortage>
     requires writable { IsWritableStore N space.old undo.old }
-    requires order { IsOrder K.is_less }
     requires empty { K.entries_in (stored_in N space.old) ≡ [] }
-    requires apart { TellsApart R.key_of (slice_get (filter (R.is_of warehouse) rows.now)) }
-    ensures index { OnOk result (IsIndexOf R.key_of (slice_get (filter (R.is_of warehouse) rows.now))
+    requires apart { TellsApart R.key_of (slice_get (R.rows_in (own_rows layout.now))) }
+    requires counted { most_of (own_rows layout.now) K.SEGMENT ≡ length (R.rows_in (own_rows layout.now)) }
+    ensures index { OnOk result (IsIndexOf R.key_of (slice_get (R.rows_in (own_rows layout.now)))
         (K.entries_in (stored_in N space.new))) }
-    ensures only { OnOk result (ChangesStore N space.old space.new
-        (λ old. K.with_entries old (K.entries_in (stored_in N space.new)))) }
-    ensures undo_log { OnOk result (IsUndoLog N space.new undo.new) }
+    ensures only { OnOk result (stored_in N space.new
+        ≡ K.with_entries (stored_in N space.old) (K.entries_in (stored_in N space.new))) }
+    ensures writable { OnOk result (IsWritableStore N space.new undo.new) }
     ensures stays { StaysOpen space.old space.new }
-    ensures pages { KeepsPagesUpTo N K.SEGMENT (length (filter (R.is_of warehouse) rows.now))
-        space.old space.new }
+    ensures pages { StaysWithin N (own_rows layout.now) space.old space.new }
     ensures no_frame { IsErrOf result Shortage.NoFrame → free_of space.new.frames ≡ 0 }
 {
-    let entries = entries_of(alloc, rows, warehouse)?;
+    let entries = entries_of::<K, R>(alloc, layout)?;
     insert_entries(space, undo, entries.as_slice())
 }
 
 /// The entries of a warehouse's rows, sorted by their keys.
 pub(crate) fn entries_of<K: Filled, R: Keyed<K>>(
     alloc: Global,
-    rows: &[R],
-    warehouse: u8,
+    layout: &Layout,
 ) -> Result<Vec<Entry<K>>, AllocError>
     ensures index { IfOk result (λ entries. IsIndexOf R.key_of
-        (slice_get (filter (R.is_of warehouse) rows.now)) entries.items) }
-    ensures count { IfOk result (λ entries. length entries.items
-        ≡ length (filter (R.is_of warehouse) rows.now)) }
+        (slice_get (R.rows_in (own_rows layout.now))) entries.items) }
+    ensures count { IfOk result (λ entries. length entries.items ≡ length (R.rows_in (own_rows layout.now))) }
 {
-    let mut entries = unsorted_entries(alloc, rows, warehouse)?;
+    let rows = layout.load().tables().list::<R>();
+    let mut entries = unsorted_entries(alloc, rows, layout.warehouse())?;
     entries.sort_unstable_by(|one, other| one.key.compare(&other.key));
     Ok(entries)
 }
@@ -105,7 +104,6 @@ fn insert_entries<K: Filled, const N: usize>(
     entries: &[Entry<K>],
 ) -> Result<(), Shortage>
     requires writable { IsWritableStore N space.old undo.old }
-    requires order { IsOrder K.is_less }
     requires empty { K.entries_in (stored_in N space.old) ≡ [] }
     requires apart { HasOneSlotEach entries.now }
     ensures same { OnOk result (HasSameEntries entries.now (K.entries_in (stored_in N space.new))) }

@@ -12,7 +12,7 @@ ghost use Rattle.hy_fill.specs.inside.Filling.{StaysOpen, StaysWithin, TellsApar
 
 use crate::entries::fill_index;
 use crate::last_orders::fill_last_orders;
-use crate::rows::{push_new_orders, push_rows};
+use crate::rows::{fill_new_orders, fill_table};
 use hy_commands::conditions_are_kept;
 use hy_frames::Shortage;
 use hy_layout::Layout;
@@ -82,17 +82,14 @@ fn fill_rows<const N: usize>(
     ensures pages { StaysWithin N (own_rows layout.now) space.old space.new }
     ensures no_frame { IsErrOf result Shortage.NoFrame → free_of space.new.frames ≡ 0 }
 {
-    let warehouse = layout.warehouse();
-    let tables = layout.load().tables();
-    push_rows(space, undo, tables.list::<Warehouse>(), warehouse)?;
-    push_rows(space, undo, tables.list::<District>(), warehouse)?;
-    push_rows(space, undo, tables.list::<Customer>(), warehouse)?;
-    push_rows(space, undo, tables.list::<History>(), warehouse)?;
-    push_new_orders(space, undo, tables.list::<NewOrder>(), warehouse)?;
-    push_rows(space, undo, tables.list::<Order>(), warehouse)?;
-    push_rows(space, undo, tables.list::<OrderLine>(), warehouse)?;
-    push_rows(space, undo, tables.list::<Stock>(), warehouse)?;
-    Ok(())
+    fill_table::<Warehouse, N>(space, undo, layout)?;
+    fill_table::<District, N>(space, undo, layout)?;
+    fill_table::<Customer, N>(space, undo, layout)?;
+    fill_table::<History, N>(space, undo, layout)?;
+    fill_new_orders(space, undo, layout)?;
+    fill_table::<Order, N>(space, undo, layout)?;
+    fill_table::<OrderLine, N>(space, undo, layout)?;
+    fill_table::<Stock, N>(space, undo, layout)
 }
 
 /// Gives a store with the rows of a warehouse its indexes.
@@ -112,12 +109,10 @@ fn fill_indexes<const N: usize>(
     ensures no_frame { IsErrOf result Shortage.NoFrame → free_of space.new.frames ≡ 0 }
 {
     know_keys(layout);
-    let warehouse = layout.warehouse();
-    let tables = layout.load().tables();
-    fill_index::<OrderKey, Order, N>(alloc, space, undo, tables.list(), warehouse)?;
-    fill_last_orders(alloc, space, undo, tables.list(), warehouse)?;
-    fill_index::<WaitingKey, NewOrder, N>(alloc, space, undo, tables.list(), warehouse)?;
-    fill_index::<LineKey, OrderLine, N>(alloc, space, undo, tables.list(), warehouse)?;
+    fill_index::<OrderKey, Order, N>(alloc, space, undo, layout)?;
+    fill_last_orders(alloc, space, undo, layout)?;
+    fill_index::<WaitingKey, NewOrder, N>(alloc, space, undo, layout)?;
+    fill_index::<LineKey, OrderLine, N>(alloc, space, undo, layout)?;
     Ok(())
 }
 

@@ -4,6 +4,7 @@ ghost use Rattle.std.specs.Prelude.{◌≡◌, List};
 ghost use Rattle.std.specs.Ordering.{is_lt};
 ghost use Rattle.hy_index.specs.declared.key.Entry.{Entry};
 ghost use Rattle.hy_store.specs.Stored.{Stored};
+ghost use Rattle.hy_layout.specs.Finds.{IsOrder};
 
 use hy_rows::{NewOrder, Order, OrderLine, Row};
 use hy_store::{CustomerKey, Indexed, LineKey, OrderKey, WaitingKey};
@@ -14,6 +15,9 @@ pub(crate) trait Filled: Indexed {
     /// How two keys stand in the order of the index.
     fn compare(&self, other: &Self) -> Ordering
         ensures { is_lt result ≡ Self.is_less self.now other.now };
+
+    /// The keys are in an order.
+    ghost is_order: { IsOrder Self.is_less };
 
     /// The entries of the index stand by themselves beside the rest of the store.
     ghost own_entries: { (store : Stored) (entries : List (Entry Self))
@@ -29,6 +33,9 @@ pub(crate) trait Filled: Indexed {
 
 impl Filled for OrderKey {
     ghost use Rattle.std.proofs.Common.{refl};
+    ghost use Rattle.hy_indexes.proofs.KeyOrders.{order-of_orders};
+
+    ghost is_order = { order-of_orders };
 
     ghost own_entries = { λ store entries. refl };
 
@@ -45,6 +52,9 @@ impl Filled for OrderKey {
 
 impl Filled for CustomerKey {
     ghost use Rattle.std.proofs.Common.{refl};
+    ghost use Rattle.hy_indexes.proofs.KeyOrders.{order-of_customers};
+
+    ghost is_order = { order-of_customers };
 
     ghost own_entries = { λ store entries. refl };
 
@@ -61,6 +71,9 @@ impl Filled for CustomerKey {
 
 impl Filled for WaitingKey {
     ghost use Rattle.std.proofs.Common.{refl};
+    ghost use Rattle.hy_indexes.proofs.KeyOrders.{order-of_waiting};
+
+    ghost is_order = { order-of_waiting };
 
     ghost own_entries = { λ store entries. refl };
 
@@ -77,6 +90,9 @@ impl Filled for WaitingKey {
 
 impl Filled for LineKey {
     ghost use Rattle.std.proofs.Common.{refl};
+    ghost use Rattle.hy_indexes.proofs.KeyOrders.{order-of_lines};
+
+    ghost is_order = { order-of_lines };
 
     ghost own_entries = { λ store entries. refl };
 

@@ -1,6 +1,6 @@
 //! The last order of each customer.
 
-ghost use Rattle.std.specs.Prelude.{◌≡◌, ◌==◌, ℕ, ◌+◌, ◌<◌, [], Some, OnOk, IsErrOf, length, slice_get, filter};
+ghost use Rattle.std.specs.Prelude.{◌≡◌, ℕ, ◌+◌, ◌<◌, [], Some, OnOk, IsErrOf, length, slice_get};
 ghost use Rattle.hy_frames.specs.FrameTable.{free_of};
 ghost use Rattle.hy_index.specs.Index.{found};
 ghost use Rattle.hy_space.specs.Space.{owner_bytes};
@@ -11,12 +11,14 @@ ghost use Rattle.hy_store.specs.Stored.{HasStore, last_order_index};
 ghost use Rattle.hy_store.specs.Writes.{ChangesStore, IsWritableStore, stored_in};
 ghost use Rattle.hy_indexes.specs.Finds.{IsIndexOf};
 ghost use Rattle.hy_indexes.specs.Indexes.{AreLastOrders, buyer_key_at};
-ghost use Rattle.hy_fill.specs.inside.Filling.{StaysOpen};
+ghost use Rattle.hy_layout.specs.Layout.{own_rows};
+ghost use Rattle.hy_fill.specs.inside.Filling.{StaysOpen, StaysWithin};
 ghost use Rattle.hy_fill.specs.inside.LastOrders.{is_later, with_last_order};
 
 use crate::entries::{entries_of, insert_lasting};
 use hy_frames::Shortage;
 use hy_index::Entry;
+use hy_layout::Layout;
 use hy_rows::Order;
 use hy_space::Space;
 use hy_store::{CustomerKey, find_slot, row_at};
@@ -29,24 +31,21 @@ pub(crate) fn fill_last_orders<const N: usize>(
     alloc: Global,
     space: &mut Space<N>,
     undo: &mut Undo<N>,
-    orders: &[Order],
-    warehouse: u8,
+    layout: &Layout,
 ) -> Result<(), Shortage>
     requires writable { IsWritableStore N space.old undo.old }
-    requires orders { (stored_in N space.old).tables.orders
-        ≡ filter (λ row. row.warehouse == warehouse) orders.now }
+    requires orders { (stored_in N space.old).tables.orders ≡ (own_rows layout.now).orders }
     requires empty { (stored_in N space.old).last_orders ≡ [] }
     ensures last_orders { OnOk result (AreLastOrders (stored_in N space.new).tables.orders
         (stored_in N space.new).last_orders) }
-    ensures only { OnOk result (ChangesStore N space.old space.new
-        (λ old. record old { last_orders = (stored_in N space.new).last_orders })) }
-    ensures undo_log { OnOk result (IsUndoLog N space.new undo.new) }
+    ensures only { OnOk result (stored_in N space.new
+        ≡ record (stored_in N space.old) { last_orders = (stored_in N space.new).last_orders }) }
+    ensures writable { OnOk result (IsWritableStore N space.new undo.new) }
     ensures stays { StaysOpen space.old space.new }
-    ensures pages { KeepsPagesUpTo N last_order_index (length (stored_in N space.old).tables.orders)
-        space.old space.new }
+    ensures pages { StaysWithin N (own_rows layout.now) space.old space.new }
     ensures no_frame { IsErrOf result Shortage.NoFrame → free_of space.new.frames ≡ 0 }
 {
-    let entries = entries_of::<CustomerKey, Order>(alloc, orders, warehouse)?;
+    let entries = entries_of::<CustomerKey, Order>(alloc, layout)?;
     give_orders(space, undo, entries.as_slice())
 }
 

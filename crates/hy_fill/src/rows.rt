@@ -6,16 +6,56 @@ ghost use Rattle.hy_store.specs.Stored.{new_order_segment};
 ghost use Rattle.hy_undo.specs.PrivatePages.{IsUndoLog};
 ghost use Rattle.hy_store.specs.Pages.{KeepsPagesUpTo};
 ghost use Rattle.hy_store.specs.Writes.{ChangesStore, IsWritableStore, stored_in};
-ghost use Rattle.hy_fill.specs.inside.Filling.{StaysOpen, with_more, with_new_orders};
+ghost use Rattle.hy_layout.specs.Layout.{own_rows};
+ghost use Rattle.hy_fill.specs.inside.Filling.{StaysOpen, StaysWithin, with_more, with_new_orders, with_table};
 
 use hy_frames::Shortage;
-use hy_rows::{NewOrder, Row};
+use hy_layout::Layout;
+use hy_rows::{Lasting, NewOrder, Row};
 use hy_space::Space;
-use hy_store::{Lasting, push_new_order, push_row};
+use hy_store::{push_new_order, push_row};
 use hy_undo::Undo;
 
+/// Gives a table without rows those of a warehouse.
+pub(crate) fn fill_table<R: Lasting, const N: usize>(
+    space: &mut Space<N>,
+    undo: &mut Undo<N>,
+    layout: &Layout,
+) -> Result<(), Shortage>
+    requires writable { IsWritableStore N space.old undo.old }
+    requires empty { R.rows_in (stored_in N space.old).tables ≡ [] }
+    ensures writable { OnOk result (IsWritableStore N space.new undo.new) }
+    ensures rows { OnOk result (stored_in N space.new
+        ≡ with_table R.with_rows (R.rows_in (own_rows layout.now)) (stored_in N space.old)) }
+    ensures stays { StaysOpen space.old space.new }
+    ensures pages { StaysWithin N (own_rows layout.now) space.old space.new }
+    ensures no_frame { IsErrOf result Shortage.NoFrame → free_of space.new.frames ≡ 0 }
+{
+    let rows = layout.load().tables().list::<R>();
+    push_rows(space, undo, rows, layout.warehouse())
+}
+
+/// Gives NEW-ORDER without a slot the rows of a warehouse.
+pub(crate) fn fill_new_orders<const N: usize>(
+    space: &mut Space<N>,
+    undo: &mut Undo<N>,
+    layout: &Layout,
+) -> Result<(), Shortage>
+    requires writable { IsWritableStore N space.old undo.old }
+    requires empty { (stored_in N space.old).new_order_slots ≡ [] }
+    ensures writable { OnOk result (IsWritableStore N space.new undo.new) }
+    ensures rows { OnOk result (stored_in N space.new
+        ≡ with_new_orders (own_rows layout.now).new_orders (stored_in N space.old)) }
+    ensures stays { StaysOpen space.old space.new }
+    ensures pages { StaysWithin N (own_rows layout.now) space.old space.new }
+    ensures no_frame { IsErrOf result Shortage.NoFrame → free_of space.new.frames ≡ 0 }
+{
+    let rows = layout.load().tables().list::<NewOrder>();
+    push_new_orders(space, undo, rows, layout.warehouse())
+}
+
 /// Adds those rows that belong to a warehouse behind those of their table.
-pub(crate) fn push_rows<R: Lasting, const N: usize>(
+fn push_rows<R: Lasting, const N: usize>(
     space: &mut Space<N>,
     undo: &mut Undo<N>,
     rows: &[R],
@@ -61,7 +101,7 @@ fn push_own_row<R: Lasting, const N: usize>(
 }
 
 /// Adds those rows that belong to a warehouse behind those of NEW-ORDER.
-pub(crate) fn push_new_orders<const N: usize>(
+fn push_new_orders<const N: usize>(
     space: &mut Space<N>,
     undo: &mut Undo<N>,
     rows: &[NewOrder],

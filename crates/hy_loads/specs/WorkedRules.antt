@@ -1,9 +1,9 @@
 -- Worked examples of the rules of rows, which the checker computes: for each rule a list whose second row breaks it, or
 -- is missing, so that the first fault of the list is row 2. A right second row is shown before the wrong ones, which
 -- differ from it in one column.
-use Rattle.std.specs.Prelude.{ℕ, ◌+◌, ◌<◌, ⊤, pos, IfSome, List, [], ◌∷◌, slice_get, codes, refl}
+use Rattle.std.specs.Prelude.{ℕ, ◌+◌, ◌<◌, ⊤, pos, Bool, true, IsTrue, ◌&&◌, IfSome, List, [], ◌∷◌, slice_get, codes, refl}
 use Rattle.std.proofs.Common.{zero, suc, sym, inl, inr, arith, lit≤, lit<}
-use Rattle.std.proofs.lemmas.Bool.{false≢true}
+use Rattle.std.proofs.lemmas.Bool.{and_from, false≢true}
 use Rattle.std.proofs.lemmas.Int.{ints}
 use Rattle.hy_rows.specs.declared.warehouse.Warehouse.{Warehouse}
 use Rattle.hy_rows.specs.declared.district.District.{District}
@@ -16,11 +16,8 @@ use Rattle.hy_rows.specs.declared.order_line.OrderLine.{OrderLine}
 use Rattle.hy_rows.specs.declared.history.History.{History}
 use Rattle.hy_rows.specs.Limits.{districts_per_warehouse, max_customers, max_items, max_lines, max_order, max_warehouses}
 use Rattle.hy_rows.specs.Ranges.{IsBetween}
-use Rattle.hy_rows.specs.Catalogue.{columns_of}
-use Rattle.hy_rows.specs.declared.catalogue.Table.TheVariants as tables
-use Rattle.hy_rows.specs.Rows.{customer_values, district_values, item_values, new_order_values, order_line_values, order_values, stock_values, warehouse_values, IsCustomerInRange, IsDistrictInRange, IsHistoryInRange, IsItemInRange, IsNewOrderInRange, IsOrderInRange, IsOrderLineInRange, IsStockInRange, IsWarehouseInRange}
+use Rattle.hy_rows.specs.Rows.{IsCustomerInRange, IsDistrictInRange, IsHistoryInRange, IsItemInRange, IsNewOrderInRange, IsOrderInRange, IsOrderLineInRange, IsStockInRange, IsWarehouseInRange}
 use Rattle.hy_rows.specs.WorkedRows.{fresh_customer, fresh_district, fresh_warehouse}
-use Rattle.hy_rows.proofs.RangeLaws.{each-allowed}
 use Rattle.hy_schema.specs.Loads.{HasAllCustomers, HasAllDistricts, HasAllStock, HasSome, IsCustomerAt, IsDistrictAt, IsFirstFault, IsHistoryAt, IsItemAt, IsNewOrderAt, IsOrderAt, IsOrderLineAt, IsStockAt, IsWarehouseAt}
 
 -- a row of each table by the columns of its key, and a payment of customer 1 in district 1
@@ -82,42 +79,38 @@ payment = record {
   information = codes "W1    D1";
 }
 
--- each is in range where its key is
+-- each is in range where its key is: the values behind the key are numbers and texts, which compute
+both : {one other : Bool} → IsTrue one → IsTrue other → IsTrue (one && other)
+both {one} {other} first second = and_from one other first second
+
 warehouse-in_range : (number : ℕ) → IsBetween 1 max_warehouses number → IsWarehouseInRange (warehouse number)
-warehouse-in_range number between =
-    each-allowed (columns_of tables.Warehouse) (warehouse_values (warehouse number)) (between, (refl, (refl, (refl, tt))))
+warehouse-in_range number between = both between refl
 
 district-in_range : (warehouse number : ℕ) → IsBetween 1 max_warehouses warehouse
     → IsBetween 1 districts_per_warehouse number → IsDistrictInRange (district warehouse number)
-district-in_range warehouse number warehouse_between between =
-    each-allowed (columns_of tables.District) (district_values (district warehouse number)) (between, (warehouse_between, (refl, (refl, (refl, (refl, tt))))))
+district-in_range warehouse number warehouse_between between = both between (both warehouse_between refl)
 
 customer-in_range : (warehouse district number : ℕ) → IsBetween 1 max_warehouses warehouse
     → IsBetween 1 districts_per_warehouse district → IsBetween 1 max_customers number
     → IsCustomerInRange (customer warehouse district number)
 customer-in_range warehouse district number warehouse_between district_between between =
-    each-allowed (columns_of tables.Customer) (customer_values (customer warehouse district number)) (between, (district_between, (warehouse_between, (refl, (refl, (refl, (refl, (refl, (refl, (refl, (refl, (refl, tt))))))))))))
+    both between (both district_between (both warehouse_between refl))
 
 item-in_range : (number : ℕ) → IsBetween 1 max_items number → IsItemInRange (item number)
-item-in_range number between =
-    each-allowed (columns_of tables.Item) (item_values (item number)) (between, (refl, (refl, (refl, tt))))
+item-in_range number between = both between refl
 
 stock-in_range : (warehouse item : ℕ) → IsBetween 1 max_warehouses warehouse → IsBetween 1 max_items item
     → IsStockInRange (stock warehouse item)
-stock-in_range warehouse item warehouse_between between =
-    each-allowed (columns_of tables.Stock) (stock_values (stock warehouse item)) (between, (warehouse_between, (refl, (refl, (refl, (refl, tt))))))
+stock-in_range warehouse item warehouse_between between = both between (both warehouse_between refl)
 
 order-in_range : (number : ℕ) → IsBetween 1 max_order number → IsOrderInRange (order number)
-order-in_range number between =
-    each-allowed (columns_of tables.Order) (order_values (order number)) (between, (refl, (refl, (refl, (refl, (refl, (refl, (refl, tt))))))))
+order-in_range number between = both between refl
 
 new_order-in_range : (number : ℕ) → IsBetween 1 max_order number → IsNewOrderInRange (new_order number)
-new_order-in_range number between =
-    each-allowed (columns_of tables.NewOrder) (new_order_values (new_order number)) (between, (refl, (refl, tt)))
+new_order-in_range number between = both between refl
 
 line-in_range : (number : ℕ) → IsBetween 1 max_lines number → IsOrderLineInRange (line number)
-line-in_range number between =
-    each-allowed (columns_of tables.OrderLine) (order_line_values (line number)) (refl, (refl, (refl, (between, (refl, (refl, (refl, (refl, (refl, tt)))))))))
+line-in_range number between = both {one = true} refl (both {one = true} refl (both {one = true} refl (both between refl)))
 
 payment-in_range : IsHistoryInRange payment
 payment-in_range = refl

@@ -1,9 +1,10 @@
 -- A payment over two warehouses, which the checker computes: its part in a small partition of its home, which is kept or
 -- undone, what the customer's warehouse has of it, and what the words for these calls leave no room for.
-use Rattle.std.specs.Prelude.{◌≡◌, ℕ, suc, pos, negsuc, true, false, Option, Some, None, List, [], ◌∷◌, codes, map, replicate, refl}
+use Rattle.std.specs.Prelude.{◌≡◌, ℕ, ◌-◌, suc, pos, negsuc, true, false, Option, Some, None, List, [], ◌∷◌, codes, map, replicate, refl}
 use Rattle.std.proofs.Common.{zero, inl, inr, sym, ◌∙◌}
 use Rattle.std.proofs.lemmas.List.{append_cancel_left}
 use Rattle.hy_frames.specs.FrameTable.{Frame, empty_frame, free_of}
+use Rattle.hy_rows.specs.Catalogue.{segments}
 use Rattle.hy_rows.specs.declared.customer.Customer.{Customer}
 use Rattle.hy_rows.specs.declared.history.History.{History}
 use Rattle.hy_rows.specs.Rows.{history_bytes, warehouse_bytes}
@@ -25,7 +26,7 @@ use Rattle.hy_tpcc.specs.Parts.{HasPart, reply_of_part}
 use Rattle.hy_partition.specs.Jobs.{Log}
 use Rattle.hy_partition.specs.Partition.{PartitionState, layout_of, projection_of, rows_now}
 use Rattle.hy_partition.specs.Parts.{DoesPart, HasNoPart, IsWhyUndone, KeepsPart, rows_with_part, share_of_part, with_part_entered}
-use Rattle.hy_partition.specs.WorkedRows.{after, before, page_of_count, page_of_row, page_of_zeros, small, snapshot_table}
+use Rattle.hy_partition.specs.WorkedRows.{after, before, behind_history, live_table, page_of_count, page_of_row, page_of_zeros, small, snapshot_table}
 
 -- ---- a payment of 1.00 at warehouse 1, for customer 3 of district 4 of warehouse 2
 
@@ -121,7 +122,7 @@ row_before = page_of_row (warehouse_bytes before)
 abbrev resting_pages : SpaceState
 resting_pages = pages_on snapshot_table
     (in_both page_of_count ∷ in_both row_before ∷ empty_frame ∷ in_both page_of_zeros ∷ empty_frame ∷ empty_frame
-    ∷ replicate 6 (in_both page_of_zeros))
+    ∷ replicate (segments - 2) (in_both page_of_zeros))
 
 abbrev resting : PartitionState
 resting = record small {
@@ -147,17 +148,16 @@ paid_row = record {
 }
 
 abbrev done_pages : SpaceState
-done_pages = pages_on
-    ((0 ∷ 2 ∷ []) ∷ (6 ∷ []) ∷ (7 ∷ []) ∷ (4 ∷ 5 ∷ []) ∷ (8 ∷ []) ∷ (9 ∷ []) ∷ (10 ∷ []) ∷ (11 ∷ []) ∷ [])
+done_pages = pages_on live_table
     (in_both page_of_count ∷ in_snapshot row_before ∷ in_one (page_of_row (warehouse_bytes after))
     ∷ in_snapshot page_of_zeros ∷ in_one page_of_count ∷ in_one (page_of_row (history_bytes paid_row))
-    ∷ replicate 6 (in_both page_of_zeros))
+    ∷ replicate (segments - 2) (in_both page_of_zeros))
 
 abbrev done : PartitionState
 done = record resting {
   part = Some paid_there;
   undo = record {
-    counts = 2 ∷ replicate 7 1;
+    counts = 2 ∷ replicate (segments - 1) 1;
     images =
         record { segment = 0; page = 1; offset = 1; bytes = warehouse_bytes before }
         ∷ record { segment = 3; page = 0; offset = 0; bytes = replicate 8 0 } ∷ [];
@@ -251,9 +251,9 @@ kept_spells = refl
 
 abbrev undone_pages : SpaceState
 undone_pages = pages_on
-    ((0 ∷ 2 ∷ []) ∷ (6 ∷ []) ∷ (7 ∷ []) ∷ (4 ∷ []) ∷ (8 ∷ []) ∷ (9 ∷ []) ∷ (10 ∷ []) ∷ (11 ∷ []) ∷ [])
+    ((0 ∷ 2 ∷ []) ∷ (6 ∷ []) ∷ (7 ∷ []) ∷ (4 ∷ []) ∷ behind_history)
     (in_both page_of_count ∷ in_snapshot row_before ∷ in_one row_before ∷ in_snapshot page_of_zeros
-    ∷ in_one page_of_zeros ∷ empty_frame ∷ replicate 6 (in_both page_of_zeros))
+    ∷ in_one page_of_zeros ∷ empty_frame ∷ replicate (segments - 2) (in_both page_of_zeros))
 
 abbrev without_part : PartitionState
 without_part = record resting { undo = empty_log undone_pages; space = undone_pages }
@@ -284,7 +284,7 @@ undone_spells = refl
 
 -- two frames fewer are free than before the part was begun, and one more than while it was done
 free_frames : map (λ (p : PartitionState). free_of p.space.frames) (resting ∷ done ∷ without_part ∷ [])
-    ≡ 11 ∷ 8 ∷ 9 ∷ []
+    ≡ (19 - segments) ∷ (16 - segments) ∷ (17 - segments) ∷ []
 free_frames = refl
 
 -- ---- the customer's warehouse, whose pages don't matter here

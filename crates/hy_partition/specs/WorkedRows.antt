@@ -1,6 +1,7 @@
 -- What the calls do at their edges, and a small partition in the middle of a payment, which the checker computes.
 use Rattle.std.specs.Prelude.{◌≡◌, ℕ, suc, pos, negsuc, Bool, true, false, Some, None, List, [], ◌∷◌, ◌++◌, ◌+◌, ◌-◌, ◌&&◌, nat_lt, codes, count_by, length, map, replicate, refl}
-use Rattle.std.specs.List.{list_all}
+use Rattle.std.specs.List.{list_all, range_with_len}
+use Rattle.hy_rows.specs.Catalogue.{segments}
 use Rattle.std.proofs.Common.{zero, ◌<◌, ◌≤◌, ◌==◌, inl, inr, ap, ap₂, sym, ◌∙◌, subst, arith, lit<, lit≤}
 use Rattle.std.proofs.lemmas.Bool.{and_parts, cases_lt, eqb-true}
 use Rattle.std.proofs.lemmas.Bool.Decides.{nat_tests}
@@ -185,13 +186,14 @@ page_of_zeros = replicate 64 0
 
 -- the frame numbers of the live pages, and of the snapshot's: of WAREHOUSE two pages, of HISTORY, segment 3, one and then
 -- two, and of each other table one
+abbrev pub behind_history : List (List ℕ)
+behind_history = map (λ frame. frame ∷ []) (range_with_len 8 (segments - 4))
+
 abbrev pub live_table : List (List ℕ)
-live_table =
-    (0 ∷ 2 ∷ []) ∷ (6 ∷ []) ∷ (7 ∷ []) ∷ (4 ∷ 5 ∷ []) ∷ (8 ∷ []) ∷ (9 ∷ []) ∷ (10 ∷ []) ∷ (11 ∷ []) ∷ []
+live_table = (0 ∷ 2 ∷ []) ∷ (6 ∷ []) ∷ (7 ∷ []) ∷ (4 ∷ 5 ∷ []) ∷ behind_history
 
 abbrev pub snapshot_table : List (List ℕ)
-snapshot_table =
-    (0 ∷ 1 ∷ []) ∷ (6 ∷ []) ∷ (7 ∷ []) ∷ (3 ∷ []) ∷ (8 ∷ []) ∷ (9 ∷ []) ∷ (10 ∷ []) ∷ (11 ∷ []) ∷ []
+snapshot_table = (0 ∷ 1 ∷ []) ∷ (6 ∷ []) ∷ (7 ∷ []) ∷ (3 ∷ []) ∷ behind_history
 
 -- frames 1 and 3 are the snapshot's, frames 2, 4 and 5 the owner's alone; the others have two users
 abbrev pub small : PartitionState
@@ -206,7 +208,7 @@ small = record {
   running = Some (job half_paid 1);
   part = None;
   undo = record {
-    counts = 2 ∷ replicate 7 1;
+    counts = 2 ∷ replicate (segments - 1) 1;
     images =
         record { segment = 0; page = 1; offset = 1; bytes = warehouse_bytes before }
         ∷ record { segment = 3; page = 0; offset = 0; bytes = replicate 8 0 } ∷ [];
@@ -224,7 +226,7 @@ small = record {
           ∷ record { count = 1; bytes = page_of_zeros; lent = true }
           ∷ record { count = 1; bytes = page_of_count; lent = false }
           ∷ record { count = 1; bytes = page_of_row (history_bytes new_row); lent = false }
-          ∷ replicate 6 (record { count = 2; bytes = page_of_zeros; lent = true });
+          ∷ replicate (segments - 2) (record { count = 2; bytes = page_of_zeros; lent = true });
     };
   };
   snapshots = Some 0 ∷ [];
@@ -258,7 +260,7 @@ small-undone = refl
 pub small-touched : touched small.undo ≡ 2
 small-touched = refl
 
-pub small-counts : page_counts small.space ≡ 2 ∷ 1 ∷ 1 ∷ 2 ∷ replicate 4 1
+pub small-counts : page_counts small.space ≡ 2 ∷ 1 ∷ 1 ∷ 2 ∷ replicate (segments - 4) 1
 small-counts = refl
 
 -- the consistency conditions hold of the rows that are kept
@@ -346,7 +348,7 @@ width_is same = cc
 
 -- the pages of the snapshot spell the warehouse before the payment
 abbrev pub pages_before : List (List (List ℕ))
-pages_before = (page_of_count ∷ page_of_row (warehouse_bytes before) ∷ []) ∷ replicate 7 (page_of_zeros ∷ [])
+pages_before = (page_of_count ∷ page_of_row (warehouse_bytes before) ∷ []) ∷ replicate (segments - 1) (page_of_zeros ∷ [])
 
 spelled : Spells 64 pages_before (rows_now small)
 spelled = record { whole = record { all_segments = lit≤ tt; slots = slots }; rows = refl }
@@ -355,9 +357,9 @@ spelled = record { whole = record { all_segments = lit≤ tt; slots = slots }; r
     slots zero row_bytes table = subst (λ width. HasSlots 64 width (list_at pages_before 0)) (width_is table)
         (record { first = lit< tt; slots = lit≤ tt })
     slots (suc segment) row_bytes table =
-        let there : segment < 7 = omega (arith, segment_there (suc segment) row_bytes table) in
+        let there : segment < segments - 1 = omega (arith, segment_there (suc segment) row_bytes table) in
         let none : used_slots (page_of_zeros ∷ []) ≡ 0 = refl in
-        subst (HasSlots 64 row_bytes) (sym (get_or-replicate 7 segment (page_of_zeros ∷ []) [] there))
+        subst (HasSlots 64 row_bytes) (sym (get_or-replicate (segments - 1) segment (page_of_zeros ∷ []) [] there))
         (record { first = lit< tt; slots = omega (arith, none) })
 
 -- the headline holds of it

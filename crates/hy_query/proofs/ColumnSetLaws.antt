@@ -5,6 +5,7 @@ use Rattle.std.proofs.lemmas.Bool.{false≢true, cases_Bool, eqb-true, eq-eqb, o
 use Rattle.std.proofs.lemmas.Option.{slice_get_within}
 use Rattle.hy_rows.specs.Catalogue.{columns_of, max_columns, place_of}
 use Rattle.hy_rows.specs.Columns.{Column as ColumnDefinition}
+use Rattle.hy_rows.specs.declared.catalogue.TheConstants.{TABLES}
 use Rattle.hy_rows.specs.Spelling.{list_at}
 use Rattle.hy_rows.proofs.CatalogueLaws.{columns-few, place-few}
 use Rattle.hy_query.specs.declared.column.Column.{Column}
@@ -30,7 +31,7 @@ or_false true = refl
 or_false false = refl
 
 -- a set with one column more
-pub has_column-insert : (set : List (List Bool)) (column other : Column) (at : ℕ) (new : List Bool) → length set ≡ 9
+pub has_column-insert : (set : List (List Bool)) (column other : Column) (at : ℕ) (new : List Bool) → length set ≡ TABLES
     → length (list_at set at) ≡ max_columns → IsSome (kind_of column) → at ≡ place_of column.table
     → new ≡ slice_set (list_at set at) column.place true
     → has_column (slice_set set at new) other ≡ (has_column set other || is_column other column)

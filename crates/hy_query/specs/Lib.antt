@@ -9,3 +9,4 @@ pub mod Meaning
 pub mod inside
 pub mod WorkedTexts
 pub mod WorkedAnswers
+pub mod WorkedTables

@@ -16,7 +16,7 @@ use Rattle.hy_query.specs.Queries.{QueryState, no_query}
 use Rattle.hy_query.specs.Rows.{Row}
 
 -- the answer to a text
-abbrev answer_in : Lists → Result QueryState ℕ → List Row
+abbrev pub answer_in : Lists → Result QueryState ℕ → List Row
 answer_in lists (Ok query) = answer_of query lists
 answer_in lists (Err place) = []
 
@@ -44,7 +44,7 @@ shop = record {
 abbrev asked : List ℕ → List Row
 asked text = answer_in shop (query_of text)
 
-abbrev number : ℕ → Row
+abbrev pub number : ℕ → Row
 number value = Whole (pos value) ∷ []
 
 -- ---- combinations and conditions

@@ -2,7 +2,7 @@
 use Rattle.std.specs.Prelude.{◌≡◌, ◌++◌, ℕ, List, [], ◌∷◌, map, replicate, pos, negsuc, true, false, None, Some, option_and_then, Result, Ok, Err, codes, refl}
 use Rattle.std.specs.Fmt.{digits}
 use Rattle.hy_decimal.specs.Numbers.{number_of}
-use Rattle.hy_rows.specs.Catalogue.{all_tables}
+use Rattle.hy_rows.specs.Catalogue.{all_tables, definition_of}
 use Rattle.hy_rows.specs.declared.catalogue.Table.TheVariants as tables
 use Rattle.hy_query.specs.declared.query.Comparison.TheVariants as comparisons
 use Rattle.hy_query.specs.declared.query.Operand.TheVariants as operands
@@ -63,9 +63,8 @@ no_numbers = refl
 
 -- ---- names
 
--- each table has its word, in small letters
-abbrev tables_by_word : map table_named (codes "warehouse" ∷ codes "district" ∷ codes "customer" ∷ codes "history" ∷
-    codes "neworder" ∷ codes "orders" ∷ codes "orderline" ∷ codes "stock" ∷ codes "item" ∷ codes "WAREHOUSE" ∷
+-- each table is named by its word, in small letters
+abbrev tables_by_word : map table_named (map (λ table. (definition_of table).word) all_tables ++ codes "WAREHOUSE" ∷
     codes "Item" ∷ codes "new-order" ∷ codes "order" ∷ [])
     ≡ map Some all_tables ++ None ∷ None ∷ None ∷ None ∷ []
 tables_by_word = refl

@@ -5,7 +5,7 @@ use crate::codec::{
     SlotBytes, push_number, push_signed, push_text, read_number, read_signed, read_text,
 };
 use crate::record::{Record, ValueSink, ValueSource};
-use crate::row::Row;
+use crate::row::{Lasting, Row};
 use crate::tables::Tables;
 use crate::text::Text;
 
@@ -136,10 +136,20 @@ impl Row for District {
 
     ghost joined_rows = { λ several. refl };
 
+    ghost own_in = { λ number all. refl };
+
+    ghost counted = { λ all others. refl };
+
     ghost spelled = { λ n bytes. refl };
 
     ghost respelled = { λ n bytes pages whole. by_places (λ all. tables_of n (slice_set all 1 pages)
         ≡ record (tables_of n all) { districts = rows_of n 26 district_of pages }) bytes whole refl };
+}
+
+impl Lasting for District {
+    ghost use Rattle.std.proofs.Common.{rules};
+
+    ghost lasts = { Prim.search rules };
 }
 
 impl District {

@@ -32,7 +32,7 @@ pub use new_order::NewOrder;
 pub use order::{MAX_CARRIERS, MAX_LINES, MIN_LINES, Order};
 pub use order_line::{MAX_LINE_CENTS, MAX_QUANTITY, OrderLine};
 pub use record::{Never, Record, ValueSink, ValueSource};
-pub use row::{Listed, Row, RowSource, Source};
+pub use row::{Lasting, Listed, Row, RowSource, Source};
 pub use stock::{MAX_STOCK, Stock};
 pub use tables::{PerTable, Tables};
 pub use text::{Text, is_printable};

@@ -109,6 +109,10 @@ impl Row for NewOrder {
 
     ghost joined_rows = { λ several. refl };
 
+    ghost own_in = { λ number all. refl };
+
+    ghost counted = { λ all others. refl };
+
     ghost spelled = { λ n bytes. refl };
 
     ghost respelled = { λ n bytes pages whole. by_places (λ all. tables_of n (slice_set all 4 pages)

@@ -3,7 +3,7 @@
 use crate::catalogue::{ORDER, Table};
 use crate::codec::{SlotBytes, push_number, read_number};
 use crate::record::{Record, ValueSink, ValueSource};
-use crate::row::Row;
+use crate::row::{Lasting, Row};
 use crate::tables::Tables;
 
 /// The greatest O_CARRIER_ID (TPC-C clause 2.7.1.2).
@@ -156,8 +156,18 @@ impl Row for Order {
 
     ghost joined_rows = { λ several. refl };
 
+    ghost own_in = { λ number all. refl };
+
+    ghost counted = { λ all others. refl };
+
     ghost spelled = { λ n bytes. refl };
 
     ghost respelled = { λ n bytes pages whole. by_places (λ all. tables_of n (slice_set all 5 pages)
         ≡ record (tables_of n all) { orders = rows_of n 19 order_of pages }) bytes whole refl };
+}
+
+impl Lasting for Order {
+    ghost use Rattle.std.proofs.Common.{rules};
+
+    ghost lasts = { Prim.search rules };
 }

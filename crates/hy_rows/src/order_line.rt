@@ -3,7 +3,7 @@
 use crate::catalogue::{ORDER_LINE, Table};
 use crate::codec::{SlotBytes, push_number, push_signed, read_number, read_signed};
 use crate::record::{Record, ValueSink, ValueSource};
-use crate::row::Row;
+use crate::row::{Lasting, Row};
 use crate::tables::Tables;
 
 /// The greatest quantity of an order line (TPC-C clause 2.4.1.5).
@@ -161,8 +161,18 @@ impl Row for OrderLine {
 
     ghost joined_rows = { λ several. refl };
 
+    ghost own_in = { λ number all. refl };
+
+    ghost counted = { λ all others. refl };
+
     ghost spelled = { λ n bytes. refl };
 
     ghost respelled = { λ n bytes pages whole. by_places (λ all. tables_of n (slice_set all 6 pages)
         ≡ record (tables_of n all) { order_lines = rows_of n 29 order_line_of pages }) bytes whole refl };
+}
+
+impl Lasting for OrderLine {
+    ghost use Rattle.std.proofs.Common.{rules};
+
+    ghost lasts = { Prim.search rules };
 }

@@ -1,11 +1,12 @@
 //! What the rows of all tables have in common.
 
-ghost use Rattle.std.specs.Prelude.{◌≡◌, ℕ, ◌+◌, ◌<◌, ◌≤◌, ◌++◌, Bool, List, length, slice_set, IfOk};
+ghost use Rattle.std.specs.Prelude.{◌≡◌, ◌≢◌, ℕ, ◌+◌, ◌<◌, ◌≤◌, ◌++◌, Bool, List, filter, length, slice_index, slice_set, IfOk};
 ghost use Rattle.std.specs.List.{flat_map};
 ghost use Rattle.arrayvec.specs.ArrayVec.{array_vec_len};
-ghost use Rattle.hy_rows.specs.Tables.{Lists, Tables, all_of};
+ghost use Rattle.hy_rows.specs.Tables.{Lists, Tables, all_of, of_warehouse, row_counts};
 ghost use Rattle.hy_rows.specs.Spelling.{IsTable, list_at, rows_of as rows_of_pages, tables_of};
-ghost use Rattle.hy_rows.specs.Catalogue.{segments};
+ghost use Rattle.hy_rows.specs.Catalogue.{segment_of, segments};
+ghost use Rattle.hy_rows.specs.declared.catalogue.Table.TheVariants as tables;
 ghost use Rattle.hy_rows.specs.declared.item.Item.{Item as ItemRow};
 ghost use Rattle.hy_rows.specs.declared.catalogue.TheConstants.{MAX_SLOT_BYTES};
 
@@ -55,6 +56,14 @@ pub trait Row: Record {
     /// Whether a row belongs to a warehouse.
     ghost is_of: { ℕ → Self → Bool };
 
+    /// The rows of a warehouse are those of the table that belong to it.
+    ghost own_in: { (number : ℕ) (all : Tables)
+        → rows_in (of_warehouse number all) ≡ filter (is_of number) (rows_in all) };
+
+    /// How many rows there are stands at the table's place among all counts.
+    ghost counted: { (all : Tables) (others : List ℕ)
+        → slice_index (row_counts all ++ others) SEGMENT ≡ length (rows_in all) };
+
     /// Appends the bytes of the row to a slot.
     fn encode(&self, slot: &mut SlotBytes)
         requires { array_vec_len slot.old + BYTES ≤ MAX_SLOT_BYTES }
@@ -90,6 +99,12 @@ pub trait Row: Record {
         → segments ≤ length bytes
         → tables_of n (slice_set bytes SEGMENT pages)
         ≡ with_rows (tables_of n bytes) (rows_of_pages n BYTES row_of_bytes pages) };
+}
+
+/// A row of a table that never loses one.
+pub trait Lasting: Row {
+    /// NEW-ORDER alone loses rows.
+    ghost lasts: { Self.Row.SEGMENT ≢ segment_of tables.NewOrder };
 }
 
 /// A row of any table, also of one that no pages hold: where the lists of a load have it.

@@ -3,7 +3,7 @@
 use crate::catalogue::{STOCK, Table};
 use crate::codec::{SlotBytes, push_number, read_number};
 use crate::record::{Record, ValueSink, ValueSource};
-use crate::row::Row;
+use crate::row::{Lasting, Row};
 use crate::tables::Tables;
 
 /// The greatest quantity of an item that a loaded row has in stock.
@@ -130,8 +130,18 @@ impl Row for Stock {
 
     ghost joined_rows = { λ several. refl };
 
+    ghost own_in = { λ number all. refl };
+
+    ghost counted = { λ all others. refl };
+
     ghost spelled = { λ n bytes. refl };
 
     ghost respelled = { λ n bytes pages whole. by_places (λ all. tables_of n (slice_set all 7 pages)
         ≡ record (tables_of n all) { stock = rows_of n 31 stock_of pages }) bytes whole refl };
+}
+
+impl Lasting for Stock {
+    ghost use Rattle.std.proofs.Common.{rules};
+
+    ghost lasts = { Prim.search rules };
 }

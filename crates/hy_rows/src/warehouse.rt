@@ -5,7 +5,7 @@ use crate::codec::{
     SlotBytes, push_number, push_signed, push_text, read_number, read_signed, read_text,
 };
 use crate::record::{Record, ValueSink, ValueSource};
-use crate::row::Row;
+use crate::row::{Lasting, Row};
 use crate::tables::Tables;
 use crate::text::Text;
 
@@ -127,10 +127,20 @@ impl Row for Warehouse {
 
     ghost joined_rows = { λ several. refl };
 
+    ghost own_in = { λ number all. refl };
+
+    ghost counted = { λ all others. refl };
+
     ghost spelled = { λ n bytes. refl };
 
     ghost respelled = { λ n bytes pages whole. by_places (λ all. tables_of n (slice_set all 0 pages)
         ≡ record (tables_of n all) { warehouses = rows_of n 21 warehouse_of pages }) bytes whole refl };
+}
+
+impl Lasting for Warehouse {
+    ghost use Rattle.std.proofs.Common.{rules};
+
+    ghost lasts = { Prim.search rules };
 }
 
 impl Warehouse {

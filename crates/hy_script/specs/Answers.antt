@@ -20,10 +20,10 @@ use Rattle.hy_partition.specs.Steps.{IsUnbegun, StepsTo}
 use Rattle.hy_crossing.specs.Lists.{Pairwise}
 use Rattle.hy_forks.specs.Forks.{IsUnforked, IsWhyUnforked}
 use Rattle.hy_partition.specs.Snapshots.{SnapshotState}
-use Rattle.hy_schema.specs.Conditions.{first_broken}
 use Rattle.hy_query.specs.Language.{query_of}
 use Rattle.hy_query.specs.Meaning.{answer_of}
 use Rattle.hy_query.specs.Queries.{QueryState}
+use Rattle.hy_session.specs.Reports.{broken_condition}
 use Rattle.hy_session.specs.Snapshots.{lists_of_all}
 use Rattle.hy_session.specs.Texts.{answer_text}
 use Rattle.hy_script.specs.declared.answer.Request.{Request}
@@ -160,7 +160,7 @@ AnswersQuery page_size asked snapshots text =
 -- the consistency conditions were tested on these rows, or memory for that was refused
 abbrev pub AnswersCheck : ℕ → List SnapshotState → List ℕ → Type 0
 AnswersCheck page_size snapshots text =
-    (text ≡ check_text (first_broken (lists_of_all page_size snapshots).tables))
+    (text ≡ check_text (broken_condition page_size snapshots))
     ⊎ (text ≡ refused_text refusals.NoMemory)
 
 -- the snapshot of a name was asked, and nothing changed

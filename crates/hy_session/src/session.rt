@@ -1,7 +1,6 @@
 //! A session over a snapshot of the whole database.
 
 ghost use Rattle.std.specs.Prelude.{◌≡◌, ◌≤◌, ◌==◌, ◌↔◌, IfErr, IfOk, IsOk, IsOkAnd, IsTrue, MatchResult, OnErr, OnOk, filter, length, map};
-ghost use Rattle.hy_schema.specs.Conditions.{first_broken};
 ghost use Rattle.hy_schema.specs.declared.refusal.Refusal.TheVariants.{BadQuery, NoMemory, NotMine};
 ghost use Rattle.hy_commands.specs.Parts.{Database};
 ghost use Rattle.hy_forks.specs.Crossings.{ArePartitions, HaveNoPart};
@@ -12,7 +11,7 @@ ghost use Rattle.hy_answers.specs.Texts.{answer_text};
 ghost use Rattle.hy_query.specs.Language.{query_of};
 ghost use Rattle.hy_query.specs.Meaning.{answer_of};
 ghost use Rattle.hy_session.specs.Databases.{lists_of};
-ghost use Rattle.hy_session.specs.Reports.{report_line, report_of};
+ghost use Rattle.hy_session.specs.Reports.{broken_condition, report_line, report_of};
 
 use crate::rows::{rows_of_all, tables_of_all};
 use hy_answers::{run, text_of};
@@ -107,7 +106,7 @@ impl<const N: usize> Session<N> {
     /// The first of the consistency conditions 1 to 10 and 12 that the rows break (TPC-C clause 3.3.2), and none where they
     /// meet all. E1.
     pub fn check_conditions(&self, alloc: Global) -> Result<Option<u8>, Refusal>
-        ensures broken { IfOk result (λ broken. broken ≡ first_broken (lists_of_all N self.now).tables) }
+        ensures broken { IfOk result (λ broken. broken ≡ broken_condition N self.now) }
         ensures refused { IfErr result (λ why. why ≡ NoMemory) }
     {
         Ok(broken_in(alloc, &self.all)?)
@@ -147,7 +146,7 @@ impl<const N: usize> Session<N> {
 
 /// The first of the consistency conditions that the rows of snapshots break.
 fn broken_in<const N: usize>(alloc: Global, all: &SnapshotAll<N>) -> Result<Option<u8>, AllocError>
-    ensures { IfOk result (λ broken. broken ≡ first_broken (lists_of_all N all.now).tables) }
+    ensures { IfOk result (λ broken. broken ≡ broken_condition N all.now) }
 {
     let tables = tables_of_all(alloc, all)?;
     first_broken(alloc, &tables)

@@ -19,7 +19,7 @@ use Rattle.hy_store.specs.declared.keys.OrderKey.{OrderKey}
 use Rattle.hy_store.specs.declared.keys.WaitingKey.{WaitingKey}
 use Rattle.hy_store.specs.Keys.{IsCustomerKey, IsLineKey, IsOrderKey, IsWaitingKey, customer_key_bytes, customer_key_of, line_key_bytes, line_key_of, order_key_bytes, order_key_of, waiting_key_bytes, waiting_key_of}
 use Rattle.hy_store.specs.Pages.{HasPagesUpTo, IsIndexAt, key_widths}
-use Rattle.hy_store.specs.Stored.{AreIndexes, HasStore, Stored, all_segments, nothing_stored}
+use Rattle.hy_store.specs.Stored.{AreIndexes, HasStore, Stored, all_segments, last_order_index, line_index, nothing_stored, order_index, waiting_index}
 use Rattle.hy_store.specs.Writes.{stored_in}
 
 -- so many segments with one page of zeros, and others without a page
@@ -87,10 +87,10 @@ module _ (n : ℕ) (smallest : 256 ≤ n) where
       };
       keeps = λ segment width table lasts k used. absurd (omega (arith, used, unused segment (below segment width table)));
       indexes = record {
-        orders = empty-index n 5 order_key_bytes order_key_of IsOrderKey (list_at (owner_bytes space) 8) (omega arith) (pages 8 (lit≤ tt));
-        last_orders = empty-index n 3 customer_key_bytes customer_key_of IsCustomerKey (list_at (owner_bytes space) 9) (omega arith) (pages 9 (lit≤ tt));
-        waiting = empty-index n 5 waiting_key_bytes waiting_key_of IsWaitingKey (list_at (owner_bytes space) 10) (omega arith) (pages 10 (lit≤ tt));
-        lines = empty-index n 6 line_key_bytes line_key_of IsLineKey (list_at (owner_bytes space) 11) (omega arith) (pages 11 (lit≤ tt));
+        orders = empty-index n 5 order_key_bytes order_key_of IsOrderKey (list_at (owner_bytes space) order_index) (omega arith) (pages order_index (lit≤ tt));
+        last_orders = empty-index n 3 customer_key_bytes customer_key_of IsCustomerKey (list_at (owner_bytes space) last_order_index) (omega arith) (pages last_order_index (lit≤ tt));
+        waiting = empty-index n 5 waiting_key_bytes waiting_key_of IsWaitingKey (list_at (owner_bytes space) waiting_index) (omega arith) (pages waiting_index (lit≤ tt));
+        lines = empty-index n 6 line_key_bytes line_key_of IsLineKey (list_at (owner_bytes space) line_index) (omega arith) (pages line_index (lit≤ tt));
       };
     }
 
@@ -109,10 +109,10 @@ module _ (n : ℕ) (smallest : 256 ≤ n) where
         let now : Stored = stored_in n space in
         ap (λ tables. says tables now.new_order_slots now.orders now.last_orders now.waiting now.lines) (ap (tables_of n) zeros ∙ tables_of-zero)
         ∙ ap (λ slots. says no_rows slots now.orders now.last_orders now.waiting now.lines) (ap (λ (bytes : List (List (List ℕ))). slots_of n 6 new_order_of (list_at bytes new_order_segment)) zeros ∙ slots_of-zero)
-        ∙ ap (λ entries. says no_rows [] entries now.last_orders now.waiting now.lines) (empty-entries n 5 order_key_bytes order_key_of IsOrderKey (list_at (owner_bytes space) 8) (omega arith) (pages 8 (lit≤ tt)))
-        ∙ ap (λ entries. says no_rows [] [] entries now.waiting now.lines) (empty-entries n 3 customer_key_bytes customer_key_of IsCustomerKey (list_at (owner_bytes space) 9) (omega arith) (pages 9 (lit≤ tt)))
-        ∙ ap (λ entries. says no_rows [] [] [] entries now.lines) (empty-entries n 5 waiting_key_bytes waiting_key_of IsWaitingKey (list_at (owner_bytes space) 10) (omega arith) (pages 10 (lit≤ tt)))
-        ∙ ap (λ entries. says no_rows [] [] [] [] entries) (empty-entries n 6 line_key_bytes line_key_of IsLineKey (list_at (owner_bytes space) 11) (omega arith) (pages 11 (lit≤ tt)))
+        ∙ ap (λ entries. says no_rows [] entries now.last_orders now.waiting now.lines) (empty-entries n 5 order_key_bytes order_key_of IsOrderKey (list_at (owner_bytes space) order_index) (omega arith) (pages order_index (lit≤ tt)))
+        ∙ ap (λ entries. says no_rows [] [] entries now.waiting now.lines) (empty-entries n 3 customer_key_bytes customer_key_of IsCustomerKey (list_at (owner_bytes space) last_order_index) (omega arith) (pages last_order_index (lit≤ tt)))
+        ∙ ap (λ entries. says no_rows [] [] [] entries now.lines) (empty-entries n 5 waiting_key_bytes waiting_key_of IsWaitingKey (list_at (owner_bytes space) waiting_index) (omega arith) (pages waiting_index (lit≤ tt)))
+        ∙ ap (λ entries. says no_rows [] [] [] [] entries) (empty-entries n 6 line_key_bytes line_key_of IsLineKey (list_at (owner_bytes space) line_index) (omega arith) (pages line_index (lit≤ tt)))
 
     index_there : (segment width : ℕ) → IsIndexAt segment width → segment < all_segments
     index_there segment width index = slice_get_within (row_widths ++ key_widths) segment width index.width

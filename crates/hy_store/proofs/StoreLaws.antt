@@ -62,12 +62,12 @@ module _ (n : ℕ) (old new : List (List (List ℕ))) (kept : KeepsIndexes old n
       let at : ℕ → List (List ℕ) = list_at new in
       let before : ℕ → List (List ℕ) = list_at old in
       let last : List (Option NewOrder) = slots_of n 6 new_order_of (at new_order_segment) in
-      ap (λ t. says t last (at 8) (at 9) (at 10) (at 11)) tables_are
-      ∙ ap (λ s. says tables s (at 8) (at 9) (at 10) (at 11)) slots_are
-      ∙ ap (λ pages. says tables slots pages (at 9) (at 10) (at 11)) (kept 8 (lit≤ tt))
-      ∙ ap (λ pages. says tables slots (before 8) pages (at 10) (at 11)) (kept 9 (lit≤ tt))
-      ∙ ap (λ pages. says tables slots (before 8) (before 9) pages (at 11)) (kept 10 (lit≤ tt))
-      ∙ ap (λ pages. says tables slots (before 8) (before 9) (before 10) pages) (kept 11 (lit≤ tt))
+      ap (λ t. says t last (at order_index) (at last_order_index) (at waiting_index) (at line_index)) tables_are
+      ∙ ap (λ s. says tables s (at order_index) (at last_order_index) (at waiting_index) (at line_index)) slots_are
+      ∙ ap (λ pages. says tables slots pages (at last_order_index) (at waiting_index) (at line_index)) (kept order_index (lit≤ tt))
+      ∙ ap (λ pages. says tables slots (before order_index) pages (at waiting_index) (at line_index)) (kept last_order_index (lit≤ tt))
+      ∙ ap (λ pages. says tables slots (before order_index) (before last_order_index) pages (at line_index)) (kept waiting_index (lit≤ tt))
+      ∙ ap (λ pages. says tables slots (before order_index) (before last_order_index) (before waiting_index) pages) (kept line_index (lit≤ tt))
 
 -- the segment of a table changed
 module _ (n segment width : ℕ) (table : IsTable segment width) (old new : List (List (List ℕ))) (store : HasStore n old) (changes : ChangesSegment old new segment) (slots : HasSlots n width (list_at new segment)) where

@@ -1,5 +1,5 @@
 -- What the checker computes: keys in their order and as bytes, and what the bytes of some pages say.
-use Rattle.std.specs.Prelude.{◌≡◌, ℕ, zero, suc, true, false, None, Some, List, [], ◌∷◌, ◌++◌}
+use Rattle.std.specs.Prelude.{◌≡◌, ℕ, zero, suc, true, false, None, Some, List, [], ◌∷◌, ◌++◌, replicate, slice_set}
 use Rattle.std.proofs.Common.{refl, arith}
 use Rattle.std.proofs.lemmas.Bool.{false≢true}
 use Rattle.hy_rows.specs.declared.new_order.NewOrder.{NewOrder}
@@ -10,7 +10,7 @@ use Rattle.hy_store.specs.declared.keys.LineKey.{LineKey}
 use Rattle.hy_store.specs.declared.keys.OrderKey.{OrderKey}
 use Rattle.hy_store.specs.declared.keys.WaitingKey.{WaitingKey}
 use Rattle.hy_store.specs.Keys.{customer_key_bytes, customer_key_of, is_lesser_customer, is_lesser_line, is_lesser_order, is_lesser_waiting, line_key_bytes, line_key_of, order_key_bytes, order_key_of, waiting_key_bytes, waiting_key_of}
-use Rattle.hy_store.specs.Stored.{HasAllRows, nothing_stored, stored}
+use Rattle.hy_store.specs.Stored.{HasAllRows, all_segments, new_order_segment, nothing_stored, stored, waiting_index}
 
 -- ---- keys
 
@@ -106,7 +106,10 @@ abbrev sixth : NewOrder
 sixth = record { order = 6; district = 3; warehouse = 1 }
 
 -- a row of NEW-ORDER in its second slot, and its entry
-pages_say : stored 44 ([] ∷ [] ∷ [] ∷ [] ∷ new_orders ∷ [] ∷ [] ∷ [] ∷ [] ∷ [] ∷ undelivered ∷ [] ∷ []) ≡ record nothing_stored {
+abbrev some_pages : List (List (List ℕ))
+some_pages = slice_set (slice_set (replicate all_segments []) new_order_segment new_orders) waiting_index undelivered
+
+pages_say : stored 44 some_pages ≡ record nothing_stored {
   tables = record no_rows { new_orders = sixth ∷ [] };
   new_order_slots = None ∷ Some sixth ∷ [];
   waiting = (record { key = waiting 3 6; slot = 1 }) ∷ [];

@@ -112,10 +112,10 @@ impl Indexed for OrderKey {
     ghost said = { λ n bytes. refl };
 
     ghost indexed_again = { λ n bytes pages whole has is.
-        by_all_places (λ all. HasIndexSegments n all → HasIndexSegments n (slice_set all 8 pages)) bytes whole
+        by_all_places (λ all. HasIndexSegments n all → HasIndexSegments n (slice_set all order_index pages)) bytes whole
         (λ each. record { orders = is; last_orders = each.last_orders; waiting = each.waiting; lines = each.lines }) has };
 
-    ghost said_again = { λ n bytes pages whole. by_all_places (λ all. stored n (slice_set all 8 pages)
+    ghost said_again = { λ n bytes pages whole. by_all_places (λ all. stored n (slice_set all order_index pages)
         ≡ record (stored n all) { orders = entries n 5 order_key_of pages }) bytes whole refl };
 }
 
@@ -177,10 +177,10 @@ impl Indexed for CustomerKey {
     ghost said = { λ n bytes. refl };
 
     ghost indexed_again = { λ n bytes pages whole has is.
-        by_all_places (λ all. HasIndexSegments n all → HasIndexSegments n (slice_set all 9 pages)) bytes whole
+        by_all_places (λ all. HasIndexSegments n all → HasIndexSegments n (slice_set all last_order_index pages)) bytes whole
         (λ each. record { orders = each.orders; last_orders = is; waiting = each.waiting; lines = each.lines }) has };
 
-    ghost said_again = { λ n bytes pages whole. by_all_places (λ all. stored n (slice_set all 9 pages)
+    ghost said_again = { λ n bytes pages whole. by_all_places (λ all. stored n (slice_set all last_order_index pages)
         ≡ record (stored n all) { last_orders = entries n 3 customer_key_of pages }) bytes whole refl };
 }
 
@@ -242,10 +242,10 @@ impl Indexed for WaitingKey {
     ghost said = { λ n bytes. refl };
 
     ghost indexed_again = { λ n bytes pages whole has is.
-        by_all_places (λ all. HasIndexSegments n all → HasIndexSegments n (slice_set all 10 pages)) bytes whole
+        by_all_places (λ all. HasIndexSegments n all → HasIndexSegments n (slice_set all waiting_index pages)) bytes whole
         (λ each. record { orders = each.orders; last_orders = each.last_orders; waiting = is; lines = each.lines }) has };
 
-    ghost said_again = { λ n bytes pages whole. by_all_places (λ all. stored n (slice_set all 10 pages)
+    ghost said_again = { λ n bytes pages whole. by_all_places (λ all. stored n (slice_set all waiting_index pages)
         ≡ record (stored n all) { waiting = entries n 5 waiting_key_of pages }) bytes whole refl };
 }
 
@@ -319,9 +319,9 @@ impl Indexed for LineKey {
     ghost said = { λ n bytes. refl };
 
     ghost indexed_again = { λ n bytes pages whole has is.
-        by_all_places (λ all. HasIndexSegments n all → HasIndexSegments n (slice_set all 11 pages)) bytes whole
+        by_all_places (λ all. HasIndexSegments n all → HasIndexSegments n (slice_set all line_index pages)) bytes whole
         (λ each. record { orders = each.orders; last_orders = each.last_orders; waiting = each.waiting; lines = is }) has };
 
-    ghost said_again = { λ n bytes pages whole. by_all_places (λ all. stored n (slice_set all 11 pages)
+    ghost said_again = { λ n bytes pages whole. by_all_places (λ all. stored n (slice_set all line_index pages)
         ≡ record (stored n all) { lines = entries n 6 line_key_of pages }) bytes whole refl };
 }

@@ -12,6 +12,5 @@ pub use indexes::{
 };
 pub use keys::{CustomerKey, LineKey, OrderKey, WaitingKey};
 pub use rows::{
-    Lasting, erase_new_order, glance_at, know_store, push_new_order, push_row, put_row, row_at,
-    row_bytes_at,
+    erase_new_order, glance_at, know_store, push_new_order, push_row, put_row, row_at, row_bytes_at,
 };

@@ -1,6 +1,6 @@
 //! The rows of the tables, each at a place of its list, and the slots of NEW-ORDER.
 
-ghost use Rattle.std.specs.Prelude.{◌≡◌, ◌≢◌, ◌+◌, ◌<◌, ◌++◌, ◌∷◌, [], Some, IfOk, OnOk, IsErrOf, length, map, slice_get, slice_set};
+ghost use Rattle.std.specs.Prelude.{◌≡◌, ◌+◌, ◌<◌, ◌++◌, ◌∷◌, [], Some, IfOk, OnOk, IsErrOf, length, map, slice_get, slice_set};
 ghost use Rattle.hy_frames.specs.FrameTable.{free_of};
 ghost use Rattle.hy_rows.specs.Spelling.{HasTables, live_rows, tables_of};
 ghost use Rattle.hy_store.specs.Stored.{new_order_segment};
@@ -14,57 +14,9 @@ ghost use Rattle.hy_store.specs.Writes.{ChangesStore, IsWritableStore, WritesSto
 
 use hy_frames::Shortage;
 use hy_relation::Relation;
-use hy_rows::{Customer, District, History, NewOrder, Order, OrderLine, Row, Stock, Warehouse};
+use hy_rows::{Lasting, NewOrder, Row};
 use hy_space::Space;
 use hy_undo::Undo;
-
-/// A row of a table that never loses one: the row of slot k stands at place k of the list.
-pub trait Lasting: Row {
-    /// NEW-ORDER alone loses rows.
-    ghost lasts: { Self.Row.SEGMENT ≢ new_order_segment };
-}
-
-impl Lasting for Warehouse {
-    ghost use Rattle.std.proofs.Common.{rules};
-
-    ghost lasts = { Prim.search rules };
-}
-
-impl Lasting for District {
-    ghost use Rattle.std.proofs.Common.{rules};
-
-    ghost lasts = { Prim.search rules };
-}
-
-impl Lasting for Customer {
-    ghost use Rattle.std.proofs.Common.{rules};
-
-    ghost lasts = { Prim.search rules };
-}
-
-impl Lasting for History {
-    ghost use Rattle.std.proofs.Common.{rules};
-
-    ghost lasts = { Prim.search rules };
-}
-
-impl Lasting for Order {
-    ghost use Rattle.std.proofs.Common.{rules};
-
-    ghost lasts = { Prim.search rules };
-}
-
-impl Lasting for OrderLine {
-    ghost use Rattle.std.proofs.Common.{rules};
-
-    ghost lasts = { Prim.search rules };
-}
-
-impl Lasting for Stock {
-    ghost use Rattle.std.proofs.Common.{rules};
-
-    ghost lasts = { Prim.search rules };
-}
 
 /// What the pages of a store are: that all tables are there, as what they say has them.
 pub fn know_store<const N: usize>(space: &Space<N>)

@@ -8,7 +8,7 @@ ghost use Rattle.hy_partition.specs.Jobs.{Log};
 ghost use Rattle.hy_crossing.specs.Crossings.{ArePartitions, HaveNoPart, database_behind};
 ghost use Rattle.hy_database.specs.Database.{all_rows};
 ghost use Rattle.hy_forks.specs.Forks.{AreOfKit, are_from};
-ghost use Rattle.hy_session.specs.Snapshots.{lists_of_all};
+ghost use Rattle.hy_session.specs.Reports.{broken_condition};
 ghost use Rattle.hy_storm.specs.Storms.{AreFigures, HaveBooks, HaveKept, warehouses_of_load};
 
 use crate::PAGE_BYTES;
@@ -140,7 +140,7 @@ fn session_of<K: Loaded>(
     requires some { 1 ≤ length parts.old.items }
     requires parts { ArePartitions K.load parts.old.items }
     requires whole { HaveNoPart parts.old.items }
-    ensures consistent { IfOk result (λ session. first_broken (lists_of_all 4096 session).tables ≡ None) }
+    ensures consistent { IfOk result (λ session. broken_condition 4096 session ≡ None) }
     ensures behind { IfOk result (λ _. first_broken (all_rows (database_behind K.load journal.old.list.log)) ≡ None) }
     ensures kit { IfOk result (AreOfKit K.passes) }
     ensures mine { IfOk result (λ session. IsTrue (are_from K.passes session parts.new.items)) }

@@ -27,6 +27,10 @@ without_indexes tables = record nothing_stored { tables = tables; new_order_slot
 abbrev pub with_more : {Row : Type 0} → (Tables → List Row) → (Tables → List Row → Tables) → List Row → Stored → Stored
 with_more rows_in with_rows more old = record old { tables = with_rows old.tables (rows_in old.tables ++ more) }
 
+-- a store with these rows in a table
+abbrev pub with_table : {Row : Type 0} → (Tables → List Row → Tables) → List Row → Stored → Stored
+with_table with_rows rows old = record old { tables = with_rows old.tables rows }
+
 -- the same of NEW-ORDER
 abbrev pub with_new_orders : List NewOrder → Stored → Stored
 with_new_orders more old = record old {

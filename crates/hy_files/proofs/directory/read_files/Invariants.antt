@@ -1,3 +1,4 @@
+use Rattle.hy_rows.specs.declared.catalogue.TheConstants.{TABLES}
 use Rattle.std.proofs.Common.{◌≡◌, ◌≤◌, map, take}
 use Rattle.std.specs.Prelude.{vec_capacity, vec_len}
 use Rattle.hy_rows.specs.Catalogue.{tables_by_file}
@@ -13,6 +14,6 @@ invariant-loop-table g l = record {
   texts :
       AreFiles (g.F.FileSystem.files l.fn.system) l.directory (take l.table-index tables_by_file)
       (map (λ text. text.items) l.texts.items);
-  room : 9 ≤ vec_capacity l.texts;
+  room : TABLES ≤ vec_capacity l.texts;
   len : vec_len l.texts ≡ l.table-index;
 }

@@ -1,36 +1,34 @@
-use Rattle.std.proofs.Common.{lit<, length, slice_get, filter, subst, sym, ap, ◌∙◌}
+use Rattle.std.proofs.Common.{lit<, length, slice_get, subst, sym, ap, arith}
 use Rattle.std.proofs.lemmas.Result.{on_ok_weaker}
-use Rattle.hy_store.specs.Pages.{KeepsPagesUpTo}
+use Rattle.hy_rows.specs.Tables.{Tables}
 use Rattle.hy_store.specs.Writes.{stored_in}
+use Rattle.hy_layout.specs.Layout.{own_rows}
 use Rattle.hy_fill.specs.inside.Filling.{HasOneSlotEach, HasSameEntries}
+use Rattle.hy_fill.proofs.CountLaws.{stays-within}
 use Rattle.hy_fill.proofs.EntryLaws.{index-same, slots-apart}
 use Rattle.hy_fill.proofs.entries.fill_index.Goals as goal
 
 pub insert_entries-requires : goal.insert_entries-requires
-insert_entries-requires g c =
-    let row_at = slice_get (filter (g.R.Row.is_of c.args.warehouse) c.args.rows.now) in (
-      lit< tt,
+insert_entries-requires g c = (
+  lit< tt,
+  (
+    lit< tt,
+    (
+      c.requires.writable,
       (
-        lit< tt,
-        (
-          c.requires.writable,
-          (
-            c.requires.order,
-            (
-              c.requires.empty,
-              subst HasOneSlotEach (sym c.as_slice.ensures.value)
-                  (slots-apart g.R.Keyed.key_of row_at c.in_ok-entries.entries.items c.requires.apart c.in_ok-entries.ensures.index),
-            ),
-          ),
-        ),
+        c.requires.empty,
+        subst HasOneSlotEach (sym c.as_slice.ensures.value)
+            (slots-apart g.R.Keyed.key_of (slice_get (g.R.Row.rows_in (own_rows c.args.layout.now)))
+            c.in_ok-entries.entries.items c.requires.apart c.in_ok-entries.ensures.index),
       ),
-    )
+    ),
+  ),
+)
 
 pub returns-clause-index : goal.returns-clause-index
 returns-clause-index g c =
-    let row_at = slice_get (filter (g.R.Row.is_of c.args.warehouse) c.args.rows.now) in
     on_ok_weaker c.insert_entries.result (λ same.
-    index-same g.R.Keyed.key_of row_at c.in_ok-entries.entries.items
+    index-same g.R.Keyed.key_of (slice_get (g.R.Row.rows_in (own_rows c.args.layout.now))) c.in_ok-entries.entries.items
     (g.K.Indexed.entries_in (stored_in g.row.N c.insert_entries.new.space))
     (subst (λ entries. HasSameEntries entries (g.K.Indexed.entries_in (stored_in g.row.N c.insert_entries.new.space)))
     c.as_slice.ensures.value same)
@@ -38,5 +36,7 @@ returns-clause-index g c =
 
 pub returns-clause-pages : goal.returns-clause-pages
 returns-clause-pages g c =
-    subst (λ count. KeepsPagesUpTo g.row.N g.K.Indexed.SEGMENT count c.args.space.now c.insert_entries.new.space)
-    (ap length c.as_slice.ensures.value ∙ c.in_ok-entries.ensures.count) c.insert_entries.ensures.pages
+    let own : Tables = own_rows c.args.layout.now in
+    stays-within g.row.N g.K.Indexed.SEGMENT (length c.as_slice.result.now) own c.args.space.now c.insert_entries.new.space
+    (omega (arith, ap length c.as_slice.ensures.value, c.in_ok-entries.ensures.count, c.requires.counted))
+    c.insert_entries.ensures.pages

@@ -41,12 +41,12 @@ loop-entry-preserved g c =
       writable = record { store = c.in_ok-insert_lasting.ensures.inserted.store; undo_log = c.in_ok-insert_lasting.ensures.undo_log };
       same = subst (λ given. HasSameEntries given (g.K.Indexed.entries_in (stored_in g.row.N c.insert_lasting.new.space)))
           given_now (subst (HasSameEntries (take index entries ++ entry ∷ [])) (sym (now g c))
-          (same-added g.K.Key.is_less c.requires.order entries c.requires.apart (take index entries) had entry
+          (same-added g.K.Key.is_less g.met.K.Filled.is_order entries c.requires.apart (take index entries) had entry
           (in-take index entries) here c.loop-entry.invariant.same));
       count = omega (
         arith,
         ap length (now g c),
-        length-with_entry g.K.Key.is_less c.requires.order entry.key entry.slot had,
+        length-with_entry g.K.Key.is_less g.met.K.Filled.is_order entry.key entry.slot had,
         c.loop-entry.invariant.count,
       );
       only = c.in_ok-insert_lasting.ensures.inserted.changed

@@ -1,9 +1,10 @@
-use Rattle.std.proofs.Common.{lit<, length, slice_get, subst, sym, ap, ◌∙◌}
+use Rattle.std.proofs.Common.{lit<, length, slice_get, subst, sym, ap, arith}
 use Rattle.hy_indexes.specs.Finds.{IsIndexOf}
 use Rattle.hy_indexes.specs.Indexes.{buyer_key_at}
-use Rattle.hy_store.specs.Pages.{KeepsPagesUpTo}
 use Rattle.hy_store.specs.Stored.{last_order_index}
 use Rattle.hy_store.specs.Writes.{stored_in}
+use Rattle.hy_layout.specs.Layout.{own_rows}
+use Rattle.hy_fill.proofs.CountLaws.{stays-within}
 use Rattle.hy_fill.proofs.last_orders.fill_last_orders.Goals as goal
 
 pub give_orders-requires : goal.give_orders-requires
@@ -25,5 +26,6 @@ give_orders-requires g c = (
 
 pub returns-clause-pages : goal.returns-clause-pages
 returns-clause-pages g c =
-    subst (λ count. KeepsPagesUpTo g.row.N last_order_index count c.args.space.now c.give_orders.new.space)
-    (ap length c.as_slice.ensures.value ∙ c.in_ok-entries.ensures.count ∙ sym (ap length c.requires.orders)) c.give_orders.ensures.pages
+    stays-within g.row.N last_order_index (length c.as_slice.result.now) (own_rows c.args.layout.now) c.args.space.now
+    c.give_orders.new.space
+    (omega (arith, ap length c.as_slice.ensures.value, c.in_ok-entries.ensures.count)) c.give_orders.ensures.pages

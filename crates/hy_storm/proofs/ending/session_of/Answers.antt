@@ -6,11 +6,13 @@ use Rattle.hy_partition.specs.Snapshots.{SnapshotState}
 use Rattle.hy_crossing.specs.Crossings.{commits_in, database_behind}
 use Rattle.hy_forks.specs.Forks.{SpellsDatabase, are_from}
 use Rattle.hy_session.specs.Databases.{lists_of}
+use Rattle.hy_session.specs.Reports.{broken_condition}
 use Rattle.hy_session.specs.Snapshots.{lists_of_all}
 use Rattle.hy_forks.proofs.ForkedLaws.{are_from-forks}
 use Rattle.hy_storm.proofs.ending.session_of.Goals as goal
 
 pub returns-clause-consistent : goal.returns-clause-consistent
+unfolding broken_condition
 returns-clause-consistent g c =
     let lists = g.K.Loaded.load in
     let log = c.args.journal.now.list.log in
