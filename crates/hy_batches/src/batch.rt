@@ -1,76 +1,46 @@
-//! Batches that were read.
+//! Batches.
 
-use crate::lists::Lists;
+ghost use Rattle.std.specs.Prelude.{◌≡◌, ◌<◌, [], length, map, slice_index_or};
+
 use hy_commands::Commit;
 use std::marker::Model;
 
-/// The commits of a warehouse.
+/// The commits of each warehouse, in rising order of warehouse.
 #[derive(Debug, Drop)]
-pub(crate) struct ReadList {
-    pub(crate) commits: Vec<Commit>,
+pub struct Batch {
+    lists: Vec<Vec<Commit>>,
 }
 
-impl Model for ReadList {
-    ghost use Rattle.std.specs.Prelude.{List};
-    ghost use Rattle.hy_commands.specs.declared.command.Commit.{Commit};
-
-    ghost Value = { List Commit };
-
-    ghost view = { λ list. list.commits.items };
-}
-
-impl ReadList {
-    ghost use Rattle.std.specs.Prelude.{◌≡◌};
-
-    /// These commits.
-    pub(crate) fn new(commits: Vec<Commit>) -> ReadList
-        ensures { result ≡ commits.items }
-    {
-        ReadList { commits }
-    }
-
-    /// The commits in their order.
-    fn as_slice(&self) -> &[Commit]
-        ensures { result.now ≡ self.now }
-    {
-        &self.commits
-    }
-}
-
-/// A batch that was read.
-#[derive(Debug, Drop)]
-pub struct ReadBatch {
-    lists: Vec<ReadList>,
-}
-
-impl Model for ReadBatch {
-    ghost use Rattle.std.specs.Prelude.{List};
+// Clauses see the commits of each warehouse.
+impl Model for Batch {
+    ghost use Rattle.std.specs.Prelude.{List, map};
     ghost use Rattle.hy_commands.specs.declared.command.Commit.{Commit};
 
     ghost Value = { List (List Commit) };
 
-    ghost view = { λ batch. batch.lists.items };
+    ghost view = { λ batch. map (λ commits. commits.items) batch.lists.items };
 }
 
-impl ReadBatch {
-    ghost use Rattle.std.specs.Prelude.{◌≡◌};
-
-    /// These lists.
-    pub(crate) fn new(lists: Vec<ReadList>) -> ReadBatch
-        ensures { result ≡ lists.items }
+impl Batch {
+    /// These commits of each warehouse.
+    pub fn new(lists: Vec<Vec<Commit>>) -> Batch
+        ensures { result ≡ map (λ commits. commits.items) lists.items }
     {
-        ReadBatch { lists }
+        Batch { lists }
     }
-}
 
-impl Lists for ReadBatch {
-    ghost lists = { λ batch. batch };
-
-    fn len(&self) -> usize {
+    /// How many warehouses there are.
+    pub fn len(&self) -> usize
+        ensures { result ≡ length self.now }
+    {
         self.lists.len()
     }
 
-    fn list(&self, place: usize) -> &[Commit] {
+    /// The commits of the warehouse at a place, from 0, in order.
+    pub fn list(&self, place: usize) -> &[Commit]
+        requires { place < length self.now }
+        ensures { result.now ≡ slice_index_or self.now place [] }
+    {
         self.lists[place].as_slice()
     }
 }

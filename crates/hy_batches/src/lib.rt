@@ -4,16 +4,14 @@
 mod batch;
 mod fault;
 mod laws;
-mod lists;
 mod log;
 mod reading;
 mod sink;
 mod values;
 mod writing;
 
-pub use batch::ReadBatch;
+pub use batch::Batch;
 pub use laws::{beginnings_are_logs, readings_are_one, written_is_read};
-pub use lists::Lists;
 pub use log::{Batches, read_log};
 pub use sink::{Sink, Text};
 pub use writing::write_batch;

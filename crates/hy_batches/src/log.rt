@@ -4,7 +4,7 @@ ghost use Rattle.std.specs.Prelude.{◌≡◌, ◌++◌, ◌∷◌, [], OnOk};
 ghost use Rattle.hy_batches.specs.Logs.{Reads, is_beginning, is_end, is_short};
 ghost use Rattle.hy_batches.specs.inside.Nexts.{IsNext};
 
-use crate::batch::ReadBatch;
+use crate::batch::Batch;
 use crate::fault::ReadFault;
 use crate::reading::batch_at;
 use crate::writing::MARK;
@@ -16,7 +16,7 @@ use std::marker::Model;
 /// The whole batches of a log, in order.
 #[derive(Debug, Drop)]
 pub struct Batches {
-    batches: Vec<ReadBatch>,
+    batches: Vec<Batch>,
     bytes: usize,
 }
 
@@ -60,7 +60,7 @@ impl Batches {
     }
 
     /// The batch at a place, from 0.
-    pub fn batch(&self, place: usize) -> &ReadBatch
+    pub fn batch(&self, place: usize) -> &Batch
         requires { place < length self.now }
         ensures { result.now ≡ slice_index_or self.now place [] }
     {
@@ -95,7 +95,7 @@ fn is_end(rest: &[u8]) -> bool
 }
 
 /// The batch that bytes begin with, which stand at a place of the log, and what is left.
-fn next_batch(alloc: Global, place: usize, rest: &[u8]) -> Result<(ReadBatch, &[u8]), Refusal>
+fn next_batch(alloc: Global, place: usize, rest: &[u8]) -> Result<(Batch, &[u8]), Refusal>
     ensures { IsNext (λ read. (read.0, read.1.now)) place rest.now result }
 {
     match batch_at(alloc, rest) {
@@ -106,7 +106,7 @@ fn next_batch(alloc: Global, place: usize, rest: &[u8]) -> Result<(ReadBatch, &[
 }
 
 /// Adds a batch.
-fn add(batches: &mut Vec<ReadBatch>, batch: ReadBatch) -> Result<(), AllocError>
+fn add(batches: &mut Vec<Batch>, batch: Batch) -> Result<(), AllocError>
     ensures { OnOk result (batches.new.items ≡ batches.old.items ++ batch ∷ []) }
 {
     batches.push(batch)?;

@@ -6,7 +6,7 @@ ghost use Rattle.hy_commands.specs.Parts.{is_by_number};
 ghost use Rattle.hy_batches.specs.Grammar.{is_allowed};
 ghost use Rattle.hy_batches.specs.inside.Reading.{Gives, any_commit_at, batch_at, commit_at, commits_at, content_of, ended_at, list_at, lists_at, marked_at};
 
-use crate::batch::{ReadBatch, ReadList};
+use crate::batch::Batch;
 use crate::fault::ReadFault;
 use crate::values::{command_at, front_at, number_at};
 use crate::writing::{END, MARK};
@@ -87,8 +87,8 @@ fn commits_at(
     warehouse: u64,
     count: u64,
     bytes: &[u8],
-) -> Result<(ReadList, &[u8]), ReadFault>
-    ensures { Gives (λ read. (read.0, read.1.now)) result (commits_at warehouse count bytes.now) }
+) -> Result<(Vec<Commit>, &[u8]), ReadFault>
+    ensures { Gives (λ read. (read.0.items, read.1.now)) result (commits_at warehouse count bytes.now) }
 {
     let mut commits = Vec::new(alloc);
     let mut rest = bytes;
@@ -97,20 +97,20 @@ fn commits_at(
         commits.push(commit)?;
         rest = after;
     }
-    Ok((ReadList::new(commits), rest))
+    Ok((commits, rest))
 }
 
 /// How many commits of a warehouse there are, and they.
 #[tactic(auto, unfolding(crate::specs::inside::Reading::list_at))]
-fn list_at(alloc: Global, warehouse: u64, bytes: &[u8]) -> Result<(ReadList, &[u8]), ReadFault>
-    ensures { Gives (λ read. (read.0, read.1.now)) result (list_at warehouse bytes.now) }
+fn list_at(alloc: Global, warehouse: u64, bytes: &[u8]) -> Result<(Vec<Commit>, &[u8]), ReadFault>
+    ensures { Gives (λ read. (read.0.items, read.1.now)) result (list_at warehouse bytes.now) }
 {
     let (count, rest) = number_at(4, bytes)?;
     commits_at(alloc, warehouse, count, rest)
 }
 
 /// The lists of so many warehouses.
-fn lists_at(alloc: Global, count: u64, bytes: &[u8]) -> Result<(ReadBatch, &[u8]), ReadFault>
+fn lists_at(alloc: Global, count: u64, bytes: &[u8]) -> Result<(Batch, &[u8]), ReadFault>
     ensures { Gives (λ read. (read.0, read.1.now)) result (lists_at 1 count bytes.now) }
 {
     let mut lists = Vec::new(alloc);
@@ -120,12 +120,12 @@ fn lists_at(alloc: Global, count: u64, bytes: &[u8]) -> Result<(ReadBatch, &[u8]
         lists.push(list)?;
         rest = after;
     }
-    Ok((ReadBatch::new(lists), rest))
+    Ok((Batch::new(lists), rest))
 }
 
 /// The batch of which these bytes are the content, all of them.
 #[tactic(auto, unfolding(crate::specs::inside::Reading::content_of))]
-fn content_of(alloc: Global, bytes: &[u8]) -> Result<ReadBatch, ReadFault>
+fn content_of(alloc: Global, bytes: &[u8]) -> Result<Batch, ReadFault>
     ensures { Gives (λ batch. batch) result (content_of bytes.now) }
 {
     let (count, rest) = number_at(1, bytes)?;
@@ -168,7 +168,7 @@ fn ended_at(bytes: &[u8]) -> Result<&[u8], ReadFault>
 
 /// The batch that the bytes begin with, and what is left.
 #[tactic(auto, unfolding(crate::specs::inside::Reading::batch_at))]
-pub(crate) fn batch_at(alloc: Global, bytes: &[u8]) -> Result<(ReadBatch, &[u8]), ReadFault>
+pub(crate) fn batch_at(alloc: Global, bytes: &[u8]) -> Result<(Batch, &[u8]), ReadFault>
     ensures { Gives (λ read. (read.0, read.1.now)) result (batch_at bytes.now) }
 {
     let rest = marked_at(bytes)?;

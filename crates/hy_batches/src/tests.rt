@@ -1,5 +1,4 @@
 use super::*;
-use crate::batch::ReadList;
 use hy_commands::{
     Command, Commit, Delivery, Name, Payment, Purchase, PurchaseLine, PurchaseLines, Who,
 };
@@ -47,11 +46,11 @@ fn purchase(alloc: Global) -> Result<Command, AllocError> {
 }
 
 /// A batch of two warehouses with these commits of the first.
-fn batch_of(alloc: Global, commits: Vec<Commit>) -> Result<ReadBatch, AllocError> {
+fn batch_of(alloc: Global, commits: Vec<Commit>) -> Result<Batch, AllocError> {
     let mut lists = Vec::with_capacity(alloc, 2)?;
-    lists.push_reserved(ReadList::new(commits));
-    lists.push_reserved(ReadList::new(Vec::new(alloc)));
-    Ok(ReadBatch::new(lists))
+    lists.push_reserved(commits);
+    lists.push_reserved(Vec::new(alloc));
+    Ok(Batch::new(lists))
 }
 
 /// The sample three times.

@@ -4,7 +4,7 @@ ghost use Rattle.std.specs.Prelude.{◌≡◌, ◌≤◌, length};
 ghost use Rattle.std.specs.List.{flat_map};
 ghost use Rattle.hy_batches.specs.Encoding.{batch_bytes, command_bytes, commit_bytes, content_bytes, delivery_bytes, line_bytes, list_bytes, number_bytes, payment_bytes, purchase_bytes, who_bytes};
 
-use crate::lists::Lists;
+use crate::batch::Batch;
 use crate::sink::{Counter, Sink};
 use hy_commands::{Command, Commit, Delivery, Payment, Purchase, PurchaseLine, PurchaseLines, Who};
 
@@ -148,37 +148,37 @@ fn write_list<S: Sink>(sink: &mut S, commits: &[Commit])
 }
 
 /// Writes the lists of all warehouses one behind another.
-fn write_lists<S: Sink, L: Lists>(sink: &mut S, lists: &L)
-    ensures { S.takes sink.old sink.new (flat_map list_bytes (L.lists lists.now)) }
+fn write_lists<S: Sink>(sink: &mut S, batch: &Batch)
+    ensures { S.takes sink.old sink.new (flat_map list_bytes batch.now) }
 {
-    for place in 0..lists.len() {
-        write_list(sink, lists.list(place));
+    for place in 0..batch.len() {
+        write_list(sink, batch.list(place));
     }
 }
 
 /// Writes the content of a batch.
-fn write_content<S: Sink, L: Lists>(sink: &mut S, lists: &L)
-    ensures { S.takes sink.old sink.new (content_bytes (L.lists lists.now)) }
+fn write_content<S: Sink>(sink: &mut S, batch: &Batch)
+    ensures { S.takes sink.old sink.new (content_bytes batch.now) }
 {
-    write_number(sink, 1, lists.len() as u64);
-    write_lists(sink, lists);
+    write_number(sink, 1, batch.len() as u64);
+    write_lists(sink, batch);
 }
 
 /// How many bytes the content of a batch has; of a number that needs more, the lowest 64 bits.
-fn content_length<L: Lists>(lists: &L) -> u64
-    ensures { number_bytes 8 result ≡ number_bytes 8 (length (content_bytes (L.lists lists.now))) }
+fn content_length(batch: &Batch) -> u64
+    ensures { number_bytes 8 result ≡ number_bytes 8 (length (content_bytes batch.now)) }
 {
     let mut counter = Counter { count: 0 };
-    write_content(&mut counter, lists);
+    write_content(&mut counter, batch);
     counter.count
 }
 
 /// Writes a batch.
-pub fn write_batch<S: Sink, L: Lists>(sink: &mut S, lists: &L)
-    ensures { S.takes sink.old sink.new (batch_bytes (L.lists lists.now)) }
+pub fn write_batch<S: Sink>(sink: &mut S, batch: &Batch)
+    ensures { S.takes sink.old sink.new (batch_bytes batch.now) }
 {
     sink.put(&MARK);
-    write_number(sink, 8, content_length(lists));
-    write_content(sink, lists);
+    write_number(sink, 8, content_length(batch));
+    write_content(sink, batch);
     sink.put(&[END]);
 }

@@ -71,7 +71,7 @@ impl<K: Loaded> Shop<K> {
         if batch.len() == 0 {
             return Err(Refusal::NoSuchWarehouse);
         }
-        Ok(batch.part(0).len() as u64)
+        Ok(batch.list(0).len() as u64)
     }
 
     /// Runs a command of one warehouse, that at a place.

@@ -1,7 +1,7 @@
 //! The values of a column on the pages of a segment.
 
-ghost use Rattle.std.specs.Prelude.{◌≡◌, ◌+◌, ◌-◌, ◌*◌, ◌<◌, ◌≤◌, ◌++◌, All, OnOk, length, map, option_to_list, vec_capacity, vec_len};
-ghost use Rattle.hy_rows.specs.Spelling.{HasSlots, is_live, list_at, row_of_slot, rows_of, slot_width, used_slots};
+ghost use Rattle.std.specs.Prelude.{◌≡◌, ◌+◌, ◌-◌, ◌*◌, ◌<◌, ◌≤◌, ◌++◌, false, All, OnOk, length, map, option_to_list, vec_capacity, vec_len};
+ghost use Rattle.hy_rows.specs.Spelling.{HasSlots, is_live, is_spanned, list_at, row_of_slot, rows_of, slot_width, used_slots};
 ghost use Rattle.hy_columns.specs.inside.Pages.{rows_on, whole_row};
 
 use crate::decode::Decode;
@@ -93,7 +93,7 @@ pub(crate) fn read_pages<'a, D: Decode<'a>, const N: usize>(
     values: &mut Vec<D::Output>,
 ) -> Result<(), AllocError>
     requires slots { HasSlots N row_bytes pages.now }
-    requires width { slot_width row_bytes ≤ N }
+    requires unspanned { is_spanned row_bytes ≡ false }
     requires size { 256 ≤ N }
     requires small { N ≤ 65536 }
     requires fits { D.fits column.now row_bytes }
@@ -132,11 +132,11 @@ fn count_page(page: &[u8], row_bytes: usize, count: usize) -> usize
 /// How many rows a segment has.
 pub(crate) fn count_pages<const N: usize>(pages: &[Hold<N>], row_bytes: usize) -> usize
     requires slots { HasSlots N row_bytes pages.now }
-    requires width { slot_width row_bytes ≤ N }
+    requires unspanned { is_spanned row_bytes ≡ false }
     requires size { 256 ≤ N }
     requires small { N ≤ 65536 }
     ensures rows { result ≡ length (rows_of N row_bytes whole_row pages.now) }
-    ensures most { result ≤ used_slots pages.now }
+    ensures most { result ≤ length pages.now * N }
 {
     know_sizes(pages);
     let mut left = used_on(pages);

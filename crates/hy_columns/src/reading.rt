@@ -1,7 +1,7 @@
 //! The rows of a table in the snapshots of all warehouses, one behind another.
 
-ghost use Rattle.std.specs.Prelude.{◌≡◌, ◌^◌, ◌<◌, ◌≤◌, IfOk, length, map};
-ghost use Rattle.hy_rows.specs.Spelling.{HasSlots, IsTable, list_at, rows_of, slot_width};
+ghost use Rattle.std.specs.Prelude.{◌≡◌, ◌^◌, ◌<◌, ◌≤◌, false, IfOk, length, map};
+ghost use Rattle.hy_rows.specs.Spelling.{HasSlots, IsTable, is_spanned, list_at, rows_of};
 ghost use Rattle.hy_forks.specs.Snapshots.{IsWhole};
 ghost use Rattle.hy_columns.specs.Snapshots.{items_of};
 ghost use Rattle.hy_columns.specs.inside.Pages.{whole_row};
@@ -20,7 +20,7 @@ fn pages_of<const N: usize>(snapshot: &Snapshot<N>, segment: Segment) -> &[Hold<
     requires { IsTable segment.number segment.row_bytes }
     ensures pages { result.now ≡ list_at snapshot.now.bytes segment.number }
     ensures slots { HasSlots N segment.row_bytes result.now }
-    ensures width { slot_width segment.row_bytes ≤ N }
+    ensures unspanned { is_spanned segment.row_bytes ≡ false }
     ensures whole { IsWhole N snapshot.now.bytes }
 {
     snapshot.segment(segment.number)

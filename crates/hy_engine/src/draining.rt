@@ -6,32 +6,13 @@ ghost use Rattle.hy_engine.specs.Engines.{DrainsInto, IsDrainOf, IsWhyUndrained,
 use crate::engine::Engine;
 use crate::gate::Gate;
 use crate::locking::lock_soon;
-use hy_batches::Lists;
-use hy_commands::Commit;
-use hy_forks::{Batch, drain};
+use hy_batches::Batch;
+use hy_forks::drain;
 use hy_partition::Loaded;
 use hy_redo::{Log, LogOut};
 use hy_schema::Refusal;
 use std::alloc::Global;
 use std::sync::{Mutex, Wait};
-
-/// What was committed since the last drain, as a batch of a log.
-#[derive(Drop)]
-struct Drained {
-    batch: Batch,
-}
-
-impl Lists for Drained {
-    ghost lists = { λ drained. drained.batch };
-
-    fn len(&self) -> usize {
-        self.batch.len()
-    }
-
-    fn list(&self, place: usize) -> &[Commit] {
-        self.batch.part(place)
-    }
-}
 
 impl<const N: usize, K: Loaded, G: Gate + Drop> Engine<N, K, G> {
     /// Writes what was committed since the last drain to a log, as one batch. The log's lock is taken first, and held until
@@ -62,7 +43,7 @@ impl<const N: usize, K: Loaded, G: Gate + Drop> Engine<N, K, G> {
         ensures refused { IfErr result IsWhyUnlogged }
     {
         let batch = self.drain_all(rt, alloc)?;
-        log.write_batch(&Drained { batch })
+        log.write_batch(&batch)
     }
 
     /// What was committed since the last drain, which then counts as drained. Takes all locks. E4 where the partitions

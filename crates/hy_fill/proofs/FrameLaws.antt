@@ -1,20 +1,18 @@
 -- Where no child is open, each frame in use is a page of the owner, and the owner's pages are those of its rows.
-use Rattle.std.proofs.Common.{◌≡◌, ℕ, zero, suc, ◌+◌, ◌*◌, ◌/◌, ◌<◌, ◌≤◌, inl, inr, List, [], ◌∷◌, Option, length, get_or, map, drop, refl, ap, ◌∙◌, arith, lit≤, count_by, sum_by, option_to_list}
+use Rattle.std.proofs.Common.{◌≡◌, ℕ, zero, suc, ◌+◌, ◌*◌, ◌<◌, ◌≤◌, inl, inr, List, [], ◌∷◌, Option, length, get_or, map, drop, refl, ap, ◌∙◌, arith, lit≤, count_by, sum_by, option_to_list}
 use Rattle.std.specs.List.{flat_map}
-use Rattle.std.proofs.Math.Nat.{div-mul-le_self}
 use Rattle.std.proofs.lemmas.Bool.{cases_eq, cases_lt}
 use Rattle.std.proofs.lemmas.List.{length-drop, length-map}
 use Rattle.std.proofs.lemmas.List.Sums.{sum_by-cons}
-use Rattle.std.proofs.lemmas.Nat.{le-div}
 use Rattle.hy_frames.specs.FrameTable.{Frame, count_of, empty_frame, free_of, in_use, occurrences, page_of}
 use Rattle.hy_frames.proofs.FrameLaws.{above, above_no, above_yes}
-use Rattle.hy_rows.specs.Spelling.{list_at, slot_width, slots_per_page, used_slots}
+use Rattle.hy_rows.specs.Spelling.{least_page, list_at, used_slots}
 use Rattle.hy_rows.specs.Tables.{Tables}
 use Rattle.hy_space.specs.Space.{CountsAreExact, IsSound, SpaceState, maps, owner_bytes, times}
 use Rattle.hy_space.proofs.TableLaws.{occurrences-cons, times-cons}
 use Rattle.hy_space.proofs.UserLaws.{same, same_no, same_yes}
 use Rattle.hy_relation.specs.Relation.{HasFewPages}
-use Rattle.hy_relation.proofs.SlotLaws.{some_slots}
+use Rattle.hy_relation.proofs.SlotLaws.{end-sorted}
 use Rattle.hy_store.specs.Pages.{HasPagesUpTo, index_pages, row_pages}
 use Rattle.hy_store.specs.Stored.{all_segments}
 use Rattle.hy_store.specs.inside.Places.{by_all_places}
@@ -126,19 +124,15 @@ no_pages : {Page : Type 0} (table : List (List Page)) → length table ≡ 0 →
 no_pages [] none = refl
 no_pages (segment ∷ table) none = absurd (omega (arith, none))
 
-row-bound : (n width most : ℕ) (pages : List (List ℕ)) → slot_width width ≤ n → used_slots pages ≤ most → HasFewPages n width pages
+row-bound : (n width most : ℕ) (pages : List (List ℕ)) → least_page ≤ n → used_slots pages ≤ most → HasFewPages n width pages
     → length pages ≤ row_pages n width most
-row-bound n width most pages room within few =
-    let per = slots_per_page n width in
-    let enough : used_slots pages / per * per ≤ used_slots pages = div-mul-le_self (used_slots pages) per in
-    let more : used_slots pages / per ≤ most / per = le-div (used_slots pages / per) most per (some_slots n width room) (omega (arith, enough, within)) in
-    omega (arith, few, more)
+row-bound n width most pages size within few = omega (arith, few, end-sorted n width (used_slots pages) most size within)
 
 pages_in-bound : (n : ℕ) (tables : Tables) (bytes : List (List (List ℕ))) → 256 ≤ n → HasPagesUpTo n (most_of tables) bytes
     → pages_in bytes ≤ frames_for n tables
 unfolding frames_for
 pages_in-bound n tables bytes size has =
-    let row : (segment width most : ℕ) → slot_width width ≤ n → used_slots (list_at bytes segment) ≤ most → HasFewPages n width (list_at bytes segment)
+    let row : (segment width most : ℕ) → least_page ≤ n → used_slots (list_at bytes segment) ≤ most → HasFewPages n width (list_at bytes segment)
     → length (list_at bytes segment) ≤ row_pages n width most = λ segment width most. row-bound n width most (list_at bytes segment) in
     let warehouses : length (list_at bytes 0) ≤ row_pages n 21 (length tables.warehouses) = row 0 21 (length tables.warehouses) (omega (arith, size)) (has.slots 0 21 refl) (has.few 0 21 refl) in
     let districts : length (list_at bytes 1) ≤ row_pages n 26 (length tables.districts) = row 1 26 (length tables.districts) (omega (arith, size)) (has.slots 1 26 refl) (has.few 1 26 refl) in

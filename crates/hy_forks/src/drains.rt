@@ -1,6 +1,6 @@
 //! What was committed since the last drain.
 
-ghost use Rattle.std.specs.Prelude.{◌≡◌, ◌<◌, [], IfErr, IfOk, OnErr, OnOk, length, map, slice_index_or};
+ghost use Rattle.std.specs.Prelude.{◌≡◌, IfErr, IfOk, OnErr, OnOk, map};
 ghost use Rattle.hy_schema.specs.declared.refusal.Refusal.{Refusal};
 ghost use Rattle.hy_partition.specs.Partition.{undrained};
 ghost use Rattle.hy_crossing.specs.Crossings.{ArePartitions, HaveNoPart};
@@ -9,46 +9,13 @@ ghost use Rattle.hy_forks.specs.Drains.{DrainsHere};
 ghost use Rattle.hy_forks.specs.Histories.{IsOneHistory};
 
 use crate::knowing::{know_list, know_load};
+use hy_batches::Batch;
 use hy_commands::Commit;
 use hy_crossing::Parts;
 use hy_partition::{Loaded, Partition};
 use hy_passes::Journal;
 use hy_schema::Refusal;
 use std::alloc::{AllocError, Global};
-use std::marker::Model;
-
-/// The commits of each warehouse since a drain, in order.
-#[derive(Drop)]
-pub struct Batch {
-    parts: Vec<Vec<Commit>>,
-}
-
-// Clauses see the commits of each warehouse.
-impl Model for Batch {
-    ghost use Rattle.std.specs.Prelude.{List, map};
-    ghost use Rattle.hy_commands.specs.declared.command.Commit.{Commit};
-
-    ghost Value = { List (List Commit) };
-
-    ghost view = { λ batch. map (λ commits. commits.items) batch.parts.items };
-}
-
-impl Batch {
-    /// How many warehouses there are.
-    pub fn len(&self) -> usize
-        ensures { result ≡ length self.now }
-    {
-        self.parts.len()
-    }
-
-    /// The commits of the warehouse at a place, from 0, in order.
-    pub fn part(&self, place: usize) -> &[Commit]
-        requires { place < length self.now }
-        ensures { result.now ≡ slice_index_or self.now place [] }
-    {
-        self.parts[place].as_slice()
-    }
-}
 
 /// These commits once more. An error where it finds no memory.
 fn copy_commits(alloc: Global, commits: &[Commit]) -> Result<Vec<Commit>, AllocError>
@@ -74,7 +41,7 @@ fn copy_undrained<const N: usize, K: Loaded, P: Parts<Part = Partition<N, K>>>(
         let commits = parts.part(place).undrained();
         copies.push_reserved(copy_commits(alloc, commits)?);
     }
-    Ok(Batch { parts: copies })
+    Ok(Batch::new(copies))
 }
 
 /// Tells a partition of the whole serial list, and marks its commits as drained.

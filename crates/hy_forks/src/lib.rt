@@ -9,9 +9,10 @@ mod history;
 mod knowing;
 mod snapshot;
 
-pub use drains::{Batch, drain};
+pub use drains::drain;
 pub use forks::{close_all, fork_all};
 pub use history::find_history;
+pub use hy_batches::Batch;
 pub use hy_crossing::Parts;
 pub use hy_partition::{Loaded, Partition, Snapshot};
 pub use snapshot::SnapshotAll;

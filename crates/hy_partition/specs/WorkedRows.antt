@@ -13,7 +13,7 @@ use Rattle.hy_frames.specs.FrameTable.{Frame, count_of, empty_frame}
 use Rattle.hy_rows.specs.declared.history.History.{History}
 use Rattle.hy_rows.specs.declared.warehouse.Warehouse.{Warehouse}
 use Rattle.hy_rows.specs.Rows.{history_bytes, warehouse_bytes}
-use Rattle.hy_rows.specs.Spelling.{HasSlots, IsTable, Spells, list_at, tables_of, used_slots}
+use Rattle.hy_rows.specs.Spelling.{HasSlots, IsTable, Spells, list_at, tables_of}
 use Rattle.hy_rows.specs.Tables.{no_rows}
 use Rattle.hy_rows.specs.inside.Places.{segment_there}
 use Rattle.hy_schema.specs.declared.refusal.Refusal.TheVariants as refusals
@@ -358,9 +358,8 @@ spelled = record { whole = record { all_segments = lit≤ tt; slots = slots }; r
         (record { first = lit< tt; slots = lit≤ tt })
     slots (suc segment) row_bytes table =
         let there : segment < segments - 1 = omega (arith, segment_there (suc segment) row_bytes table) in
-        let none : used_slots (page_of_zeros ∷ []) ≡ 0 = refl in
         subst (HasSlots 64 row_bytes) (sym (get_or-replicate (segments - 1) segment (page_of_zeros ∷ []) [] there))
-        (record { first = lit< tt; slots = omega (arith, none) })
+        (record { first = lit< tt; slots = omega arith })
 
 -- the headline holds of it
 pub small-headline : Headline 64 small

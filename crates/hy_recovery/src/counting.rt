@@ -5,12 +5,12 @@ ghost use Rattle.hy_rows.specs.Tables.{Lists};
 ghost use Rattle.hy_sound.specs.Sound.{list_at};
 ghost use Rattle.hy_recovery.specs.Recovering.{NoneAreTooMany, SomeAreTooMany, joined};
 
-use hy_batches::{Batches, Lists, ReadBatch};
+use hy_batches::{Batch, Batches};
 use hy_loads::Load;
 use hy_schema::Warehouse;
 
 /// How many commits the list at a place has; none where there is no such list.
-fn count_at(batch: &ReadBatch, place: usize) -> usize
+fn count_at(batch: &Batch, place: usize) -> usize
     ensures { result ≡ length (list_at batch.now place) }
 {
     if place >= batch.len() {

@@ -6,7 +6,7 @@ ghost use Rattle.hy_sound.specs.inside.Steps.{IsAtCrossing};
 ghost use Rattle.hy_recovery.specs.inside.Ways.{Aim, AreOnWay, AreThere, IsShortage, crossings_in, untouched};
 
 use crate::running::{run_crossing, run_local};
-use hy_batches::ReadBatch;
+use hy_batches::Batch;
 use hy_commands::Commit;
 use hy_partition::{Loaded, Partition};
 use hy_passes::{Journal, Pass};
@@ -67,7 +67,7 @@ pub(crate) fn run_batch<const N: usize, K: Loaded>(
     alloc: Global,
     parts: &mut Vec<Partition<N, K>>,
     journal: &mut Journal<Commit, K>,
-    batch: &ReadBatch,
+    batch: &Batch,
     mut pass: Pass<Commit, K>,
 ) -> Result<Pass<Commit, K>, Refusal>
     requires way { (aim : Aim) × AreOnWay K.load aim (untouched batch.now) journal.old.list.log parts.old.items }

@@ -2,7 +2,7 @@
 
 use crate::out::LogOut;
 use crate::pending::Pending;
-use hy_batches::{Lists, Sink};
+use hy_batches::{Batch, Sink};
 use hy_schema::Refusal;
 use std::alloc::Global;
 use std::marker::Model;
@@ -51,14 +51,14 @@ impl<W: LogOut> Log<W> {
 
     /// Writes a batch and syncs it, which acknowledges it. Refused with E14 where the writer fails, and from then on always;
     /// nothing is written any more then.
-    pub fn write_batch<L: Lists>(&mut self, lists: &L) -> Result<(), Refusal>
-        ensures { Answers self.old self.new (L.lists lists.now) result }
+    pub fn write_batch(&mut self, batch: &Batch) -> Result<(), Refusal>
+        ensures { Answers self.old self.new batch.now result }
     {
         if self.pending.has_failed() {
             return Err(Refusal::LogFailed);
         }
         self.pending.clear();
-        hy_batches::write_batch(&mut self.pending, lists);
+        hy_batches::write_batch(&mut self.pending, batch);
         self.pending.flush();
         self.pending.sync();
         if self.pending.has_failed() {

@@ -1,5 +1,5 @@
 use super::*;
-use hy_batches::{ReadBatch, read_log};
+use hy_batches::{Batch, read_log};
 use hy_schema::Refusal;
 use std::marker::Model;
 use std::process::Abort;
@@ -97,7 +97,7 @@ impl<'rt, R: Abort> LogOut for Memory<'rt, R> {
 }
 
 /// Writes a batch three times over a writer that fails behind so many calls. A batch takes 44: 43 writes and a sync.
-fn stops_behind(rt: &(impl Abort + AllocGlobal), batch: &ReadBatch, calls: u64) {
+fn stops_behind(rt: &(impl Abort + AllocGlobal), batch: &Batch, calls: u64) {
     let whole = calls / 44;
     let mut log = Log::new(rt.alloc(), Memory::new(rt, calls));
     for place in 0..3 {

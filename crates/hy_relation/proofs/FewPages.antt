@@ -1,25 +1,28 @@
 -- A segment has few pages, whatever is written into it and wherever a call is refused.
-use Rattle.std.proofs.Common.{◌≡◌, ℕ, ◌+◌, ◌*◌, ◌/◌, ◌≤◌, List, length, ap, arith}
-use Rattle.std.proofs.Math.Nat.{div-mul-le_self}
-use Rattle.std.proofs.lemmas.Nat.{le-div}
-use Rattle.hy_rows.specs.Spelling.{slot_width, slots_per_page, used_slots}
-use Rattle.hy_relation.specs.Relation.{HasFewPages}
-use Rattle.hy_relation.specs.inside.Addresses.{slot_page}
-use Rattle.hy_relation.proofs.SlotLaws.{some_slots}
+use Rattle.std.proofs.Common.{◌≡◌, ℕ, ◌+◌, ◌≤◌, List, length, sym, subst, arith}
+use Rattle.hy_rows.specs.Spelling.{least_page, list_at, used_slots}
+use Rattle.hy_space.specs.Space.{SpaceState, owner_bytes}
+use Rattle.hy_undo.specs.Writes.{WritesAcross}
+use Rattle.hy_relation.specs.Relation.{ChangesSegment, HasFewPages, owner_pages}
+use Rattle.hy_relation.specs.inside.Addresses.{WritesJoined}
+use Rattle.hy_relation.proofs.SlotLaws.{end-sorted}
 
 -- where no page comes and no slot goes
-pub few-kept : (n width : ℕ) (old new : List (List ℕ)) → slot_width width ≤ n → length new ≡ length old → used_slots old ≤ used_slots new
+pub few-kept : (n width : ℕ) (old new : List (List ℕ)) → least_page ≤ n → length new ≡ length old → used_slots old ≤ used_slots new
     → HasFewPages n width old → HasFewPages n width new
-few-kept n width old new room pages used few =
-    let per = slots_per_page n width in
-    let enough : used_slots old / per * per ≤ used_slots old = div-mul-le_self (used_slots old) per in
-    let more : used_slots old / per ≤ used_slots new / per = le-div (used_slots old / per) (used_slots new) per (some_slots n width room) (omega (arith, enough, used)) in
-    omega (arith, few, more, pages)
+few-kept n width old new size pages used few =
+    omega (arith, few, pages, end-sorted n width (used_slots old) (used_slots new) size used)
 
--- where a page comes since each slot was used
-pub few-grown : (n width : ℕ) (old new : List (List ℕ)) → slot_page n width (used_slots old) ≡ length old → length new ≡ length old + 1 → used_slots new ≡ used_slots old
-    → HasFewPages n width new
-few-grown n width old new full more used =
-    let per = slots_per_page n width in
-    let same : used_slots new / per ≡ used_slots old / per = ap (λ count. count / per) used in
-    omega (arith, full, more, same)
+-- where something is written into a slot, or refused
+module _ (n segment width start : ℕ) (old new : SpaceState) (part : List ℕ) (size : least_page ≤ n) where
+  pub few-written : WritesJoined (owner_pages old segment) (owner_pages new segment) start part
+      → HasFewPages n width (owner_pages old segment) → HasFewPages n width (owner_pages new segment)
+  few-written written few =
+      few-kept n width (owner_pages old segment) (owner_pages new segment) size written.pages (omega (arith, written.used)) few
+
+  pub few-refused : owner_bytes new ≡ owner_bytes old → HasFewPages n width (owner_pages old segment) → HasFewPages n width (owner_pages new segment)
+  few-refused same few = subst (λ (all : List (List (List ℕ))). HasFewPages n width (list_at all segment)) (sym same) few
+
+-- a write over a slot in one segment changes no other one
+pub only-across : (old new : List (List (List ℕ))) (segment start : ℕ) (part : List ℕ) → WritesAcross old new segment start part → ChangesSegment old new segment
+only-across old new segment start part written = record { segments = written.segments; others = written.others }

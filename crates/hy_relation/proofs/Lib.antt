@@ -1,7 +1,12 @@
+pub mod OverwriteLaws
 pub mod SlotLaws
+pub mod CopyLaws
+pub mod AddressLaws
 pub mod PageLaws
 pub mod SpaceLaws
 pub mod RelationLaws
+pub mod RoomLaws
+pub mod PartReads
 pub mod FewPages
 pub mod ChangedRows
 pub mod TablesLaws

@@ -1,61 +1,31 @@
 -- What writes into the pages of a segment do to the list of its slots.
-use Rattle.std.proofs.Common.{◌≡◌, ◌==◌, true, false, ℕ, ◌+◌, ◌-◌, ◌*◌, ◌/◌, ◌%◌, ◌<◌, ◌≤◌, List, [], ◌∷◌, ◌++◌, length, replicate, take, set, get_or, Option, Some, None, Result, Ok, Err, OnErr, refl, sym, ap, ◌∙◌, ap₂, subst, arith, inl, inr}
+use Rattle.std.proofs.Common.{◌≡◌, ℕ, suc, ◌+◌, ◌<◌, ◌≤◌, List, [], ◌∷◌, ◌++◌, length, replicate, take, set, get_or, Option, Some, None, Result, Ok, Err, OnErr, refl, sym, ap, ◌∙◌, ap₂, subst, arith, inl, inr, length-append}
 use Rattle.std.specs.Prelude.{IsSome}
-use Rattle.std.proofs.Math.Nat.{div-add-mod, div-mul-le_self, mod-lt, mul-le-mul_left}
 use Rattle.std.proofs.lemmas.Bool.{cases_lt, false≢true}
-use Rattle.std.proofs.lemmas.Bool.Decides.{nat_tests}
 use Rattle.std.proofs.lemmas.List.{append-nil, get_or_past, take_more}
 use Rattle.std.proofs.lemmas.List.Concat.{flat_map-append}
-use Rattle.std.specs.Option.{option_to_list}
+use Rattle.std.specs.Option.{option_map, option_to_list}
+use Rattle.hy_page.specs.Bytes.{overwritten}
 use Rattle.hy_page.proofs.ByteLaws.{field_of_zeros}
 use Rattle.hy_rows.proofs.FirstItems.{get_or-first_items, length-first_items}
-use Rattle.hy_rows.specs.Spelling.{HasSlots, live_rows, row_of_slot, slot_at, slot_bytes, slot_start, slot_width, slots_of, slots_per_page, used_slots}
-use Rattle.hy_relation.specs.Relation.{HasAllSlotsUsed, IsLive, pages_after_push}
-use Rattle.hy_relation.specs.inside.Addresses.{CountsSlots, GrowsSlots, WritesSlot, slot_page}
-use Rattle.hy_relation.proofs.SlotLaws.{slots_in, slots_in-behind, slots_in-erased, slots_in-filled, slots_in-grown, slots_in-pushed, some_slots, start-within}
-use Rattle.hy_relation.proofs.PageLaws.{Sized, length-slot_bytes}
+use Rattle.hy_rows.specs.Spelling.{HasSlots, live_rows, row_of_slot, least_page, slot_at, slot_bytes, slot_start, slot_width, slots_end, slots_of, used_slots}
+use Rattle.hy_undo.proofs.PutBackLaws.{length-overwritten}
+use Rattle.hy_relation.specs.Relation.{IsLive}
+use Rattle.hy_relation.specs.inside.Addresses.{CountsSlots, GrowsSlots, WritesJoined, WritesSlot}
+use Rattle.hy_relation.proofs.SlotLaws.{slots_in, slots_in-behind, slots_in-erased, slots_in-filled, slots_in-grown, slots_in-part, slots_in-pushed}
+use Rattle.hy_relation.proofs.SpaceLaws.{used-within}
 
--- a slot whose page is there is one of those that the pages have
-pub slot_within : (n width k pages : ℕ) → slot_width width ≤ n → slot_page n width k < pages → k < slots_per_page n width * (pages - 1)
-slot_within n width k pages room there =
-    let per = slots_per_page n width in
-    let low : k % per < per = mod-lt k (some_slots n width room) in
-    let parts : per * (k / per) + k % per ≡ k = div-add-mod k per in
-    let more : per * (k / per + 1) ≤ per * (pages - 1) = mul-le-mul_left per (omega arith) in
-    omega arith
+-- a write behind no byte of a slot is one over its first bytes
+pub at_start : (n width : ℕ) (old new : List (List ℕ)) (k : ℕ) (part : List ℕ) → WritesJoined old new (slot_start n width k + 0) part → WritesSlot n width old new k part
+at_start n width old new k part written = subst (λ (start : ℕ). WritesJoined old new start part) (let same : slot_start n width k + 0 ≡ slot_start n width k = omega arith in same) written
 
--- how many pages there are after one slot more
-module _ (n width : ℕ) (pages : List (List ℕ)) (room : slot_width width ≤ n) where
-  pub slots-used : HasSlots n width pages → slot_page n width (used_slots pages) ≡ length pages → HasAllSlotsUsed n width pages
-  slots-used slots last =
-      let per = slots_per_page n width in
-      let count = length pages - 1 in
-      let place : used_slots pages / per ≡ count = omega (arith, last) in
-      let enough : used_slots pages / per * per ≤ used_slots pages = div-mul-le_self (used_slots pages) per in
-      let product : used_slots pages / per * per ≡ count * per = ap (λ q. q * per) place in
-      omega (arith, slots.slots, enough, product)
-
-  pub pages-full : HasSlots n width pages → slot_page n width (used_slots pages) ≡ length pages → pages_after_push n width pages ≡ length pages + 1
-  pages-full slots last =
-      let per = slots_per_page n width in
-      let count = length pages - 1 in
-      let full : used_slots pages ≡ per * count = slots-used slots last in
-      let is_full : (used_slots pages == per * count) ≡ true = grind (arith, nat_tests, full) in
-      rw is_full refl
-
-  pub pages-room : slot_page n width (used_slots pages) < length pages → pages_after_push n width pages ≡ length pages
-  pages-room there =
-      let per = slots_per_page n width in
-      let count = length pages - 1 in
-      let within : used_slots pages < per * count = slot_within n width (used_slots pages) (length pages) room there in
-      let has_room : (used_slots pages == per * count) ≡ false = grind (arith, nat_tests, within) in
-      rw has_room refl
-
--- it lies within the joined bytes
-slot_joined : (n width : ℕ) (pages : List (List ℕ)) (k : ℕ) → slot_width width ≤ n → Sized n pages → k < slots_per_page n width * (length pages - 1)
-    → slot_start n width k + slot_width width ≤ length (slot_bytes pages)
-slot_joined n width pages k room sized within =
-    omega (arith, start-within n width k (length pages - 1) room within, length-slot_bytes n pages sized)
+-- where bytes of slots are written over, the used slots lie in the bytes of the pages still
+pub has_slots-written : (n width : ℕ) (old new : List (List ℕ)) (start : ℕ) (part : List ℕ) → start + length part ≤ length (slot_bytes old)
+    → WritesJoined old new start part → HasSlots n width old → HasSlots n width new
+has_slots-written n width old new start part within written slots = record {
+  first = omega (arith, slots.first, written.pages);
+  slots = omega (arith, ap (slots_end n width) written.used, slots.slots, ap length written.joined, length-overwritten (slot_bytes old) start part within);
+}
 
 module _ {Row : Type 0} (n width : ℕ) (row_of : List ℕ → Row) where
   pub length-slots_of : (pages : List (List ℕ)) → length (slots_of n width row_of pages) ≡ used_slots pages
@@ -75,10 +45,10 @@ module _ {Row : Type 0} (n width : ℕ) (row_of : List ℕ → Row) where
     | inr past ↦ absurd (false≢true (subst IsSome (row-unused pages k past) live))
   ]
 
-  module _ (old : List (List ℕ)) (k : ℕ) (room : slot_width width ≤ n) (sized : Sized n old) (slots : HasSlots n width old) where
+  module _ (old : List (List ℕ)) (k : ℕ) (room : least_page ≤ n) (slots : HasSlots n width old) where
     module _ (new : List (List ℕ)) (used : k < used_slots old) where
       fits : slot_start n width k + slot_width width ≤ length (slot_bytes old)
-      fits = slot_joined n width old k room sized (omega (arith, used, slots.slots))
+      fits = used-within n width old k room slots used
 
       -- a row is put into a used slot
       pub slots_of-put : (bytes : List ℕ) → length bytes ≡ width → WritesSlot n width old new k (1 ∷ bytes)
@@ -86,6 +56,16 @@ module _ {Row : Type 0} (n width : ℕ) (row_of : List ℕ → Row) where
       slots_of-put bytes whole written =
           ap₂ (slots_in n width row_of) written.joined written.used
           ∙ slots_in-filled n width row_of (slot_bytes old) (used_slots old) k room fits bytes whole used
+
+      -- some bytes of the row in a used slot are written over, which then means another row
+      pub slots_of-part : (skip : ℕ) (part : List ℕ) (change : Row → Row) → 1 + skip + length part ≤ slot_width width
+          → ((row : List ℕ) → length row ≡ width → row_of (overwritten row skip part) ≡ change (row_of row))
+          → WritesJoined old new (slot_start n width k + (1 + skip)) part
+          → slots_of n width row_of new ≡ set (slots_of n width row_of old) k (option_map change (get_or (slots_of n width row_of old) k None))
+      slots_of-part skip part change short changes written =
+          ap₂ (slots_in n width row_of) written.joined written.used
+          ∙ slots_in-part n width row_of (slot_bytes old) (used_slots old) k room fits skip part change short used changes
+          ∙ ap (λ row. set (slots_of n width row_of old) k (option_map change row)) (sym (row-used old k used))
 
       -- a used slot is erased
       pub slots_of-erased : WritesSlot n width old new k (0 ∷ []) → slots_of n width row_of new ≡ set (slots_of n width row_of old) k None
@@ -98,19 +78,22 @@ module _ {Row : Type 0} (n width : ℕ) (row_of : List ℕ → Row) where
     slots_of-grown grown grows =
         ap₂ (slots_in n width row_of) grows.joined.1 grows.used
         ∙ slots_in-grown n width row_of (slot_bytes old) grows.joined.0 (used_slots old)
-        (λ j below. slot_joined n width old j room sized (omega (arith, below, slots.slots)))
+        (λ j below. used-within n width old j room slots below)
 
     pub has_slots-grown : (grown : List (List ℕ)) → GrowsSlots old grown → HasSlots n width grown
     has_slots-grown grown grows =
-        let more : slots_per_page n width * (length old - 1) ≤ slots_per_page n width * (length grown - 1) = mul-le-mul_left (slots_per_page n width) (omega (arith, grows.pages)) in
-        record { first = omega (arith, grows.pages, slots.first); slots = omega (arith, grows.used, slots.slots, more) }
+        let more : length (slot_bytes old) ≤ length (slot_bytes grown) = omega (arith, ap length grows.joined.1, length-append (slot_bytes old) grows.joined.0) in
+        record {
+          first = omega (arith, grows.pages, slots.first);
+          slots = omega (arith, ap (slots_end n width) grows.used, slots.slots, more);
+        }
 
     -- something is written into the slot behind the used ones, which isn't counted
-    module _ (grown filled : List (List ℕ)) (part : List ℕ) (all : used_slots old ≡ k) (grown_sized : Sized n grown) (grows : GrowsSlots old grown)
-        (there : slot_page n width k < length grown) (written : WritesSlot n width grown filled k part) where
-      pub slots_of-behind : length part ≤ slot_width width → slots_of n width row_of filled ≡ slots_of n width row_of old
-      slots_of-behind short =
-          let within = slot_joined n width grown k room grown_sized (slot_within n width k (length grown) room there) in
+    module _ (grown filled : List (List ℕ)) (part : List ℕ) (all : used_slots old ≡ k) (grows : GrowsSlots old grown)
+        (within : slot_start n width k + slot_width width ≤ length (slot_bytes grown)) (short : length part ≤ slot_width width)
+        (written : WritesSlot n width grown filled k part) where
+      pub slots_of-behind : slots_of n width row_of filled ≡ slots_of n width row_of old
+      slots_of-behind =
           ap₂ (slots_in n width row_of) written.joined written.used
           ∙ slots_in-behind n width row_of (slot_bytes grown) (used_slots grown) k room within part short (omega (arith, all, grows.used))
           ∙ slots_of-grown grown grows
@@ -118,19 +101,20 @@ module _ {Row : Type 0} (n width : ℕ) (row_of : List ℕ → Row) where
       pub has_slots-behind : HasSlots n width filled
       has_slots-behind =
           let before = has_slots-grown grown grows in
+          let bytes : length (slot_bytes filled) ≡ length (slot_bytes grown) = ap length written.joined
+          ∙ length-overwritten (slot_bytes grown) (slot_start n width k) part (omega (arith, within, short)) in
           record {
             first = omega (arith, before.first, written.pages);
-            slots = subst (λ (used : ℕ). used ≤ slots_per_page n width * (length filled - 1)) (sym written.used)
-                (subst (λ (count : ℕ). used_slots grown ≤ slots_per_page n width * (count - 1)) (sym written.pages) before.slots);
+            slots = omega (arith, ap (slots_end n width) written.used, before.slots, bytes);
           }
 
     -- a row is written into the slot behind the used ones, which is counted then
-    module _ (grown filled new : List (List ℕ)) (bytes : List ℕ) (all : used_slots old ≡ k) (grown_sized : Sized n grown) (grows : GrowsSlots old grown)
-        (there : slot_page n width k < length grown) (written : WritesSlot n width grown filled k (1 ∷ bytes)) (counted : CountsSlots filled new (k + 1)) where
-      pub slots_of-pushed : length bytes ≡ width → slots_of n width row_of new ≡ slots_of n width row_of old ++ Some (row_of bytes) ∷ []
-      slots_of-pushed whole =
+    module _ (grown filled new : List (List ℕ)) (bytes : List ℕ) (all : used_slots old ≡ k) (grows : GrowsSlots old grown)
+        (within : slot_start n width k + slot_width width ≤ length (slot_bytes grown)) (whole : length bytes ≡ width)
+        (written : WritesSlot n width grown filled k (1 ∷ bytes)) (counted : CountsSlots filled new (k + 1)) where
+      pub slots_of-pushed : slots_of n width row_of new ≡ slots_of n width row_of old ++ Some (row_of bytes) ∷ []
+      slots_of-pushed =
           let joined = slot_bytes grown in
-          let within = slot_joined n width grown k room grown_sized (slot_within n width k (length grown) room there) in
           ap₂ (slots_in n width row_of) (counted.joined ∙ written.joined) counted.used
           ∙ slots_in-pushed n width row_of joined (used_slots old) k room within bytes whole all
           ∙ ap (λ used. slots_in n width row_of joined used ++ Some (row_of bytes) ∷ []) (sym grows.used)
@@ -139,10 +123,12 @@ module _ {Row : Type 0} (n width : ℕ) (row_of : List ℕ → Row) where
       pub has_slots-pushed : HasSlots n width new
       has_slots-pushed =
           let size : length new ≡ length grown = counted.pages ∙ written.pages in
+          let more : used_slots new ≡ suc k = counted.used ∙ omega arith in
+          let joined : length (slot_bytes new) ≡ length (slot_bytes grown) = ap length (counted.joined ∙ written.joined)
+          ∙ length-overwritten (slot_bytes grown) (slot_start n width k) (1 ∷ bytes) (omega (arith, within, whole)) in
           record {
             first = omega (arith, size, grows.pages, slots.first);
-            slots = subst (λ (used : ℕ). used ≤ slots_per_page n width * (length new - 1)) (sym counted.used)
-                (subst (λ (count : ℕ). k + 1 ≤ slots_per_page n width * (count - 1)) (sym size) (omega (arith, slot_within n width k (length grown) room there)));
+            slots = omega (arith, ap (slots_end n width) more, within, joined);
           }
 
   -- a segment whose one page is of zeros has no slots
@@ -150,7 +136,7 @@ module _ {Row : Type 0} (n width : ℕ) (row_of : List ℕ → Row) where
   used-zeros room = field_of_zeros n 0 8 room
 
   pub has_slots-zeros : 8 ≤ n → HasSlots n width (replicate n 0 ∷ [])
-  has_slots-zeros room = record { first = omega arith; slots = omega (arith, used-zeros room) }
+  has_slots-zeros room = record { first = omega arith; slots = omega (arith, ap (slots_end n width) (used-zeros room)) }
 
   pub slots_of-zeros : 8 ≤ n → slots_of n width row_of (replicate n 0 ∷ []) ≡ []
   slots_of-zeros room = ap (slots_in n width row_of (slot_bytes (replicate n 0 ∷ []))) (used-zeros room)

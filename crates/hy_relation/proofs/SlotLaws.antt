@@ -1,15 +1,19 @@
 -- Where slots begin in the joined bytes of their pages, and what a change of the bytes does to the list of slots.
-use Rattle.std.proofs.Common.{◌≡◌, ◌≢◌, ℕ, suc, ◌+◌, ◌*◌, ◌/◌, ◌%◌, ◌<◌, ◌≤◌, ◌==◌, cond, List, [], ◌∷◌, ◌++◌, length, take, drop, set, Option, Some, None, sym, ap, ◌∙◌, ap₂, arith, inl, inr}
-use Rattle.std.proofs.Math.Nat.{mul-le-mul_right, mod-lt, div-mul-le_self, le-div_iff_mul-le, div-add-mod}
-use Rattle.std.proofs.lemmas.Bool.{cases_lt}
+use Rattle.std.proofs.Common.{◌≡◌, ◌≢◌, ℕ, zero, suc, ◌+◌, ◌*◌, ◌/◌, ◌%◌, ◌<◌, ◌≤◌, ◌==◌, Bool, true, false, cond, List, [], ◌∷◌, ◌++◌, length, take, drop, set, Option, Some, None, refl, sym, ap, ◌∙◌, ap₂, arith, inl, inr}
+use Rattle.std.proofs.Math.Nat.{mul-le-mul_right, mod-lt, div-mul-le_self, le-div_iff_mul-le, div-add-mod, lt-div-mul-add}
+use Rattle.std.proofs.lemmas.Bool.{cases_Bool, cases_lt, cond-false, cond-true}
+use Rattle.std.proofs.lemmas.Bool.Decides.{nat_tests}
 use Rattle.std.proofs.lemmas.List.{drop-append-le, take-append-le, length-drop, take-take}
-use Rattle.std.proofs.lemmas.Nat.{div_below, le-div}
+use Rattle.std.proofs.lemmas.Nat.{div-mul-add, div_below, le-div, mod-mul-add}
 use Rattle.hy_page.specs.Bytes.{number_of, bytes_at, overwritten}
-use Rattle.hy_page.proofs.ByteLaws.{bytes_at-overwritten_same, bytes_at-overwritten_before, bytes_at-overwritten_behind}
+use Rattle.std.specs.Option.{option_map}
+use Rattle.hy_page.proofs.ByteLaws.{length-bytes_at, bytes_at-overwritten_same, bytes_at-overwritten_before, bytes_at-overwritten_behind}
 use Rattle.hy_rows.proofs.FirstItems.{first_items-same, first_items-set}
-use Rattle.hy_rows.specs.Spelling.{first_items, row_of_slot, slot_start, slot_width, slots_per_page}
+use Rattle.hy_rows.specs.Spelling.{first_items, is_live, is_spanned, least_page, row_of_slot, slot_start, slot_width, slots_end, slots_per_page}
+use Rattle.hy_relation.specs.Relation.{end_place}
+use Rattle.hy_relation.proofs.OverwriteLaws.{bytes_at-overwritten_inside, overwritten-behind}
 
--- ---- where slots begin
+-- ---- slots that aren't spanned
 
 -- a page has a slot, if one fits
 pub some_slots : (n width : ℕ) → slot_width width ≤ n → 0 < slots_per_page n width
@@ -22,15 +26,18 @@ slots_fit n width place within =
     let some : (place + 1) * slot_width width ≤ slots_per_page n width * slot_width width = mul-le-mul_right (slot_width width) (omega arith) in
     omega arith
 
--- slots of one page lie one behind the other
+-- slots one behind another
 slots_apart : (width one other : ℕ) → one < other → one * slot_width width + slot_width width ≤ other * slot_width width
 slots_apart width one other before =
     let some : (one + 1) * slot_width width ≤ other * slot_width width = mul-le-mul_right (slot_width width) (omega arith) in
     omega arith
 
--- a slot ends before a later one begins
-pub start-apart : (n width j k : ℕ) → slot_width width ≤ n → j < k → slot_start n width j + slot_width width ≤ slot_start n width k
-start-apart n width j k room before =
+-- where one begins on its page
+abbrev place_start : ℕ → ℕ → ℕ → ℕ
+place_start n width k = k / slots_per_page n width * n + k % slots_per_page n width * slot_width width
+
+place-apart : (n width j k : ℕ) → slot_width width ≤ n → j < k → place_start n width j + slot_width width ≤ place_start n width k
+place-apart n width j k room before =
     let per = slots_per_page n width in
     let some : 0 < per = some_slots n width room in
     let fits : j % per * slot_width width + slot_width width ≤ n = slots_fit n width (j % per) (mod-lt j some) in
@@ -48,15 +55,74 @@ start-apart n width j k room before =
           omega arith
     ]
 
--- the slots that so many pages have lie within their bytes
-pub start-within : (n width k pages : ℕ) → slot_width width ≤ n → k < slots_per_page n width * pages → slot_start n width k + slot_width width ≤ pages * n
-start-within n width k pages room within =
-    let per = slots_per_page n width in
-    let some : 0 < per = some_slots n width room in
-    let fits : k % per * slot_width width + slot_width width ≤ n = slots_fit n width (k % per) (mod-lt k some) in
-    let page : k / per < pages = div_below k per pages some (omega arith) in
-    let all : (k / per + 1) * n ≤ pages * n = mul-le-mul_right n (omega arith) in
-    omega arith
+-- ---- where slots begin
+
+pub start-spanned : (n width k : ℕ) → is_spanned width ≡ true → slot_start n width k ≡ k * slot_width width
+start-spanned n width k is = cond-true (is_spanned width) (k * slot_width width) (place_start n width k) is
+
+pub start-unspanned : (n width k : ℕ) → is_spanned width ≡ false → slot_start n width k ≡ place_start n width k
+start-unspanned n width k isnt = cond-false (is_spanned width) (k * slot_width width) (place_start n width k) isnt
+
+-- a page holds a slot that isn't spanned
+pub unspanned-room : (n width : ℕ) → least_page ≤ n → is_spanned width ≡ false → slot_width width ≤ n
+unspanned-room n width size isnt = grind (arith, nat_tests)
+
+-- a slot ends before a later one begins
+pub start-apart : (n width j k : ℕ) → least_page ≤ n → j < k → slot_start n width j + slot_width width ≤ slot_start n width k
+start-apart n width j k size before = elim (cases_Bool (is_spanned width)) [
+  | inl is ↦ omega (arith, start-spanned n width j is, start-spanned n width k is, slots_apart width j k before)
+  | inr isnt ↦ omega (
+      arith,
+      start-unspanned n width j isnt,
+      start-unspanned n width k isnt,
+      place-apart n width j k (unspanned-room n width size isnt) before,
+    )
+]
+
+-- each of the first slots ends where they end, or before
+pub start-within : (n width k used : ℕ) → least_page ≤ n → k < used → slot_start n width k + slot_width width ≤ slots_end n width used
+start-within n width k zero size within = absurd (omega arith)
+start-within n width k (suc last) size within = elim (cases_lt k last) [
+  | inl before ↦ omega (arith, start-apart n width k last size before)
+  | inr rest ↦
+      let same : k ≡ last = omega (arith, rest, within) in
+      omega (arith, ap (slot_start n width) same)
+]
+
+-- the slots before one end where it begins, or before
+pub end-before : (n width k : ℕ) → least_page ≤ n → slots_end n width k ≤ slot_start n width k
+end-before n width zero size = omega arith
+end-before n width (suc last) size = start-apart n width last (suc last) size (omega arith)
+
+pub start-sorted : (n width j k : ℕ) → least_page ≤ n → j ≤ k → slot_start n width j ≤ slot_start n width k
+start-sorted n width j k size within = elim (cases_lt j k) [
+  | inl before ↦ omega (arith, start-apart n width j k size before)
+  | inr rest ↦
+      let same : j ≡ k = omega (arith, rest, within) in
+      omega (arith, ap (slot_start n width) same)
+]
+
+-- there are as many bytes as slots, or more
+pub slots-few : (n width k : ℕ) → least_page ≤ n → k ≤ slots_end n width k
+slots-few n width zero size = omega arith
+slots-few n width (suc last) size = omega (arith, slots-few n width last size, end-before n width last size)
+
+-- ---- the page on which a slot ends
+
+-- a slot that ends within so many pages ends on one of them
+pub end-below : (n width k count : ℕ) → 0 < n → slot_start n width k + slot_width width ≤ count * n → end_place n width k < count
+end-below n width k count some within = div_below (slot_start n width k + width) n count some (omega (arith, within))
+
+pub below-end : (n width k count : ℕ) → 0 < n → end_place n width k < count → slot_start n width k + slot_width width ≤ count * n
+below-end n width k count some below =
+    let last : slot_start n width k + width < end_place n width k * n + n = lt-div-mul-add some in
+    let all : (end_place n width k + 1) * n ≤ count * n = mul-le-mul_right n (omega (arith, below)) in
+    omega (arith, last, all)
+
+pub end-sorted : (n width j k : ℕ) → least_page ≤ n → j ≤ k → end_place n width j ≤ end_place n width k
+end-sorted n width j k size within =
+    let enough : end_place n width j * n ≤ slot_start n width j + width = div-mul-le_self (slot_start n width j + width) n in
+    le-div (end_place n width j) (slot_start n width k + width) n (omega (arith, size)) (omega (arith, enough, start-sorted n width j k size within))
 
 -- ---- the slots in some joined bytes
 
@@ -80,7 +146,7 @@ module _ {Row : Type 0} (n width : ℕ) (row_of : List ℕ → Row) where
       ∙ take-append-le (slot_width width) (drop start joined) more (omega (arith, length-drop start joined))))
 
   -- a write over the first bytes of a slot leaves the others
-  row_at-other : (joined part : List ℕ) (k j : ℕ) → slot_width width ≤ n → length part ≤ slot_width width → slot_start n width k + slot_width width ≤ length joined → j ≢ k
+  row_at-other : (joined part : List ℕ) (k j : ℕ) → least_page ≤ n → length part ≤ slot_width width → slot_start n width k + slot_width width ≤ length joined → j ≢ k
       → row_at (overwritten joined (slot_start n width k) part) j ≡ row_at joined j
   row_at-other joined part k j room short fits differs =
       let from = slot_start n width j in
@@ -90,6 +156,41 @@ module _ {Row : Type 0} (n width : ℕ) (row_of : List ℕ → Row) where
             let behind = start-apart n width k j room (omega arith) in
             bytes_at-overwritten_behind joined (slot_start n width k) part from (slot_width width) (omega arith) (omega arith)
       ])
+
+  -- and so does one over other bytes of it
+  row_at-beside : (joined part : List ℕ) (k j skip : ℕ) → least_page ≤ n → 1 + skip + length part ≤ slot_width width → slot_start n width k + slot_width width ≤ length joined → j ≢ k
+      → row_at (overwritten joined (slot_start n width k + (1 + skip)) part) j ≡ row_at joined j
+  row_at-beside joined part k j skip room short fits differs =
+      let start : ℕ = slot_start n width k + (1 + skip) in
+      let from = slot_start n width j in
+      ap (row_of_slot row_of) (elim (cases_lt j k) [
+        | inl before ↦ bytes_at-overwritten_before joined start part from (slot_width width) (omega (arith, fits, short)) (omega (arith, start-apart n width j k room before))
+        | inr rest ↦
+            let behind = start-apart n width k j room (omega arith) in
+            bytes_at-overwritten_behind joined start part from (slot_width width) (omega (arith, fits, short)) (omega (arith, behind, short))
+      ])
+
+  -- a slot in whose row some bytes were written has another row, or none as before
+  row_at-part : (joined part : List ℕ) (k skip : ℕ) (change : Row → Row) → 1 + skip + length part ≤ slot_width width → slot_start n width k + slot_width width ≤ length joined
+      → ((row : List ℕ) → length row ≡ width → row_of (overwritten row skip part) ≡ change (row_of row))
+      → row_at (overwritten joined (slot_start n width k + (1 + skip)) part) k ≡ option_map change (row_at joined k)
+  row_at-part joined part k skip change short fits changes =
+      let start : ℕ = slot_start n width k in
+      let old : List ℕ = bytes_at joined start (slot_width width) in
+      let size : length old ≡ slot_width width = length-bytes_at joined start (slot_width width) fits in
+      ap (row_of_slot row_of) (bytes_at-overwritten_inside joined start (slot_width width) (1 + skip) part fits short)
+      ∙ slot-part old size
+    where
+      slot-part : (slot : List ℕ) → length slot ≡ slot_width width
+          → row_of_slot row_of (overwritten slot (1 + skip) part) ≡ option_map change (row_of_slot row_of slot)
+      slot-part [] sized = absurd (omega (arith, sized))
+      slot-part (mark ∷ row) sized =
+          ap (row_of_slot row_of) (overwritten-behind mark row skip part) ∙ row-part (is_live (mark ∷ [])) row (omega (arith, sized))
+        where
+          row-part : (live : Bool) (row : List ℕ) → length row ≡ width
+              → cond live (Some (row_of (overwritten row skip part))) None ≡ option_map change (cond live (Some (row_of row)) None)
+          row-part true row sized = ap Some (changes row sized)
+          row-part false row sized = refl
 
   -- a slot in which a row was written has this row
   row_at-filled : (joined bytes : List ℕ) (k : ℕ) → length bytes ≡ width → slot_start n width k + slot_width width ≤ length joined
@@ -110,7 +211,7 @@ module _ {Row : Type 0} (n width : ℕ) (row_of : List ℕ → Row) where
       ∙ bytes_at-overwritten_same joined start (0 ∷ []) (omega arith) in
       ap (λ (first : List ℕ). cond (number_of first == 1) (Some (row_of (drop 1 slot))) None) mark
 
-  module _ (joined : List ℕ) (used k : ℕ) (room : slot_width width ≤ n) (fits : slot_start n width k + slot_width width ≤ length joined) where
+  module _ (joined : List ℕ) (used k : ℕ) (room : least_page ≤ n) (fits : slot_start n width k + slot_width width ≤ length joined) where
     -- a row written in a used slot
     pub slots_in-filled : (bytes : List ℕ) → length bytes ≡ width → k < used
         → slots_in (overwritten joined (slot_start n width k) (1 ∷ bytes)) used ≡ set (slots_in joined used) k (Some (row_of bytes))
@@ -118,6 +219,15 @@ module _ {Row : Type 0} (n width : ℕ) (row_of : List ℕ → Row) where
         let new = overwritten joined (slot_start n width k) (1 ∷ bytes) in
         first_items-set (row_at joined) (row_at new) used k within (λ j below differs. row_at-other joined (1 ∷ bytes) k j room (omega arith) fits differs)
         ∙ ap (set (slots_in joined used) k) (row_at-filled joined bytes k sized fits)
+
+    -- some bytes of the row in a used slot, which mean another row
+    pub slots_in-part : (skip : ℕ) (part : List ℕ) (change : Row → Row) → 1 + skip + length part ≤ slot_width width → k < used
+        → ((row : List ℕ) → length row ≡ width → row_of (overwritten row skip part) ≡ change (row_of row))
+        → slots_in (overwritten joined (slot_start n width k + (1 + skip)) part) used ≡ set (slots_in joined used) k (option_map change (row_at joined k))
+    slots_in-part skip part change short within changes =
+        let new = overwritten joined (slot_start n width k + (1 + skip)) part in
+        first_items-set (row_at joined) (row_at new) used k within (λ j below differs. row_at-beside joined part k j skip room short fits differs)
+        ∙ ap (set (slots_in joined used) k) (row_at-part joined part k skip change short fits changes)
 
     -- a used slot marked as erased
     pub slots_in-erased : k < used → slots_in (overwritten joined (slot_start n width k) (0 ∷ [])) used ≡ set (slots_in joined used) k None

@@ -1,17 +1,19 @@
 -- The pages of one segment of a space, and what a write or a new page does to them.
-use Rattle.std.proofs.Common.{◌≡◌, ℕ, ◌-◌, ◌*◌, ◌/◌, ◌^◌, ◌<◌, ◌≤◌, List, [], length, map, set, ap, ◌∙◌, arith, inl, inr, get_or-set_other, get_or-set_same, length-set}
-use Rattle.std.proofs.Math.Nat.{div-le_self, div-le_of_le-mul, mul-le-mul_right}
+use Rattle.std.proofs.Common.{◌≡◌, ℕ, ◌-◌, ◌*◌, ◌/◌, ◌%◌, ◌^◌, ◌<◌, ◌≤◌, List, [], ◌∷◌, ◌+◌, length, map, set, ap, ◌∙◌, arith, inl, inr, get_or-set_other, get_or-set_same, length-set}
+use Rattle.std.proofs.Math.Nat.{mul-le-mul_left}
 use Rattle.std.proofs.lemmas.Bool.{cases_lt}
 use Rattle.std.proofs.lemmas.List.{get_or_past, length-map}
 use Rattle.std.proofs.lemmas.Nat.{div_below}
 use Rattle.hy_frames.specs.FrameTable.{page_of}
-use Rattle.hy_rows.specs.Spelling.{HasSlots, list_at, slot_width, slots_per_page, used_slots}
+use Rattle.hy_rows.specs.Spelling.{HasSlots, least_page, list_at, slot_bytes, slot_start, slot_width, slots_end, used_slots}
 use Rattle.hy_space.specs.Space.{SpaceState, HasPage, IsSound, owner_bytes}
 use Rattle.hy_undo.proofs.PrivatePageLaws.{length-segment-owner_bytes}
-use Rattle.hy_relation.specs.Relation.{ChangesSegment, owner_pages}
-use Rattle.hy_relation.specs.inside.Addresses.{slot_page}
-use Rattle.hy_relation.proofs.PageLaws.{Sized}
-use Rattle.hy_relation.proofs.SlotLaws.{some_slots}
+use Rattle.hy_undo.proofs.JoinedLaws.{Sized}
+use Rattle.hy_relation.specs.Relation.{ChangesSegment, end_place, owner_pages}
+use Rattle.hy_undo.specs.Writes.{WritesAcross}
+use Rattle.hy_relation.specs.inside.Addresses.{WritesJoined, slot_page}
+use Rattle.hy_relation.proofs.PageLaws.{across-joined, length-slot_bytes}
+use Rattle.hy_relation.proofs.SlotLaws.{end-before, end-below, slots-few, start-within}
 
 -- a segment that has a page is there
 pub segment_there : (bytes : List (List (List ℕ))) (segment : ℕ) → 0 < length (list_at bytes segment) → segment < length bytes
@@ -39,27 +41,71 @@ module _ (n segment : ℕ) (space : SpaceState) (sound : IsSound n space) (some 
   pub has_page : (page : ℕ) → page < length (owner_pages space segment) → HasPage space segment page
   has_page page within = (segment_owned, omega (arith, length-segment-owner_bytes space segment, within))
 
+  -- and so are the bytes of its slots
+  pub bytes_few : length (slot_bytes (owner_pages space segment)) < 2 ^ 48
+  bytes_few =
+      let count = length (owner_pages space segment) - 1 in
+      let more : count * n ≤ count * 65536 = mul-le-mul_left count sound.size.largest in
+      omega (arith, length-slot_bytes n (owner_pages space segment) pages_sized, more, few_pages)
+
+  pub ends_few : (width : ℕ) → HasSlots n width (owner_pages space segment) → slots_end n width (used_slots (owner_pages space segment)) < 2 ^ 48
+  ends_few width slots = omega (arith, bytes_few, slots.slots)
+
   -- its used slots are fewer than 2^56
   pub used_small : (width : ℕ) → HasSlots n width (owner_pages space segment) → used_slots (owner_pages space segment) < 2 ^ 56
-  used_small width slots =
-      let per : slots_per_page n width ≤ 65536 = omega (arith, div-le_self n (slot_width width), sound.size.largest) in
-      let count = length (owner_pages space segment) - 1 in
-      let more : slots_per_page n width * count ≤ 65536 * count = mul-le-mul_right count per in
-      omega (arith, slots.slots, more, few_pages)
+  used_small width slots = omega (arith, ends_few width slots, slots-few n width (used_slots (owner_pages space segment)) sound.size.smallest)
 
--- a used slot lies on a page of its segment
-pub slot_page-below : (n width : ℕ) (pages : List (List ℕ)) (k : ℕ) → slot_width width ≤ n → HasSlots n width pages → k < used_slots pages → slot_page n width k < length pages
-slot_page-below n width pages k room slots within =
-    let per = slots_per_page n width in
-    let some = some_slots n width room in
-    let place : k / per < length pages - 1 = div_below k per (length pages - 1) some (omega (arith, slots.slots, within)) in
-    omega (arith, place)
+-- pages that have bytes of slots
+pub some_pages : (pages : List (List ℕ)) (size : ℕ) → 0 < size → size ≤ length (slot_bytes pages) → 0 < length pages
+some_pages [] size some within = absurd (omega (arith, some, within))
+some_pages (page ∷ pages) size some within = omega arith
 
--- the slot behind the used ones lies on a page that is there, or on the next one
-pub next_slot_page : (n width : ℕ) (pages : List (List ℕ)) → HasSlots n width pages → slot_page n width (used_slots pages) ≤ length pages
-next_slot_page n width pages slots =
-    let place : used_slots pages / slots_per_page n width ≤ length pages - 1 = div-le_of_le-mul (slots_per_page n width) slots.slots in
-    omega (arith, place, slots.first)
+-- a slot within the bytes of the pages begins on one of them, and ends on one
+module _ (n width : ℕ) (pages : List (List ℕ)) (k : ℕ) (some : 0 < n) (sized : Sized n pages)
+    (within : slot_start n width k + slot_width width ≤ length (slot_bytes pages)) where
+  pub slot_end-below : end_place n width k + 1 < length pages
+  slot_end-below =
+      let bytes : length (slot_bytes pages) ≡ (length pages - 1) * n = length-slot_bytes n pages sized in
+      omega (arith, end-below n width k (length pages - 1) some (omega (arith, within, bytes)))
+
+  pub slot_page-below : slot_page n width k < length pages
+  slot_page-below =
+      let bytes : length (slot_bytes pages) ≡ (length pages - 1) * n = length-slot_bytes n pages sized in
+      let place : slot_start n width k / n < length pages - 1 = div_below (slot_start n width k) n (length pages - 1) some (omega (arith, within, bytes)) in
+      omega (arith, place)
+
+-- a used slot lies within them
+pub used-within : (n width : ℕ) (pages : List (List ℕ)) (k : ℕ) → least_page ≤ n → HasSlots n width pages → k < used_slots pages
+    → slot_start n width k + slot_width width ≤ length (slot_bytes pages)
+used-within n width pages k size slots used = omega (arith, start-within n width k (used_slots pages) size used, slots.slots)
+
+-- the slots before one that is used end below 2^48, on pages that are few
+pub lent_few : (n width : ℕ) (pages : List (List ℕ)) (k : ℕ) → least_page ≤ n → n ≤ 65536 → Sized n pages → HasSlots n width pages → k < used_slots pages
+    → length pages < 2 ^ 32 → slots_end n width k < 2 ^ 48
+lent_few n width pages k size small sized slots used few =
+    let count = length pages - 1 in
+    let more : count * n ≤ count * 65536 = mul-le-mul_left count small in
+    omega (arith, end-before n width k size, used-within n width pages k size slots used, length-slot_bytes n pages sized, more, few)
+
+-- and the owner has its first page
+pub slot_there : (n segment width k : ℕ) (space : SpaceState) → IsSound n space
+    → slot_start n width k + slot_width width ≤ length (slot_bytes (owner_pages space segment)) → HasPage space segment (slot_page n width k)
+slot_there n segment width k space sound within =
+    let pages : List (List ℕ) = owner_pages space segment in
+    let some = some_pages pages (slot_start n width k + slot_width width) (omega arith) within in
+    has_page n segment space sound some (slot_page n width k)
+    (slot_page-below n width pages k (omega (arith, sound.size.smallest)) (pages_sized n segment space sound some) within)
+
+-- a write over some bytes of a slot, in a space
+pub across-here : (n segment width k skip at : ℕ) (old new : SpaceState) (part : List ℕ) → IsSound n old → IsSound n new
+    → slot_start n width k + slot_width width ≤ length (slot_bytes (owner_pages old segment)) → skip ≤ slot_width width
+    → at ≡ n + (slot_start n width k + skip)
+    → WritesAcross (owner_bytes old) (owner_bytes new) segment at part
+    → WritesJoined (owner_pages old segment) (owner_pages new segment) (slot_start n width k + skip) part
+across-here n segment width k skip at old new part sound resound within inside place written =
+    let some = some_pages (owner_pages old segment) (slot_start n width k + slot_width width) (omega arith) within in
+    across-joined n (owner_bytes old) (owner_bytes new) segment at (slot_start n width k + skip) part (pages_sized n segment old sound some)
+    (pages_sized n segment new resound (omega (arith, some, written.pages))) some (omega (arith, sound.size.smallest)) (omega (arith, within, inside)) place written
 
 -- ---- changes of one segment
 

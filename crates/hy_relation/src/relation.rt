@@ -1,20 +1,21 @@
 //! Relations.
 
-ghost use Rattle.std.specs.Prelude.{◌≡◌, ℕ, ◌+◌, ◌^◌, ◌<◌, ◌≤◌, ◌++◌, ◌∷◌, [], ◌↔◌, ◌⊎◌, length, slice_set, Some, None, Err, IfOk, IfSome, OnOk, OnErr, IsErrOf};
+ghost use Rattle.std.specs.Prelude.{◌≡◌, ℕ, ◌+◌, ◌^◌, ◌<◌, ◌≤◌, ◌++◌, ◌∷◌, [], ◌↔◌, ◌⊎◌, false, length, slice_set, Some, None, Err, IfOk, IfSome, OnOk, OnErr, IsErrOf};
 ghost use Rattle.std.specs.Option.{option_map};
 ghost use Rattle.hy_frames.specs.FrameTable.{free_of};
-ghost use Rattle.hy_rows.specs.Spelling.{HasSlots, live_rows, rows_of};
+ghost use Rattle.hy_rows.specs.Spelling.{HasSlots, is_spanned, live_rows, rows_of};
 ghost use Rattle.hy_space.specs.Space.{owner_bytes, page_count};
 ghost use Rattle.hy_undo.specs.PrivatePages.{IsUndoLog};
 ghost use Rattle.hy_undo.specs.Writes.{CanUndo, CanUndoGrowth, HasChild, IsOutOfFrames};
-ghost use Rattle.hy_relation.specs.Relation.{ChangesSegment, HasAllSlotsUsed, HasFewPages, HasRelation, IsLive, owner_pages, pages_after_push, relation_slots, row_in as row_in_slots};
+ghost use Rattle.hy_relation.specs.Relation.{ChangesSegment, HasAllSlotsUsed, HasFewPages, HasRelation, IsLive, frames_of_push, owner_pages, pages_after_push, pages_of_slot, relation_slots, row_in as row_in_slots};
 
 use crate::lent::{know_sizes, row_on, used_on};
 use crate::slots::{
-    ends_of, know_few, live_slot, make_room, row_bytes_in, row_in, used_of, write_count, write_slot,
+    ends_of, know_few, live_slot, make_room, part_bytes, part_in, row_bytes_in, row_in, used_of,
+    write_count, write_slot,
 };
 use hy_frames::{Hold, Shortage};
-use hy_rows::Row;
+use hy_rows::{Part, Row};
 use hy_space::Space;
 use hy_undo::Undo;
 use std::alloc::{AllocError, Global};
@@ -53,9 +54,23 @@ impl<R: Row> Relation<R> {
         }
     }
 
-    /// The bytes of the row of a slot; none where it was erased or was never used.
-    pub fn bytes<'a, const N: usize>(&self, space: &'a Space<N>, slot: u64) -> Option<&'a [u8]>
+    /// Some columns of the row of a slot; none where it was erased or was never used.
+    pub fn part<P: Part<R>, const N: usize>(&self, space: &Space<N>, slot: u64) -> Option<P>
         requires { HasRelation N R.SEGMENT R.BYTES space.now }
+        ensures { result ≡ option_map P.part_of
+            (row_in_slots (relation_slots N R.SEGMENT R.BYTES R.row_of_bytes space.now) slot) }
+    {
+        if slot < used_of::<R, N>(space) {
+            part_in::<R, P, N>(space, slot)
+        } else {
+            None
+        }
+    }
+
+    /// The bytes of the row of a slot that isn't spanned; none where it was erased or was never used.
+    pub fn bytes<'a, const N: usize>(&self, space: &'a Space<N>, slot: u64) -> Option<&'a [u8]>
+        requires slots { HasRelation N R.SEGMENT R.BYTES space.now }
+        requires unspanned { is_spanned R.BYTES ≡ false }
         ensures row { option_map (λ bytes. R.row_of_bytes bytes.now) result
             ≡ row_in_slots (relation_slots N R.SEGMENT R.BYTES R.row_of_bytes space.now) slot }
         ensures width { IfSome result (λ bytes. length bytes.now ≡ R.BYTES) }
@@ -93,16 +108,45 @@ impl<R: Row> Relation<R> {
         ensures put { OnOk result (relation_slots N R.SEGMENT R.BYTES R.row_of_bytes space.new
             ≡ slice_set (relation_slots N R.SEGMENT R.BYTES R.row_of_bytes space.old) slot (Some row.now)) }
         ensures only { OnOk result (ChangesSegment (owner_bytes space.old) (owner_bytes space.new) R.SEGMENT) }
-        ensures can_undo { CanUndo N 1 space.old space.new undo.old undo.new }
+        ensures can_undo { CanUndo N (pages_of_slot R.BYTES) space.old space.new undo.old undo.new }
         ensures few { HasFewPages N R.BYTES (owner_pages space.old R.SEGMENT)
             → HasFewPages N R.BYTES (owner_pages space.new R.SEGMENT) }
-        ensures no_frame { result ≡ Err Shortage.NoFrame → IsOutOfFrames space.old }
-        ensures err { OnErr result ((undo.new ≡ undo.old) × (space.new ≡ space.old)) }
+        ensures no_frame { result ≡ Err Shortage.NoFrame → IsOutOfFrames space.new }
+        ensures err { OnErr result ((undo.new ≡ undo.old) × (owner_bytes space.new ≡ owner_bytes space.old)) }
     {
         space.sound();
         know_few::<R, N>(space);
         let other = live_slot(row);
-        write_slot::<R, N>(space, undo, slot, other.as_slice())
+        write_slot::<R, N>(space, undo, slot, 0, other.as_slice())
+    }
+
+    /// Puts other values of some columns into the row of a slot that has one.
+    pub fn put_part<P: Part<R>, const N: usize>(
+        &self,
+        space: &mut Space<N>,
+        undo: &mut Undo<N>,
+        slot: u64,
+        part: &P,
+    ) -> Result<(), Shortage>
+        requires slots { HasRelation N R.SEGMENT R.BYTES space.old }
+        requires live { IsLive (relation_slots N R.SEGMENT R.BYTES R.row_of_bytes space.old) slot }
+        requires undo_log { IsUndoLog N space.old undo.old }
+        ensures slots { OnOk result (HasRelation N R.SEGMENT R.BYTES space.new) }
+        ensures put { OnOk result (relation_slots N R.SEGMENT R.BYTES R.row_of_bytes space.new
+            ≡ slice_set (relation_slots N R.SEGMENT R.BYTES R.row_of_bytes space.old) slot
+            (option_map (λ row. P.with_part row part.now)
+            (row_in_slots (relation_slots N R.SEGMENT R.BYTES R.row_of_bytes space.old) slot))) }
+        ensures only { OnOk result (ChangesSegment (owner_bytes space.old) (owner_bytes space.new) R.SEGMENT) }
+        ensures can_undo { CanUndo N (pages_of_slot R.BYTES) space.old space.new undo.old undo.new }
+        ensures few { HasFewPages N R.BYTES (owner_pages space.old R.SEGMENT)
+            → HasFewPages N R.BYTES (owner_pages space.new R.SEGMENT) }
+        ensures no_frame { result ≡ Err Shortage.NoFrame → IsOutOfFrames space.new }
+        ensures err { OnErr result ((undo.new ≡ undo.old) × (owner_bytes space.new ≡ owner_bytes space.old)) }
+    {
+        space.sound();
+        know_few::<R, N>(space);
+        let bytes = part_bytes::<R, P>(part);
+        write_slot::<R, N>(space, undo, slot, 1 + P::OFFSET, bytes.as_slice())
     }
 
     /// Erases the row of a slot that has one. No later push uses the slot again.
@@ -119,15 +163,15 @@ impl<R: Row> Relation<R> {
         ensures erased { OnOk result (relation_slots N R.SEGMENT R.BYTES R.row_of_bytes space.new
             ≡ slice_set (relation_slots N R.SEGMENT R.BYTES R.row_of_bytes space.old) slot None) }
         ensures only { OnOk result (ChangesSegment (owner_bytes space.old) (owner_bytes space.new) R.SEGMENT) }
-        ensures can_undo { CanUndo N 1 space.old space.new undo.old undo.new }
+        ensures can_undo { CanUndo N (pages_of_slot R.BYTES) space.old space.new undo.old undo.new }
         ensures few { HasFewPages N R.BYTES (owner_pages space.old R.SEGMENT)
             → HasFewPages N R.BYTES (owner_pages space.new R.SEGMENT) }
-        ensures no_frame { result ≡ Err Shortage.NoFrame → IsOutOfFrames space.old }
-        ensures err { OnErr result ((undo.new ≡ undo.old) × (space.new ≡ space.old)) }
+        ensures no_frame { result ≡ Err Shortage.NoFrame → IsOutOfFrames space.new }
+        ensures err { OnErr result ((undo.new ≡ undo.old) × (owner_bytes space.new ≡ owner_bytes space.old)) }
     {
         space.sound();
         know_few::<R, N>(space);
-        write_slot::<R, N>(space, undo, slot, &[0])
+        write_slot::<R, N>(space, undo, slot, 0, &[0])
     }
 
     /// Makes the relation without slots, on a segment that has no page.
@@ -172,7 +216,7 @@ impl<R: Row> Relation<R> {
             ≡ pages_after_push N R.BYTES (owner_pages space.old R.SEGMENT)) }
         ensures few { HasFewPages N R.BYTES (owner_pages space.old R.SEGMENT)
             → HasFewPages N R.BYTES (owner_pages space.new R.SEGMENT) }
-        ensures can_undo { CanUndoGrowth N 2 2 space.old space.new undo.old undo.new }
+        ensures can_undo { CanUndoGrowth N (1 + pages_of_slot R.BYTES) (frames_of_push R.BYTES) space.old space.new undo.old undo.new }
         ensures no_frame { result ≡ Err Shortage.NoFrame → free_of space.new.frames ≡ 0 }
         ensures wanted { result ≡ Err Shortage.NoFrame → HasChild space.new
             ⊎ HasAllSlotsUsed N R.BYTES (owner_pages space.old R.SEGMENT) }
@@ -180,11 +224,12 @@ impl<R: Row> Relation<R> {
             ≡ relation_slots N R.SEGMENT R.BYTES R.row_of_bytes space.old) }
     {
         space.sound();
+        know_few::<R, N>(space);
         let slot = used_of::<R, N>(space);
         make_room::<R, N>(space, undo)?;
         space.sound();
         let bytes = live_slot(row);
-        write_slot::<R, N>(space, undo, slot, bytes.as_slice())?;
+        write_slot::<R, N>(space, undo, slot, 0, bytes.as_slice())?;
         write_count::<R, N>(space, undo, slot + 1)?;
         Ok(slot)
     }
@@ -215,6 +260,7 @@ impl<R: Row> Relation<R> {
         pages: &[Hold<N>],
     ) -> Result<Vec<R>, AllocError>
         requires slots { HasSlots N R.BYTES pages.now }
+        requires few { length pages.now < 2 ^ 32 }
         requires size { 256 ≤ N }
         requires small { N ≤ 65536 }
         ensures { IfOk result (λ rows. rows.items ≡ rows_of N R.BYTES R.row_of_bytes pages.now) }

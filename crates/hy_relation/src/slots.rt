@@ -1,20 +1,22 @@
 //! The slots of a segment of the owner.
 
-ghost use Rattle.std.specs.Prelude.{◌≡◌, ℕ, ◌+◌, ◌^◌, ◌<◌, ◌≤◌, ◌∷◌, ◌⊎◌, length, Err, IfSome, OnOk, OnErr};
+ghost use Rattle.std.specs.Prelude.{◌≡◌, ℕ, List, ◌+◌, ◌*◌, ◌/◌, ◌^◌, ◌<◌, ◌≤◌, ◌∷◌, ◌++◌, ◌⊎◌, false, length, Err, IfSome, OnOk, OnErr};
+ghost use Rattle.arrayvec.specs.ArrayVec.{array_vec_len};
 ghost use Rattle.std.specs.Option.{option_map};
-ghost use Rattle.hy_page.specs.Bytes.{bytes_at};
+ghost use Rattle.hy_page.specs.Bytes.{bytes_at, overwritten};
 ghost use Rattle.hy_frames.specs.FrameTable.{free_of};
-ghost use Rattle.hy_rows.specs.Spelling.{row_of_slot, slot_at, slot_width, used_slots};
+ghost use Rattle.hy_rows.specs.Spelling.{is_live, is_spanned, least_page, row_of_slot, slot_at, slot_bytes, slot_start, slot_width, slots_end, used_slots};
+ghost use Rattle.hy_rows.specs.declared.catalogue.TheConstants.{MAX_SLOT_BYTES};
 ghost use Rattle.hy_space.specs.Space.{HasPage, IsOwn, owner_bytes};
 ghost use Rattle.hy_undo.specs.PrivatePages.{IsUndoLog};
 ghost use Rattle.hy_undo.specs.Writes.{CanUndo, CanUndoGrowth, IsOutOfFrames};
-ghost use Rattle.hy_relation.specs.Relation.{ChangesSegment, HasAllSlotsUsed, HasFewPages, HasRelation, owner_pages, pages_after_push};
-ghost use Rattle.hy_relation.specs.inside.Addresses.{CountsSlots, GrowsSlots, WritesSlot, slot_offset, slot_page};
+ghost use Rattle.hy_relation.specs.Relation.{ChangesSegment, HasAllSlotsUsed, HasFewPages, HasRelation, owner_pages, pages_after_push, pages_of_slot};
+ghost use Rattle.hy_relation.specs.inside.Addresses.{CountsSlots, GrowsSlots, WritesJoined, slot_offset, slot_page};
 
-use crate::address::{Address, address_of};
+use crate::address::{Address, address_behind, address_of, is_spanned, last_page_of};
 use hy_frames::Shortage;
 use hy_page::Page;
-use hy_rows::{Row, SlotBytes};
+use hy_rows::{Part, Row, SlotBytes};
 use hy_space::Space;
 use hy_undo::Undo;
 
@@ -31,18 +33,20 @@ pub(crate) fn used_of<R: Row, const N: usize>(space: &Space<N>) -> u64
 /// A relation has few slots, for its pages are few.
 pub(crate) fn know_few<R: Row, const N: usize>(space: &Space<N>)
     requires { HasRelation N R.SEGMENT R.BYTES space.now }
-    ensures { used_slots (owner_pages space.now R.SEGMENT) < 2 ^ 56 }
+    ensures used { used_slots (owner_pages space.now R.SEGMENT) < 2 ^ 56 }
+    ensures ends { slots_end N R.BYTES (used_slots (owner_pages space.now R.SEGMENT)) < 2 ^ 48 }
 {
     space.sound();
 }
 
-/// Where a used slot lies.
+/// Where a used slot begins.
 fn address_in<R: Row, const N: usize>(space: &Space<N>, slot: u64) -> Address
     requires slots { HasRelation N R.SEGMENT R.BYTES space.now }
     requires used { slot < used_slots (owner_pages space.now R.SEGMENT) }
     ensures page { result.page ≡ slot_page N R.BYTES slot }
     ensures offset { result.offset ≡ slot_offset N R.BYTES slot }
-    ensures fits { result.offset + slot_width R.BYTES ≤ N }
+    ensures within { result.offset < N }
+    ensures fits { is_spanned R.BYTES ≡ false → result.offset + slot_width R.BYTES ≤ N }
     ensures there { HasPage space.now R.SEGMENT result.page }
     ensures small { result.page < 2 ^ 32 }
 {
@@ -50,17 +54,64 @@ fn address_in<R: Row, const N: usize>(space: &Space<N>, slot: u64) -> Address
     address_of(N, R::BYTES, slot)
 }
 
-/// The row of the slot at an offset of a page, if the slot is live.
-pub(crate) fn row_at<R: Row, const N: usize>(page: &Page<N>, offset: usize) -> Option<R>
-    requires { offset + slot_width R.BYTES ≤ N }
-    ensures { result ≡ row_of_slot R.row_of_bytes (bytes_at page.now offset (slot_width R.BYTES)) }
+/// Appends some bytes of a page to those of a slot.
+pub(crate) fn push_part(slot: &mut SlotBytes, part: &[u8])
+    requires { array_vec_len slot.old + length part.now ≤ MAX_SLOT_BYTES }
+    ensures bytes { slot.new.items ≡ slot.old.items ++ part.now }
+    ensures len { array_vec_len slot.new ≡ array_vec_len slot.old + length part.now }
 {
-    let slot = &page.bytes()[offset..offset + 1 + R::BYTES];
+    match slot.try_extend_from_slice(part) {
+        Ok(()) => {}
+        Err(_) => unreachable!(),
+    }
+}
+
+/// A copy of `total` bytes of a used slot, behind as many as are skipped, from as many pages as they lie on.
+fn copy_of<R: Row, const N: usize>(
+    space: &Space<N>,
+    slot: u64,
+    skip: usize,
+    total: usize,
+) -> SlotBytes
+    requires slots { HasRelation N R.SEGMENT R.BYTES space.now }
+    requires used { slot < used_slots (owner_pages space.now R.SEGMENT) }
+    requires inside { skip + total ≤ slot_width R.BYTES }
+    requires short { total ≤ MAX_SLOT_BYTES }
+    ensures { result.items ≡ bytes_at (slot_bytes (owner_pages space.now R.SEGMENT)) (slot_start N R.BYTES slot + skip) total }
+{
+    space.sound();
+    know_few::<R, N>(space);
+    let at = address_behind(N, R::BYTES, slot, skip);
+    let mut bytes = SlotBytes::new();
+    let mut page = at.page as u32;
+    let mut offset = at.offset;
+    while bytes.len() < total {
+        let count = (total - bytes.len()).min(N - offset);
+        push_part(&mut bytes, &space.page(R::SEGMENT, page).bytes()[offset..offset + count]);
+        page += 1;
+        offset = 0;
+    }
+    bytes
+}
+
+/// The row that the bytes of a slot say, if the slot is live.
+pub(crate) fn row_in_slot<R: Row>(slot: &[u8]) -> Option<R>
+    requires { length slot.now ≡ slot_width R.BYTES }
+    ensures { result ≡ row_of_slot R.row_of_bytes slot.now }
+{
     if slot[0] == 1 {
         Some(R::decode(&slot[1..]))
     } else {
         None
     }
+}
+
+/// The row of the slot at an offset of a page, if the slot is live.
+pub(crate) fn row_at<R: Row, const N: usize>(page: &Page<N>, offset: usize) -> Option<R>
+    requires { offset + slot_width R.BYTES ≤ N }
+    ensures { result ≡ row_of_slot R.row_of_bytes (bytes_at page.now offset (slot_width R.BYTES)) }
+{
+    row_in_slot(&page.bytes()[offset..offset + 1 + R::BYTES])
 }
 
 /// The row of a used slot, if the slot is live.
@@ -70,8 +121,41 @@ pub(crate) fn row_in<R: Row, const N: usize>(space: &Space<N>, slot: u64) -> Opt
     ensures { result ≡ row_of_slot R.row_of_bytes (slot_at N R.BYTES (owner_pages space.now R.SEGMENT) slot) }
 {
     space.sound();
-    let address = address_in::<R, N>(space, slot);
-    row_at(space.page(R::SEGMENT, address.page as u32), address.offset)
+    let at = address_in::<R, N>(space, slot);
+    if !is_spanned(R::BYTES) || at.offset + 1 + R::BYTES <= N {
+        row_at(space.page(R::SEGMENT, at.page as u32), at.offset)
+    } else {
+        row_in_slot(copy_of::<R, N>(space, slot, 0, 1 + R::BYTES).as_slice())
+    }
+}
+
+/// Whether a slot that begins with this mark has a row.
+fn is_live(mark: &[u8]) -> bool
+    requires { 0 < length mark.now }
+    ensures { result ≡ is_live mark.now }
+{
+    mark[0] == 1
+}
+
+/// Some columns of the row of a used slot, if the slot is live.
+pub(crate) fn part_in<R: Row, P: Part<R>, const N: usize>(space: &Space<N>, slot: u64) -> Option<P>
+    requires slots { HasRelation N R.SEGMENT R.BYTES space.now }
+    requires used { slot < used_slots (owner_pages space.now R.SEGMENT) }
+    ensures { result ≡ option_map P.part_of (row_of_slot R.row_of_bytes
+        (slot_at N R.BYTES (owner_pages space.now R.SEGMENT) slot)) }
+{
+    space.sound();
+    let at = address_in::<R, N>(space, slot);
+    let page = space.page(R::SEGMENT, at.page as u32).bytes();
+    if !is_live(&page[at.offset..at.offset + 1]) {
+        return None;
+    }
+    let from = at.offset + 1 + P::OFFSET;
+    if !is_spanned(R::BYTES) || from + P::WIDTH <= N {
+        Some(P::decode_part(&page[from..from + P::WIDTH]))
+    } else {
+        Some(P::decode_part(copy_of::<R, N>(space, slot, 1 + P::OFFSET, P::WIDTH).as_slice()))
+    }
 }
 
 /// The bytes of the row of the slot at an offset of a page, if the slot is live.
@@ -90,6 +174,7 @@ fn bytes_in_slot<R: Row, const N: usize>(page: &Page<N>, offset: usize) -> Optio
 pub(crate) fn row_bytes_in<R: Row, const N: usize>(space: &Space<N>, slot: u64) -> Option<&[u8]>
     requires slots { HasRelation N R.SEGMENT R.BYTES space.now }
     requires used { slot < used_slots (owner_pages space.now R.SEGMENT) }
+    requires unspanned { is_spanned R.BYTES ≡ false }
     ensures row { option_map (λ bytes. R.row_of_bytes bytes.now) result
         ≡ row_of_slot R.row_of_bytes (slot_at N R.BYTES (owner_pages space.now R.SEGMENT) slot) }
     ensures width { IfSome result (λ bytes. length bytes.now ≡ R.BYTES) }
@@ -99,15 +184,15 @@ pub(crate) fn row_bytes_in<R: Row, const N: usize>(space: &Space<N>, slot: u64) 
     bytes_in_slot::<R, N>(space.page(R::SEGMENT, address.page as u32), address.offset)
 }
 
-/// The first and the last byte of a used slot, mixed into one.
+/// The first byte of a used slot and the last one on the same page, mixed into one.
 pub(crate) fn ends_of<R: Row, const N: usize>(space: &Space<N>, slot: u64) -> u64
     requires slots { HasRelation N R.SEGMENT R.BYTES space.now }
     requires used { slot < used_slots (owner_pages space.now R.SEGMENT) }
 {
     space.sound();
-    let address = address_in::<R, N>(space, slot);
-    let page = space.page(R::SEGMENT, address.page as u32).bytes();
-    let ends = page[address.offset] ^ page[address.offset + R::BYTES];
+    let at = address_in::<R, N>(space, slot);
+    let page = space.page(R::SEGMENT, at.page as u32).bytes();
+    let ends = page[at.offset] ^ page[(at.offset + R::BYTES).min(N - 1)];
     ends.into()
 }
 
@@ -123,31 +208,109 @@ pub(crate) fn live_slot<R: Row>(row: &R) -> SlotBytes
     bytes
 }
 
-/// Writes the first bytes of a slot whose page is there, and keeps those that they take away.
+/// The bytes of some columns.
+pub(crate) fn part_bytes<R: Row, P: Part<R>>(part: &P) -> SlotBytes
+    ensures bytes { result.items ≡ P.bytes_of_part part.now }
+    ensures width { length (P.bytes_of_part part.now) ≡ P.WIDTH }
+    ensures written { (row : List ℕ) → length row ≡ R.BYTES
+        → R.row_of_bytes (overwritten row P.OFFSET (P.bytes_of_part part.now)) ≡ P.with_part (R.row_of_bytes row) part.now }
+{
+    let mut bytes = SlotBytes::new();
+    part.encode_part(&mut bytes);
+    bytes
+}
+
+/// Writes bytes into a slot whose pages are there, behind as many of its bytes as are skipped, and keeps those that they
+/// take away.
 pub(crate) fn write_slot<R: Row, const N: usize>(
     space: &mut Space<N>,
     undo: &mut Undo<N>,
     slot: u64,
+    skip: usize,
     bytes: &[u8],
 ) -> Result<(), Shortage>
-    requires there { slot_page N R.BYTES slot < length (owner_pages space.old R.SEGMENT) }
-    requires number { slot + 1 < 2 ^ 64 }
-    requires within { length bytes.now ≤ slot_width R.BYTES }
+    requires there { slot_start N R.BYTES slot + slot_width R.BYTES
+        ≤ length (slot_bytes (owner_pages space.old R.SEGMENT)) }
+    requires number { slots_end N R.BYTES slot < 2 ^ 48 }
+    requires within { skip + length bytes.now ≤ slot_width R.BYTES }
     requires undo_log { IsUndoLog N space.old undo.old }
-    ensures slot { OnOk result (WritesSlot N R.BYTES (owner_pages space.old R.SEGMENT)
-        (owner_pages space.new R.SEGMENT) slot bytes.now) }
+    ensures slot { OnOk result (WritesJoined (owner_pages space.old R.SEGMENT) (owner_pages space.new R.SEGMENT)
+        (slot_start N R.BYTES slot + skip) bytes.now) }
+    ensures only { OnOk result (ChangesSegment (owner_bytes space.old) (owner_bytes space.new) R.SEGMENT) }
+    ensures few { HasFewPages N R.BYTES (owner_pages space.old R.SEGMENT)
+        → HasFewPages N R.BYTES (owner_pages space.new R.SEGMENT) }
+    ensures can_undo { CanUndo N (pages_of_slot R.BYTES) space.old space.new undo.old undo.new }
+    ensures no_frame { result ≡ Err Shortage.NoFrame → IsOutOfFrames space.new }
+    ensures free { is_spanned R.BYTES ≡ false → IsOwn space.old R.SEGMENT (slot_page N R.BYTES slot)
+        → free_of space.new.frames ≡ free_of space.old.frames }
+    ensures err { OnErr result ((undo.new ≡ undo.old) × (owner_bytes space.new ≡ owner_bytes space.old)) }
+{
+    if is_spanned(R::BYTES) {
+        write_spanned::<R, N>(space, undo, slot, skip, bytes)
+    } else {
+        write_unspanned::<R, N>(space, undo, slot, skip, bytes)
+    }
+}
+
+/// Writes bytes into a slot on one page.
+fn write_unspanned<R: Row, const N: usize>(
+    space: &mut Space<N>,
+    undo: &mut Undo<N>,
+    slot: u64,
+    skip: usize,
+    bytes: &[u8],
+) -> Result<(), Shortage>
+    requires unspanned { is_spanned R.BYTES ≡ false }
+    requires there { slot_start N R.BYTES slot + slot_width R.BYTES
+        ≤ length (slot_bytes (owner_pages space.old R.SEGMENT)) }
+    requires number { slots_end N R.BYTES slot < 2 ^ 48 }
+    requires within { skip + length bytes.now ≤ slot_width R.BYTES }
+    requires undo_log { IsUndoLog N space.old undo.old }
+    ensures slot { OnOk result (WritesJoined (owner_pages space.old R.SEGMENT) (owner_pages space.new R.SEGMENT)
+        (slot_start N R.BYTES slot + skip) bytes.now) }
     ensures only { OnOk result (ChangesSegment (owner_bytes space.old) (owner_bytes space.new) R.SEGMENT) }
     ensures few { HasFewPages N R.BYTES (owner_pages space.old R.SEGMENT)
         → HasFewPages N R.BYTES (owner_pages space.new R.SEGMENT) }
     ensures can_undo { CanUndo N 1 space.old space.new undo.old undo.new }
-    ensures no_frame { result ≡ Err Shortage.NoFrame → IsOutOfFrames space.old }
+    ensures no_frame { result ≡ Err Shortage.NoFrame → IsOutOfFrames space.new }
     ensures free { IsOwn space.old R.SEGMENT (slot_page N R.BYTES slot)
         → free_of space.new.frames ≡ free_of space.old.frames }
-    ensures err { OnErr result ((undo.new ≡ undo.old) × (space.new ≡ space.old)) }
+    ensures err { OnErr result ((undo.new ≡ undo.old) × (owner_bytes space.new ≡ owner_bytes space.old)) }
 {
     space.sound();
     let at = address_of(N, R::BYTES, slot);
-    undo.write(space, R::SEGMENT, at.page as u32, at.offset, bytes)
+    let written = undo.write(space, R::SEGMENT, at.page as u32, at.offset + skip, bytes);
+    space.sound();
+    written
+}
+
+/// Writes bytes into a slot over the ends of pages.
+fn write_spanned<R: Row, const N: usize>(
+    space: &mut Space<N>,
+    undo: &mut Undo<N>,
+    slot: u64,
+    skip: usize,
+    bytes: &[u8],
+) -> Result<(), Shortage>
+    requires there { slot_start N R.BYTES slot + slot_width R.BYTES
+        ≤ length (slot_bytes (owner_pages space.old R.SEGMENT)) }
+    requires number { slots_end N R.BYTES slot < 2 ^ 48 }
+    requires within { skip + length bytes.now ≤ slot_width R.BYTES }
+    requires undo_log { IsUndoLog N space.old undo.old }
+    ensures slot { OnOk result (WritesJoined (owner_pages space.old R.SEGMENT) (owner_pages space.new R.SEGMENT)
+        (slot_start N R.BYTES slot + skip) bytes.now) }
+    ensures only { OnOk result (ChangesSegment (owner_bytes space.old) (owner_bytes space.new) R.SEGMENT) }
+    ensures few { HasFewPages N R.BYTES (owner_pages space.old R.SEGMENT)
+        → HasFewPages N R.BYTES (owner_pages space.new R.SEGMENT) }
+    ensures can_undo { CanUndo N (slot_width R.BYTES / least_page + 2) space.old space.new undo.old undo.new }
+    ensures no_frame { result ≡ Err Shortage.NoFrame → IsOutOfFrames space.new }
+    ensures err { OnErr result ((undo.new ≡ undo.old) × (owner_bytes space.new ≡ owner_bytes space.old)) }
+{
+    space.sound();
+    let at = address_behind(N, R::BYTES, slot, skip);
+    let written = undo.write_across(space, R::SEGMENT, at.page as u32, at.offset, bytes);
+    space.sound();
+    written
 }
 
 /// Writes how many slots are used.
@@ -170,35 +333,33 @@ pub(crate) fn write_count<R: Row, const N: usize>(
     undo.write(space, R::SEGMENT, 0, 0, &number)
 }
 
-/// Makes a page for the slot behind the used ones, where there is none.
+/// Makes pages for the slot behind the used ones, where there are too few. A refused call may leave one less.
 pub(crate) fn make_room<R: Row, const N: usize>(
     space: &mut Space<N>,
     undo: &Undo<N>,
 ) -> Result<(), Shortage>
     requires slots { HasRelation N R.SEGMENT R.BYTES space.old }
     requires undo_log { IsUndoLog N space.old undo.now }
-    ensures room { OnOk result (slot_page N R.BYTES (used_slots (owner_pages space.old R.SEGMENT))
-        < length (owner_pages space.new R.SEGMENT)) }
-    ensures grows { OnOk result (GrowsSlots (owner_pages space.old R.SEGMENT)
-        (owner_pages space.new R.SEGMENT)) }
+    ensures room { OnOk result (slot_start N R.BYTES (used_slots (owner_pages space.old R.SEGMENT)) + slot_width R.BYTES
+        ≤ length (slot_bytes (owner_pages space.new R.SEGMENT))) }
+    ensures grows { GrowsSlots (owner_pages space.old R.SEGMENT) (owner_pages space.new R.SEGMENT) }
     ensures pages { OnOk result (length (owner_pages space.new R.SEGMENT)
         ≡ pages_after_push N R.BYTES (owner_pages space.old R.SEGMENT)) }
     ensures few { HasFewPages N R.BYTES (owner_pages space.old R.SEGMENT)
         → HasFewPages N R.BYTES (owner_pages space.new R.SEGMENT) }
-    ensures own { OnOk result ((free_of space.new.frames ≡ free_of space.old.frames)
+    ensures own { OnOk result (is_spanned R.BYTES ≡ false → (free_of space.new.frames ≡ free_of space.old.frames)
         ⊎ IsOwn space.new R.SEGMENT (slot_page N R.BYTES (used_slots (owner_pages space.old R.SEGMENT)))) }
-    ensures only { OnOk result (ChangesSegment (owner_bytes space.old) (owner_bytes space.new) R.SEGMENT) }
-    ensures can_undo { CanUndoGrowth N 0 1 space.old space.new undo.now undo.now }
-    ensures no_frame { result ≡ Err Shortage.NoFrame → free_of space.old.frames ≡ 0 }
+    ensures only { ChangesSegment (owner_bytes space.old) (owner_bytes space.new) R.SEGMENT }
+    ensures can_undo { CanUndoGrowth N 0 (pages_of_slot R.BYTES) space.old space.new undo.now undo.now }
+    ensures no_frame { result ≡ Err Shortage.NoFrame → free_of space.new.frames ≡ 0 }
     ensures wanted { result ≡ Err Shortage.NoFrame
         → HasAllSlotsUsed N R.BYTES (owner_pages space.old R.SEGMENT) }
-    ensures err { OnErr result (space.new ≡ space.old) }
 {
     space.sound();
-    let used = used_of::<R, N>(space);
-    let address = address_of(N, R::BYTES, used);
-    if address.page == u64::from(space.pages(R::SEGMENT)) {
+    let last = last_page_of(N, R::BYTES, used_of::<R, N>(space));
+    while u64::from(space.pages(R::SEGMENT)) <= last {
         undo.grow(space, R::SEGMENT)?;
     }
+    space.sound();
     Ok(())
 }

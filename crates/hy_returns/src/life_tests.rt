@@ -4,10 +4,10 @@ ghost use Rattle.std.specs.Prelude.{◌≡◌, length};
 
 use crate::logs::{payment, read, written};
 use crate::recovery_tests::{WIDE, recovered_of};
-use hy_batches::{Batches, Lists, Text, write_batch};
+use hy_batches::{Batches, Text, write_batch};
 use hy_commands::{Commit, Reply};
 use hy_crossing::are_partitions;
-use hy_forks::{Batch, drain};
+use hy_forks::drain;
 use hy_loads::Load;
 use hy_partition::{Job, Loaded, Partition};
 use hy_passes::{Journal, Kit, Pass, make};
@@ -15,24 +15,6 @@ use hy_recovery::recover;
 use hy_tables::generate;
 use std::marker::Brand;
 use std::process::Abort;
-
-/// What a drain gave.
-#[derive(Drop)]
-struct Drained {
-    batch: Batch,
-}
-
-impl Lists for Drained {
-    ghost lists = { λ drained. drained.batch };
-
-    fn len(&self) -> usize {
-        self.batch.len()
-    }
-
-    fn list(&self, place: usize) -> &[Commit] {
-        self.batch.part(place)
-    }
-}
 
 /// Pays 1.00 once more in the first of some partitions.
 fn pay_again<K: Loaded>(
@@ -65,7 +47,7 @@ fn drained_bytes<K: Loaded, R: Abort + AllocGlobal>(
     assert!(rt; are_partitions(parts));
     let batch = drain(rt.alloc(), parts, journal).expect(rt, "a batch");
     let mut text = Text::new(rt.alloc());
-    write_batch(&mut text, &Drained { batch });
+    write_batch(&mut text, &batch);
     text
 }
 

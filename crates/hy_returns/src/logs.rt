@@ -1,32 +1,12 @@
 //! For tests: logs of payments, orders and deliveries.
 
-use hy_batches::{Batches, Lists, Text, read_log, write_batch};
+use hy_batches::{Batch, Batches, Text, read_log, write_batch};
 use hy_commands::{Command, Commit, Delivery, Payment, Purchase, PurchaseLine, PurchaseLines, Who};
 use std::alloc::Global;
 use std::process::Abort;
 
-/// The lists of a batch.
-#[derive(Drop)]
-pub struct Sheet {
-    lists: Vec<Vec<Commit>>,
-}
-
-impl Lists for Sheet {
-    ghost use Rattle.std.specs.Prelude.{map};
-
-    ghost lists = { λ page. map (λ list. list.items) page.lists.items };
-
-    fn len(&self) -> usize {
-        self.lists.len()
-    }
-
-    fn list(&self, place: usize) -> &[Commit] {
-        self.lists[place].as_slice()
-    }
-}
-
 /// A batch of so many warehouses, with these commits, each in the list of a warehouse.
-pub fn page(rt: &impl Abort, alloc: Global, count: u64, commits: Vec<(u64, Commit)>) -> Sheet {
+pub fn page(rt: &impl Abort, alloc: Global, count: u64, commits: Vec<(u64, Commit)>) -> Batch {
     let mut lists = Vec::new(alloc);
     for _ in 0..count {
         lists.push(Vec::new(alloc)).expect(rt, "a list");
@@ -36,11 +16,11 @@ pub fn page(rt: &impl Abort, alloc: Global, count: u64, commits: Vec<(u64, Commi
         assert!(rt; place < lists.len());
         lists[place].push(commit).expect(rt, "a commit");
     }
-    Sheet { lists }
+    Batch::new(lists)
 }
 
 /// Writes a batch behind others.
-pub fn write(text: &mut Text, page: &Sheet) {
+pub fn write(text: &mut Text, page: &Batch) {
     write_batch(text, page);
 }
 

@@ -2,8 +2,8 @@
 
 ghost use Rattle.std.specs.Prelude.{◌≡◌, length};
 
-use crate::logs::{Sheet, delivery, order, page, payment, read, write};
-use hy_batches::{Batches, Text};
+use crate::logs::{delivery, order, page, payment, read, write};
+use hy_batches::{Batch, Batches, Text};
 use hy_commands::{Command, Commit};
 use hy_loads::Load;
 use hy_partition::{Loaded, Partition};
@@ -104,7 +104,7 @@ fn recover_in<K: Loaded, R: Abort + AllocGlobal>(
 /// Recovers a log of these batches on a load of three warehouses, three customers a district, and 20 items.
 fn recovered<R: Abort + AllocGlobal>(
     rt: &R,
-    pages: &[Sheet],
+    pages: &[Batch],
     limits: Limits,
 ) -> Result<Seen, Refusal> {
     let mut text = Text::new(rt.alloc());
@@ -134,13 +134,13 @@ fn batch<R: Abort + AllocGlobal, const N: usize>(
     rt: &R,
     count: u64,
     commits: [(u64, Commit); N],
-) -> Sheet {
+) -> Batch {
     let commits = Vec::from_array(rt.alloc(), commits).expect(rt, "commits");
     page(rt, rt.alloc(), count, commits)
 }
 
 /// A payment over warehouses 1 and 2 with a number, in both lists.
-fn crossing<R: Abort + AllocGlobal>(rt: &R, number: u64) -> Sheet {
+fn crossing<R: Abort + AllocGlobal>(rt: &R, number: u64) -> Batch {
     batch(
         rt,
         3,
@@ -152,7 +152,7 @@ fn crossing<R: Abort + AllocGlobal>(rt: &R, number: u64) -> Sheet {
 }
 
 /// A payment in warehouse 1.
-fn local<R: Abort + AllocGlobal>(rt: &R, customer: u64) -> Sheet {
+fn local<R: Abort + AllocGlobal>(rt: &R, customer: u64) -> Batch {
     batch(rt, 3, [(1, Commit::Local(payment(1, 1, customer, 100)))])
 }
 
@@ -203,7 +203,7 @@ fn lists_are_merged(rt: HostRuntime) {
 }
 
 /// A log of these batches is refused at a place.
-fn fails_at<R: Abort + AllocGlobal>(rt: &R, pages: &[Sheet], place: u64) {
+fn fails_at<R: Abort + AllocGlobal>(rt: &R, pages: &[Batch], place: u64) {
     assert!(rt; recovered(rt, pages, WIDE) == Err(Refusal::LogMalformed(place)));
 }
 

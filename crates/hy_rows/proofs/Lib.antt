@@ -9,3 +9,4 @@ pub mod RecordLaws
 pub mod ChangedRows
 pub mod FirstItems
 pub mod PrintableLaws
+pub mod PartLaws

@@ -56,7 +56,7 @@ length-row_bytes (column ∷ columns) (value ∷ row) fits =
     (length-row_bytes columns row fits.1)
 
 -- the bytes of a row behind others
-values_from-bytes : (columns : List Column) (row : List Value) (front : List ℕ) → AllFit columns row
+pub values_from-bytes : (columns : List Column) (row : List Value) (front : List ℕ) → AllFit columns row
     → values_from columns (length front) (front ++ row_bytes columns row) ≡ row
 values_from-bytes [] [] front fits = refl
 values_from-bytes [] (value ∷ row) front fits = absurd fits

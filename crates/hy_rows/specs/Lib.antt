@@ -4,6 +4,7 @@ pub mod Ranges
 pub mod Columns
 pub mod Catalogue
 pub mod Rows
+pub mod RowParts
 pub mod Records
 pub mod Tables
 pub mod Finding

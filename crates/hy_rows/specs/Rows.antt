@@ -16,7 +16,7 @@ use Rattle.hy_rows.specs.declared.order_line.OrderLine.{OrderLine}
 use Rattle.hy_rows.specs.declared.stock.Stock.{Stock}
 use Rattle.hy_rows.specs.declared.item.Item.{Item}
 
-abbrev number : ℕ → Value
+abbrev pub number : ℕ → Value
 number value = Whole (pos value)
 
 -- the value at a place of a row
@@ -33,13 +33,13 @@ text_in (Whole number) = []
 text_in (Text text) = text
 
 -- those at a place of a row
-abbrev number_of : List Value → ℕ → ℕ
+abbrev pub number_of : List Value → ℕ → ℕ
 number_of row place = nat_abs (whole_in (value_at row place))
 
-abbrev signed_of : List Value → ℕ → ℤ
+abbrev pub signed_of : List Value → ℕ → ℤ
 signed_of row place = whole_in (value_at row place)
 
-abbrev text_of : List Value → ℕ → List ℕ
+abbrev pub text_of : List Value → ℕ → List ℕ
 text_of row place = text_in (value_at row place)
 
 -- WAREHOUSE

@@ -1,8 +1,9 @@
 -- What the bytes of a page table say. The bytes are, for each segment, the list of its pages' bytes. Each table has
 -- a segment, and others may follow them. Page 0 of a segment begins with the number of used slots in eight bytes; the
--- slots lie in the bytes of the pages from 1 on, joined, as many in those of each page as fit it. A slot is a mark,
--- 1 for a live row and 0 for an erased one, and the bytes of the row.
-use Rattle.std.specs.Prelude.{◌≡◌, ℕ, ◌+◌, ◌-◌, ◌*◌, ◌/◌, ◌%◌, ◌<◌, ◌≤◌, ◌==◌, Bool, if◌then◌else◌, Option, None, Some, option_to_list, List, [], ◌∷◌, ◌++◌, length, drop, slice_get, slice_index_or, zero, suc}
+-- slots lie in the bytes of the pages from 1 on, joined: as many in those of each page as fit it, or, where they are
+-- spanned, one behind another over the ends of pages. A slot is a mark, 1 for a live row and 0 for an erased one, and
+-- the bytes of the row.
+use Rattle.std.specs.Prelude.{◌≡◌, ℕ, ◌+◌, ◌-◌, ◌*◌, ◌/◌, ◌%◌, ◌<◌, ◌≤◌, ◌==◌, Bool, nat_lt, if◌then◌else◌, Option, None, Some, option_to_list, List, [], ◌∷◌, ◌++◌, length, drop, slice_get, slice_index_or, zero, suc}
 use Rattle.std.specs.List.{concat, flat_map}
 use Rattle.hy_page.specs.Bytes.{bytes_at}
 use Rattle.hy_rows.specs.Catalogue.{columns_of, row_widths, segment_of, segments}
@@ -27,10 +28,24 @@ slot_width row_bytes = 1 + row_bytes
 abbrev pub slots_per_page : ℕ → ℕ → ℕ
 slots_per_page n row_bytes = n / slot_width row_bytes
 
+-- no page has fewer bytes
+abbrev pub least_page : ℕ
+least_page = 256
+
+-- whether slots are spanned: those are that such a page couldn't hold
+abbrev pub is_spanned : ℕ → Bool
+is_spanned row_bytes = nat_lt least_page (slot_width row_bytes)
+
 -- where slot k begins in the joined bytes
 abbrev pub slot_start : ℕ → ℕ → ℕ → ℕ
 slot_start n row_bytes k =
-    k / slots_per_page n row_bytes * n + k % slots_per_page n row_bytes * slot_width row_bytes
+    if is_spanned row_bytes then k * slot_width row_bytes
+    else k / slots_per_page n row_bytes * n + k % slots_per_page n row_bytes * slot_width row_bytes
+
+-- where the first slots end there, so many
+abbrev pub slots_end : ℕ → ℕ → ℕ → ℕ
+slots_end n row_bytes zero = 0
+slots_end n row_bytes (suc k) = slot_start n row_bytes k + slot_width row_bytes
 
 -- how many slots a segment has used
 abbrev pub used_slots : List (List ℕ) → ℕ
@@ -70,10 +85,10 @@ live_rows slots = flat_map option_to_list slots
 abbrev pub rows_of : {Row : Type 0} → ℕ → ℕ → (List ℕ → Row) → List (List ℕ) → List Row
 rows_of n row_bytes row_of pages = live_rows (slots_of n row_bytes row_of pages)
 
--- a segment has its page 0, and its used slots lie on its other pages
+-- a segment has its page 0, and its used slots lie in the bytes of its other pages
 pub record HasSlots (n row_bytes : ℕ) (pages : List (List ℕ)) : Type 0 where
   pub first : 0 < length pages
-  pub slots : used_slots pages ≤ slots_per_page n row_bytes * (length pages - 1)
+  pub slots : slots_end n row_bytes (used_slots pages) ≤ length (slot_bytes pages)
 
 -- the rows of a table, of the segment that is its own
 abbrev pub table_rows : {Row : Type 0} → ℕ → List (List (List ℕ)) → Table → (List ℕ → Row) → List Row

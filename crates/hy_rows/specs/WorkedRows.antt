@@ -1,6 +1,6 @@
 -- Worked examples, which the checker computes: a fresh load of one warehouse with three customers in each district, where
 -- columns lie in rows, the bytes of one row of each table on pages, and a small page table.
-use Rattle.std.specs.Prelude.{◌≡◌, ℕ, pos, negsuc, ◌*◌, ◌<◌, List, [], ◌∷◌, ◌++◌, length, map, replicate, codes, refl}
+use Rattle.std.specs.Prelude.{◌≡◌, ℕ, Bool, true, false, Option, None, pos, negsuc, ◌*◌, ◌<◌, List, [], ◌∷◌, ◌++◌, length, map, replicate, codes, refl}
 use Rattle.std.specs.List.{flat_map, range_with_len}
 use Rattle.std.proofs.Common.{subst, sym, zero, suc, Some, arith, lit<, lit≤}
 use Rattle.std.proofs.lemmas.List.{get_or-replicate}
@@ -12,12 +12,13 @@ use Rattle.hy_rows.specs.declared.new_order.NewOrder.{NewOrder}
 use Rattle.hy_rows.specs.declared.order.Order.{Order}
 use Rattle.hy_rows.specs.declared.order_line.OrderLine.{OrderLine}
 use Rattle.hy_rows.specs.declared.stock.Stock.{Stock}
+use Rattle.hy_page.specs.Bytes.{bytes_at}
 use Rattle.hy_rows.specs.Texts.{text_of, padded}
 use Rattle.hy_rows.specs.Rows.{warehouse_bytes, warehouse_of, district_bytes, district_of, customer_bytes, customer_of, history_bytes, history_of, new_order_bytes, new_order_of, order_bytes, order_of, order_line_bytes, order_line_of, stock_bytes, stock_of}
 use Rattle.hy_rows.specs.Tables.{Tables, all_of, no_rows, of_warehouse, row_counts, values_of}
 use Rattle.hy_rows.specs.declared.catalogue.Table.TheVariants as tables
 use Rattle.hy_rows.specs.declared.value.Value.TheVariants.{Text, Whole}
-use Rattle.hy_rows.specs.Spelling.{HasSlots, IsTable, Spells, list_at, slots_per_page, rows_of, used_slots}
+use Rattle.hy_rows.specs.Spelling.{HasSlots, IsTable, Spells, is_spanned, list_at, slot_start, slots_end, slots_of, slots_per_page, rows_of, used_slots}
 use Rattle.hy_rows.specs.Catalogue.{all_tables, columns_of, row_widths, segments}
 use Rattle.hy_rows.specs.Columns.{offset_of}
 use Rattle.hy_rows.specs.inside.Places.{segment_there}
@@ -324,6 +325,33 @@ history-values = refl
 pub page-slots : slots_per_page 64 21 ≡ 2
 page-slots = refl
 
+-- a slot of 256 bytes isn't spanned, and one of 257 is; so the third slot of 257 bytes begins behind two others
+pub not-spanned : map is_spanned (254 ∷ 255 ∷ []) ≡ false ∷ false ∷ []
+not-spanned = refl
+
+pub spanned : map is_spanned (256 ∷ 574 ∷ []) ≡ true ∷ true ∷ []
+spanned = refl
+
+pub slot-starts : map (slot_start 64 21) (0 ∷ 1 ∷ 2 ∷ 3 ∷ []) ≡ 0 ∷ 22 ∷ 64 ∷ 86 ∷ []
+slot-starts = refl
+
+pub spanned-starts : map (slot_start 512 256) (0 ∷ 1 ∷ 2 ∷ 3 ∷ []) ≡ 0 ∷ 257 ∷ 514 ∷ 771 ∷ []
+spanned-starts = refl
+
+pub slot-ends : map (slots_end 64 21) (0 ∷ 1 ∷ 2 ∷ 3 ∷ []) ≡ 0 ∷ 22 ∷ 44 ∷ 86 ∷ []
+slot-ends = refl
+
+-- three slots of 300 bytes over eight pages of 128: a row, an erased one, and another row
+abbrev spanned_bytes : List ℕ
+spanned_bytes = 1 ∷ replicate 299 7 ++ 0 ∷ replicate 299 8 ++ 1 ∷ replicate 298 9 ++ 10 ∷ replicate 124 0
+
+abbrev spanned_segment : List (List ℕ)
+spanned_segment = (3 ∷ replicate 127 0) ∷ map (λ place. bytes_at spanned_bytes (128 * place) 128) (range_with_len 0 8)
+
+pub spanned-rows : slots_of 128 299 (λ bytes. bytes) spanned_segment
+    ≡ Some (replicate 299 7) ∷ None ∷ Some (replicate 298 9 ++ 10 ∷ []) ∷ []
+spanned-rows = refl
+
 -- a segment of three pages with three used slots: a warehouse, an erased one, and the warehouse after the least payment
 abbrev pub small_segment : List (List ℕ)
 small_segment =
@@ -345,9 +373,7 @@ abbrev pub small_table : List (List (List ℕ))
 small_table = small_segment ∷ replicate segments empty_segment
 
 empty-slots : (row_bytes : ℕ) → HasSlots 64 row_bytes empty_segment
-empty-slots row_bytes =
-    let none : used_slots empty_segment ≡ 0 = refl in
-    record { first = lit< tt; slots = omega (arith, none) }
+empty-slots row_bytes = record { first = lit< tt; slots = omega arith }
 
 width_is : {one other : ℕ} → Some one ≡ Some other → one ≡ other
 width_is same = cc

@@ -4,6 +4,7 @@ use crate::catalogue::{CUSTOMER, Table};
 use crate::codec::{
     SlotBytes, push_number, push_signed, push_text, read_number, read_signed, read_text,
 };
+use crate::part::Part;
 use crate::record::{Record, ValueSink, ValueSource};
 use crate::row::{Lasting, Row};
 use crate::tables::Tables;
@@ -220,4 +221,67 @@ impl Customer {
     {
         read_number(bytes, 40, 2) as u16
     }
+}
+
+/// C_CREDIT and the columns behind it: what a payment, a purchase and a delivery know of a customer and change.
+#[derive(Clone, Copy, Debug)]
+pub struct CustomerAccount {
+    /// C_CREDIT, `GC` or `BC`.
+    pub credit: Text<2>,
+    /// C_DISCOUNT in ten-thousandths.
+    pub discount: u16,
+    /// C_BALANCE in cents.
+    pub balance: i64,
+    /// C_YTD_PAYMENT in cents.
+    pub ytd_payment: i64,
+    /// C_PAYMENT_CNT.
+    pub payment_count: u64,
+    /// C_DELIVERY_CNT.
+    pub delivery_count: u64,
+}
+
+impl Part<Customer> for CustomerAccount {
+    ghost use Rattle.std.proofs.Common.{rules};
+    ghost use Rattle.hy_rows.specs.RowParts.{account_bytes, account_in, account_of, with_account};
+    ghost use Rattle.hy_rows.specs.inside.PartLaws.{account_said};
+
+    const OFFSET: usize = 38;
+
+    const WIDTH: usize = 36;
+
+    ghost OFFSET = { 38 };
+
+    ghost WIDTH = { 36 };
+
+    ghost part_of = { account_of };
+
+    ghost with_part = { with_account };
+
+    ghost bytes_of_part = { account_bytes };
+
+    ghost part_of_bytes = { account_in };
+
+    fn encode_part(&self, slot: &mut SlotBytes) {
+        push_text(slot, &self.credit);
+        push_number(slot, self.discount.into(), 2);
+        push_signed(slot, self.balance);
+        push_signed(slot, self.ytd_payment);
+        push_number(slot, self.payment_count, 8);
+        push_number(slot, self.delivery_count, 8);
+    }
+
+    fn decode_part(bytes: &[u8]) -> CustomerAccount {
+        CustomerAccount {
+            credit: read_text(bytes, 0),
+            discount: read_number(bytes, 2, 2) as u16,
+            balance: read_signed(bytes, 4),
+            ytd_payment: read_signed(bytes, 12),
+            payment_count: read_number(bytes, 20, 8),
+            delivery_count: read_number(bytes, 28, 8),
+        }
+    }
+
+    ghost inside = { Prim.search rules };
+
+    ghost said = { account_said };
 }

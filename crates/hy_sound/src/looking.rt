@@ -8,7 +8,7 @@ ghost use Rattle.hy_sound.specs.inside.Steps.{IsRefusedAt, PassesAllLocals, Pass
 use crate::known::Known;
 use crate::lengths::place_of;
 use crate::merge::Merge;
-use hy_batches::{Batches, Lists, ReadBatch};
+use hy_batches::{Batch, Batches};
 use hy_commands::Commit;
 use hy_loads::Load;
 use hy_schema::Refusal;
@@ -97,7 +97,7 @@ fn take_step(known: &Known, merge: &mut Merge<'_>, last: u64) -> Step
 fn look_at(
     alloc: Global,
     known: &Known,
-    batch: &ReadBatch,
+    batch: &Batch,
     before: u64,
 ) -> Result<Option<u64>, AllocError>
     ensures { IfOk result (λ found. MatchOption found

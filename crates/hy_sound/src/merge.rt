@@ -5,7 +5,7 @@ ghost use Rattle.std.specs.Option.{option_copied};
 ghost use Rattle.hy_commands.specs.declared.command.Commit.TheVariants as commits;
 
 use crate::same::same_command;
-use hy_batches::{Lists, ReadBatch};
+use hy_batches::Batch;
 use hy_commands::{Command, Commit};
 use std::alloc::{AllocError, Global};
 use std::marker::Model;
@@ -13,7 +13,7 @@ use std::marker::Model;
 /// A batch, of each list of which some commits were passed.
 #[derive(Drop)]
 pub struct Merge<'a> {
-    batch: &'a ReadBatch,
+    batch: &'a Batch,
     passed: Vec<usize>,
 }
 
@@ -36,7 +36,7 @@ impl<'a> Merge<'a> {
     ghost use Rattle.hy_sound.specs.Merges.{count_of, left_of};
 
     /// A batch of which nothing was passed.
-    pub fn new(alloc: Global, batch: &'a ReadBatch) -> Result<Merge<'a>, AllocError>
+    pub fn new(alloc: Global, batch: &'a Batch) -> Result<Merge<'a>, AllocError>
         ensures count { IfOk result (λ merge. count_of merge ≡ length batch.entry.now) }
         ensures left { IfOk result (λ merge. (place : ℕ) → left_of merge place ≡ list_at batch.entry.now place) }
     {

@@ -5,7 +5,7 @@ use Rattle.std.proofs.lemmas.Option.{slice_get_within}
 use Rattle.hy_page.proofs.ByteLaws.{field_of_zeros}
 use Rattle.hy_rows.specs.declared.new_order.NewOrder.{NewOrder}
 use Rattle.hy_rows.specs.Rows.{new_order_of}
-use Rattle.hy_rows.specs.Spelling.{IsTable, list_at, slots_of, tables_of, used_slots}
+use Rattle.hy_rows.specs.Spelling.{IsTable, list_at, slots_end, slots_of, tables_of, used_slots}
 use Rattle.hy_store.specs.Stored.{new_order_segment}
 use Rattle.hy_rows.specs.Catalogue.{row_widths, segments}
 use Rattle.hy_rows.specs.Tables.{Tables, no_rows}
@@ -82,7 +82,7 @@ module _ (n : ℕ) (smallest : 256 ≤ n) where
             let within = below segment width table in
             record {
               first = omega (arith, ap length (pages segment within));
-              slots = omega (arith, unused segment within);
+              slots = omega (arith, ap (slots_end n width) (unused segment within));
             };
       };
       keeps = λ segment width table lasts k used. absurd (omega (arith, used, unused segment (below segment width table)));

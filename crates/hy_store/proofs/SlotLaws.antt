@@ -24,6 +24,12 @@ module _ {Row : Type 0} where
   there-all (row ∷ rows) zero within = refl
   there-all (row ∷ rows) (suc k) within = there-all rows k (omega (arith, within))
 
+  -- and so it is what the list has at the place
+  pub row-get : (rows : List Row) (k : ℕ) → get_or (map Some rows) k None ≡ slice_get rows k
+  row-get [] k = refl
+  row-get (first ∷ rows) zero = refl
+  row-get (first ∷ rows) (suc k) = row-get rows k
+
   -- where each slot has a row, they are these rows
   all_there : (slots : List (Option Row)) → ((k : ℕ) → k < length slots → IsSome (get_or slots k None)) → slots ≡ map Some (live_rows slots)
   all_there [] each = refl

@@ -1,17 +1,17 @@
 -- How many pages the segments of a store have at most.
-use Rattle.std.specs.Prelude.{◌≡◌, ℕ, ◌+◌, ◌/◌, ◌≤◌, Some, List, [], ◌∷◌, ◌++◌, length, slice_get}
-use Rattle.hy_rows.specs.Spelling.{IsTable, list_at, slots_per_page, used_slots}
+use Rattle.std.specs.Prelude.{◌≡◌, ℕ, ◌+◌, ◌≤◌, Some, List, [], ◌∷◌, ◌++◌, length, slice_get}
+use Rattle.hy_rows.specs.Spelling.{IsTable, list_at, used_slots}
 use Rattle.hy_rows.specs.Catalogue.{row_widths, segments}
 use Rattle.hy_space.specs.Space.{SpaceState, owner_bytes}
-use Rattle.hy_relation.specs.Relation.{HasFewPages}
+use Rattle.hy_relation.specs.Relation.{HasFewPages, end_place}
 use Rattle.hy_trees.specs.Nodes.{least_items}
 use Rattle.hy_trees.specs.Trees.{most_pages}
 use Rattle.hy_store.specs.Stored.{all_segments}
 
--- how many pages a table has at most of which so many slots are used: its page 0, those that the slots fill, and one
--- behind them
+-- how many pages a table has at most of which so many slots are used: its page 0, and those up to the one on which the
+-- slot behind them ends
 abbrev pub row_pages : ℕ → ℕ → ℕ → ℕ
-row_pages n row_bytes slots = slots / slots_per_page n row_bytes + 2
+row_pages n row_bytes slots = end_place n row_bytes slots + 2
 
 -- how many pages an index has at most that never had more than so many entries, each of them the bytes of a key and
 -- eight more

@@ -12,5 +12,6 @@ pub use indexes::{
 };
 pub use keys::{CustomerKey, LineKey, OrderKey, WaitingKey};
 pub use rows::{
-    erase_new_order, glance_at, know_store, push_new_order, push_row, put_row, row_at, row_bytes_at,
+    erase_new_order, glance_at, know_store, part_at, push_new_order, push_row, put_part, put_row,
+    row_at, row_bytes_at,
 };

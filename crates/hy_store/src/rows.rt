@@ -1,8 +1,9 @@
 //! The rows of the tables, each at a place of its list, and the slots of NEW-ORDER.
 
-ghost use Rattle.std.specs.Prelude.{◌≡◌, ◌+◌, ◌<◌, ◌++◌, ◌∷◌, [], Some, IfOk, OnOk, IsErrOf, length, map, slice_get, slice_set};
+ghost use Rattle.std.specs.Prelude.{◌≡◌, ◌+◌, ◌<◌, ◌++◌, ◌∷◌, [], false, Some, IfOk, OnOk, IsErrOf, length, map, slice_get, slice_set};
+ghost use Rattle.std.specs.Option.{option_map};
 ghost use Rattle.hy_frames.specs.FrameTable.{free_of};
-ghost use Rattle.hy_rows.specs.Spelling.{HasTables, live_rows, tables_of};
+ghost use Rattle.hy_rows.specs.Spelling.{HasTables, is_spanned, live_rows, tables_of};
 ghost use Rattle.hy_store.specs.Stored.{new_order_segment};
 ghost use Rattle.hy_space.specs.Space.{owner_bytes};
 ghost use Rattle.hy_undo.specs.Writes.{IsOutOfFrames};
@@ -14,7 +15,7 @@ ghost use Rattle.hy_store.specs.Writes.{ChangesStore, IsWritableStore, WritesSto
 
 use hy_frames::Shortage;
 use hy_relation::Relation;
-use hy_rows::{Lasting, NewOrder, Row};
+use hy_rows::{Lasting, NewOrder, Part, Row};
 use hy_space::Space;
 use hy_undo::Undo;
 
@@ -54,8 +55,22 @@ pub fn row_at<R: Lasting, const N: usize>(space: &Space<N>, place: u64) -> R
     }
 }
 
-/// The bytes of the row at a place of its table.
+/// Some columns of the row at a place of its table.
+pub fn part_at<R: Lasting, P: Part<R>, const N: usize>(space: &Space<N>, place: u64) -> P
+    requires store { HasStore N (owner_bytes space.now) }
+    requires there { place < length (R.rows_in (stored_in N space.now).tables) }
+    ensures { option_map P.part_of (slice_get (R.rows_in (stored_in N space.now).tables) place) ≡ Some result }
+{
+    know_rows::<R, N>(space);
+    match Relation::<R>::new().part::<P, N>(space, place) {
+        Some(part) => part,
+        None => unreachable!(),
+    }
+}
+
+/// The bytes of the row at a place of its table, whose slots aren't spanned.
 pub fn row_bytes_at<R: Lasting, const N: usize>(space: &Space<N>, place: u64) -> &[u8]
+    requires unspanned { is_spanned R.BYTES ≡ false }
     requires store { HasStore N (owner_bytes space.now) }
     requires there { place < length (R.rows_in (stored_in N space.now).tables) }
     ensures row { slice_get (R.rows_in (stored_in N space.now).tables) place ≡ Some (R.row_of_bytes result.now) }
@@ -93,6 +108,26 @@ pub fn put_row<R: Lasting, const N: usize>(
 {
     know_rows::<R, N>(space);
     Relation::<R>::new().put(space, undo, place, row)
+}
+
+/// Puts other values of some columns into the row at a place.
+pub fn put_part<R: Lasting, P: Part<R>, const N: usize>(
+    space: &mut Space<N>,
+    undo: &mut Undo<N>,
+    place: u64,
+    part: &P,
+) -> Result<(), Shortage>
+    requires writable { IsWritableStore N space.old undo.old }
+    requires there { place < length (R.rows_in (stored_in N space.old).tables) }
+    ensures put { OnOk result ((row : R) → slice_get (R.rows_in (stored_in N space.old).tables) place ≡ Some row
+        → ChangesStore N space.old space.new (λ old. record old {
+      tables = R.with_rows old.tables (slice_set (R.rows_in old.tables) place (P.with_part row part.now));
+    })) }
+    ensures writes { WritesStore N space.old space.new undo.old undo.new }
+    ensures no_frame { IsErrOf result Shortage.NoFrame → IsOutOfFrames space.new }
+{
+    know_rows::<R, N>(space);
+    Relation::<R>::new().put_part::<P, N>(space, undo, place, part)
 }
 
 /// Adds a row behind those of its table, and answers its place.

@@ -360,13 +360,13 @@ fn drained<K: Loaded, R: Abort + AllocGlobal>(rt: &R, mut hall: Hall<K>) {
     );
     let batch = hall.drain(rt.alloc()).expect(rt, "a batch");
     assert!(rt; batch.len() == 2);
-    let ([first], [own, second]) = (batch.part(0), batch.part(1)) else {
+    let ([first], [own, second]) = (batch.list(0), batch.list(1)) else {
         panic!(rt; "three commits")
     };
     assert!(rt; matches!(own, Commit::Local(Command::NewOrder(_))));
     assert!(rt; numbers_of(first) == Some((1, 3)) && numbers_of(second) == Some((1, 3)));
     let batch = hall.drain(rt.alloc()).expect(rt, "a batch");
-    assert!(rt; batch.len() == 2 && batch.part(0).is_empty() && batch.part(1).is_empty());
+    assert!(rt; batch.len() == 2 && batch.list(0).is_empty() && batch.list(1).is_empty());
     assert!(rt; hall.part(rt, 1).undrained().is_empty() && hall.kept(rt, 2).len() == 2);
 }
 

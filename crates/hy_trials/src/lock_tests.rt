@@ -93,7 +93,7 @@ fn pay_and_look<K: Loaded, R: Wait + Abort + AllocGlobal>(
         Err(_) => panic!(rt; "a snapshot of other partitions"),
     }
     let batch = drain(rt.alloc(), &mut held, &mut journal).expect(rt, "a batch");
-    assert!(rt; batch.len() == 3 && batch.part(0).len() == 1 && batch.part(2).is_empty());
+    assert!(rt; batch.len() == 3 && batch.list(0).len() == 1 && batch.list(2).is_empty());
     find_history(&mut held, &mut journal);
 }
 

@@ -11,3 +11,4 @@ pub mod CutLaws
 pub mod ChildBackLaws
 pub mod ForkLaws
 pub mod WriteLaws
+pub mod JoinedLaws

@@ -1,5 +1,7 @@
 -- What calls that write through the undo log do to a space.
-use Rattle.std.specs.Prelude.{◌≡◌, ℕ, ◌+◌, ◌≤◌, length, IsSome}
+use Rattle.std.specs.Prelude.{◌≡◌, ◌≢◌, ℕ, ◌+◌, ◌/◌, ◌≤◌, List, [], length, slice_index_or, IsSome}
+use Rattle.std.specs.List.{concat}
+use Rattle.hy_page.specs.Bytes.{overwritten}
 use Rattle.hy_frames.specs.FrameTable.{free_of}
 use Rattle.hy_space.specs.Space.{SpaceState, SameForChildren, child_table, owner_bytes}
 use Rattle.hy_undo.specs.UndoLog.{UndoLog, undone, page_counts}
@@ -40,3 +42,19 @@ HasChild space = (child : ℕ) × IsSome (child_table space child)
 pub record IsOutOfFrames (space : SpaceState) : Type 0 where
   pub full : free_of space.frames ≡ 0
   pub open_child : HasChild space
+
+-- the pages of a segment
+abbrev pub pages_at : List (List (List ℕ)) → ℕ → List (List ℕ)
+pages_at all segment = slice_index_or all segment []
+
+-- bytes were written over those from a place on among all bytes of a segment; no page came or went, and no other segment
+-- changed
+pub record WritesAcross (old new : List (List (List ℕ))) (segment start : ℕ) (bytes : List ℕ) : Type 0 where
+  pub segments : length new ≡ length old
+  pub pages : length (pages_at new segment) ≡ length (pages_at old segment)
+  pub joined : concat (pages_at new segment) ≡ overwritten (concat (pages_at old segment)) start bytes
+  pub others : (other : ℕ) → other ≢ segment → pages_at new other ≡ pages_at old other
+
+-- how many pages so many bytes from an offset of a page on lie on at most
+abbrev pub pages_of_part : ℕ → ℕ → ℕ → ℕ
+pages_of_part n offset count = (offset + count) / n + 1

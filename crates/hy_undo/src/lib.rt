@@ -2,13 +2,14 @@
 //! the pages can be made what they were.
 #![tactic(auto)]
 
-ghost use Rattle.std.specs.Prelude.{◌≡◌, ℕ, [], ◌++◌, ◌+◌, ◌<◌, ◌≤◌, ◌↔◌, IsTrue, length, max, slice_index, slice_index_or, replicate, Some, IsSome, IfOk, OnOk, OnErr, IsErrOf};
+ghost use Rattle.std.specs.Prelude.{◌≡◌, ℕ, [], ◌++◌, ◌+◌, ◌*◌, ◌<◌, ◌≤◌, ◌↔◌, IsTrue, length, max, slice_index, slice_index_or, replicate, Some, IsSome, IfOk, OnOk, OnErr, IsErrOf};
 ghost use Rattle.std.specs.List.{AllByRecursion};
 ghost use Rattle.hy_page.specs.Bytes.{bytes_at, overwritten};
 ghost use Rattle.hy_frames.specs.FrameTable.{count_of, lent_at, free_of};
 ghost use Rattle.hy_space.specs.Space.{HasPage, IsPrivate, KeepsOwn, IsLeastFree, SameForOwner, SameForOthers, child_table, child_bytes, child_times, owner_bytes, page_count, page_bytes, frame_no, with_page, with_new_page, with_new_frame, with_first_pages, GrowsPage, LacksFrame, ChangesBytesOf, WritesPage};
 ghost use Rattle.hy_undo.specs.UndoLog.{first_pages, put_back, restored, undone, empty_log, image_at, with_image};
-ghost use Rattle.hy_undo.specs.inside.RollBack.{without_last};
+ghost use Rattle.hy_undo.specs.inside.RollBack.{last_image, without_last};
+ghost use Rattle.hy_undo.specs.Writes.{CanUndo, IsOutOfFrames, WritesAcross, pages_of_part};
 ghost use Rattle.hy_undo.specs.Touched.{touched};
 ghost use Rattle.hy_undo.specs.Fork.{IsAsBefore};
 ghost use Rattle.hy_undo.specs.inside.Fork.{rows_of, child_pages, IsBeside, SharesGrown, ChangesChild, AllSplit, AllGrownApart, IsOfPage, IsWritableIn};
@@ -84,6 +85,87 @@ impl<const N: usize> Undo<N> {
         self.keep_touched(space, segment, page, offset, bytes.len())?;
         space.write_in_place(segment, page, offset, bytes);
         Ok(())
+    }
+
+    /// Writes bytes from an offset of a page on, over the ends of pages, and keeps those that they take away. A refused call
+    /// leaves all bytes and this log as they were; pages that it made private stay so.
+    pub fn write_across(
+        &mut self,
+        space: &mut Space<N>,
+        segment: u32,
+        page: u32,
+        offset: usize,
+        bytes: &[u8],
+    ) -> Result<(), Shortage>
+        requires segment { segment < length space.old.owner }
+        requires offset { offset < N }
+        requires within { page * N + offset + length bytes.now ≤ page_count space.old segment * N }
+        requires undo_log { IsUndoLog N space.old self.old }
+        ensures bytes { OnOk result (WritesAcross (owner_bytes space.old) (owner_bytes space.new) segment
+            (page * N + offset) bytes.now) }
+        ensures can_undo { CanUndo N (pages_of_part N offset (length bytes.now)) space.old space.new self.old self.new }
+        ensures no_frame { IsErrOf result Shortage.NoFrame → IsOutOfFrames space.new }
+        ensures err { OnErr result ((self.new ≡ self.old) × (owner_bytes space.new ≡ owner_bytes space.old)) }
+    {
+        space.sound();
+        if bytes.is_empty() {
+            return Ok(());
+        }
+        let room = N - offset;
+        if bytes.len() <= room {
+            return self.write_part(space, segment, page, offset, bytes);
+        }
+        self.write_part(space, segment, page, offset, &bytes[..room])?;
+        match self.write_across(space, segment, page + 1, 0, &bytes[room..]) {
+            Ok(()) => Ok(()),
+            Err(shortage) => {
+                self.take_back(space);
+                Err(shortage)
+            }
+        }
+    }
+
+    /// Writes bytes into one page, as a part of those that go over the ends of pages.
+    fn write_part(
+        &mut self,
+        space: &mut Space<N>,
+        segment: u32,
+        page: u32,
+        offset: usize,
+        bytes: &[u8],
+    ) -> Result<(), Shortage>
+        requires there { HasPage space.old segment page }
+        requires within { offset + length bytes.now ≤ N }
+        requires undo_log { IsUndoLog N space.old self.old }
+        ensures bytes { OnOk result (owner_bytes space.new
+            ≡ with_page (owner_bytes space.old) segment page
+            (overwritten (page_bytes space.old segment page) offset bytes.now)) }
+        ensures across { OnOk result (WritesAcross (owner_bytes space.old) (owner_bytes space.new) segment
+            (page * N + offset) bytes.now) }
+        ensures image { OnOk result (self.new
+            ≡ with_image self.old (image_at space.old segment page offset (length bytes.now))) }
+        ensures can_undo { CanUndo N 1 space.old space.new self.old self.new }
+        ensures undo_log { IsUndoLog N space.new self.new }
+        ensures segments { length space.new.owner ≡ length space.old.owner }
+        ensures pages { page_count space.new segment ≡ page_count space.old segment }
+        ensures no_frame { IsErrOf result Shortage.NoFrame → IsOutOfFrames space.new }
+        ensures err { OnErr result ((self.new ≡ self.old) × (owner_bytes space.new ≡ owner_bytes space.old)) }
+    {
+        space.sound();
+        self.write(space, segment, page, offset, bytes)
+    }
+
+    /// Puts the bytes of the last write back, and forgets the write.
+    fn take_back(&mut self, space: &mut Space<N>)
+        requires some { 0 < length self.old.images }
+        requires undo_log { IsUndoLog N space.old self.old }
+        ensures log { self.new ≡ without_last self.old }
+        ensures bytes { owner_bytes space.new ≡ put_back (owner_bytes space.old) (last_image self.old) }
+        ensures undo_log { IsUndoLog N space.new self.new }
+        ensures keeps { KeepsTable space.old space.new }
+    {
+        put_image_back(space, self.images.last());
+        self.images.drop_last();
     }
 
     /// Puts bytes into the owner's page in the place of `gap` others from `offset` on, and moves the `count` bytes behind

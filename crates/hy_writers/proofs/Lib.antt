@@ -11,3 +11,4 @@ pub mod OrderLinesLaws
 pub mod DeliveryLaws
 pub mod DeliverLaws
 pub mod KeptIndexLaws
+pub mod AccountLaws

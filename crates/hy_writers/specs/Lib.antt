@@ -1,3 +1,4 @@
+pub mod Accounts
 pub mod Changes
 pub mod Limits
 pub mod Begun

@@ -22,6 +22,7 @@ ghost use Rattle.hy_store.specs.Writes.{ChangesStore, IsWritableStore, LeavesSto
 ghost use Rattle.hy_store.specs.declared.keys.LineKey.{LineKey};
 ghost use Rattle.hy_writers.specs.Limits.{most_applied};
 ghost use Rattle.hy_writers.specs.Deliveries.{ChargesCustomer, DeliversLine, DeliversOldest, HasLinesOf, places_of, walk_over, with_lines_of, with_walked};
+ghost use Rattle.hy_writers.specs.Accounts.{ChangesAccount, IsAccountOf};
 ghost use Rattle.hy_writers.specs.Begun.{IsBegunDelivery};
 ghost use Rattle.hy_writers.specs.Waiting.{IsOldest, IsSoundStore, IsWaiting, with_entry_delivered, without_waiting};
 
@@ -29,11 +30,11 @@ use hy_commands::Delivery;
 use hy_frames::Shortage;
 use hy_index::Entry;
 use hy_layout::Layout;
-use hy_rows::{Customer, Order, OrderLine};
+use hy_rows::{CustomerAccount, Order, OrderLine};
 use hy_space::Space;
 use hy_store::{
     LineKey, OrderKey, WaitingKey, erase_new_order, find_slot, first_entry, know_entries,
-    know_store, put_row, read_entries, remove_entry, row_at,
+    know_store, part_at, put_part, put_row, read_entries, remove_entry, row_at,
 };
 use hy_undo::Undo;
 
@@ -145,22 +146,22 @@ fn take_waiting<const N: usize>(
     remove_entry(space, undo, &waiting.key)
 }
 
-/// The customer after an order of some cents was delivered.
-fn customer_after(row: &Customer, cents: i64) -> Customer
-    requires row { IsCustomerUpTo most_applied (10 * most_applied) row.now }
+/// A customer's account after an order of some cents was delivered.
+fn account_after(account: &CustomerAccount, cents: i64) -> CustomerAccount
+    requires account { IsAccountOf account.now (IsCustomerUpTo most_applied (10 * most_applied)) }
     requires low { pos 0 ≤ℤ cents }
     requires high { cents ≤ℤ pos max_order_cents }
-    ensures { result ≡ customer_delivered cents row.now }
+    ensures { ChangesAccount account.now result (customer_delivered cents) }
 {
-    let Customer {
+    let CustomerAccount {
         balance,
         delivery_count,
         ..
-    } = *row;
-    Customer {
+    } = *account;
+    CustomerAccount {
         balance: balance + cents,
         delivery_count: delivery_count + 1,
-        ..*row
+        ..*account
     }
 }
 
@@ -181,8 +182,8 @@ fn charge<const N: usize>(
     ensures writes { WritesStore N space.old space.new undo.old undo.new }
     ensures no_frame { IsErrOf result Shortage.NoFrame → IsOutOfFrames space.new }
 {
-    let row = row_at::<Customer, N>(space, place);
-    put_row(space, undo, place, &customer_after(&row, cents))
+    let before: CustomerAccount = part_at(space, place);
+    put_part(space, undo, place, &account_after(&before, cents))
 }
 
 /// An order after a delivery.

@@ -1,6 +1,6 @@
 //! Payment (TPC-C clause 2.5): the home warehouse, its district and the history; then the customer.
 
-ghost use Rattle.std.specs.Prelude.{◌≡◌, ◌+◌, ◌*◌, ◌≤◌, ◌+ℤ◌, ◌<◌, pos, ◌++◌, codes, length, OnOk, IfOk, IsErrOf};
+ghost use Rattle.std.specs.Prelude.{◌≡◌, ◌+◌, ◌*◌, ◌≤◌, ◌+ℤ◌, ◌-ℤ◌, ◌<◌, pos, ◌++◌, codes, length, OnOk, IfOk, IsErrOf};
 ghost use Rattle.arrayvec.specs.ArrayVec.{array_vec_len};
 ghost use Rattle.hy_frames.specs.FrameTable.{free_of};
 ghost use Rattle.hy_rows.specs.Limits.{max_payment};
@@ -10,6 +10,7 @@ ghost use Rattle.hy_commands.specs.Growth.{IsCustomerUpTo, IsDistrictUpTo, IsMon
 ghost use Rattle.hy_commands.specs.Payments.{customer_paid, district_paid, warehouse_paid};
 ghost use Rattle.hy_commands.specs.Transactions.{payer};
 ghost use Rattle.hy_store.specs.Writes.{ChangesStore, IsWritableStore, WritesStore, stored_in};
+ghost use Rattle.hy_writers.specs.Accounts.{ChangesAccount, IsAccountOf};
 ghost use Rattle.hy_writers.specs.Begun.{IsHomePayment};
 ghost use Rattle.hy_writers.specs.Limits.{most_applied};
 ghost use Rattle.hy_writers.specs.Payments.{CanPayCustomer, CanPayHome, history_for, payment_reply, with_customer_paid, with_home_paid};
@@ -19,9 +20,9 @@ use arrayvec::ArrayVec;
 use hy_commands::{Payment, Reply};
 use hy_frames::Shortage;
 use hy_layout::Layout;
-use hy_rows::{Customer, District, History, Text, Warehouse};
+use hy_rows::{Customer, CustomerAccount, District, History, Text, Warehouse};
 use hy_space::Space;
-use hy_store::{push_row, put_row, row_at};
+use hy_store::{part_at, push_row, put_part, put_row, row_bytes_at};
 use hy_undo::Undo;
 
 /// An amount that rises by some cents.
@@ -57,23 +58,24 @@ fn district_after(row: &District, cents: u64) -> District
     }
 }
 
-/// A customer after a payment of some cents.
-fn customer_after(row: &Customer, cents: u64) -> Customer
-    requires row { IsCustomerUpTo most_applied (10 * most_applied) row.now }
+/// A customer's account after a payment of some cents.
+fn account_after(account: &CustomerAccount, cents: u64) -> CustomerAccount
+    requires account { IsAccountOf account.now (IsCustomerUpTo most_applied (10 * most_applied)) }
     requires cents { cents ≤ max_payment }
-    ensures { result ≡ customer_paid cents row.now }
+    ensures paid { ChangesAccount account.now result (customer_paid cents) }
+    ensures balance { result.balance ≡ account.now.balance -ℤ pos cents }
 {
-    let Customer {
+    let CustomerAccount {
         balance,
         ytd_payment,
         payment_count,
         ..
-    } = *row;
-    Customer {
+    } = *account;
+    CustomerAccount {
         balance: balance - cents as i64,
         ytd_payment: ytd_payment + cents as i64,
         payment_count: payment_count + 1,
-        ..*row
+        ..*account
     }
 }
 
@@ -176,18 +178,12 @@ pub fn pay_customer<const N: usize>(
     ensures writes { WritesStore N space.old space.new undo.old undo.new }
     ensures no_frame { IsErrOf result Shortage.NoFrame → IsOutOfFrames space.new }
 {
-    let before = row_at::<Customer, N>(space, place);
-    let row = customer_after(&before, payment.amount);
-    put_row(space, undo, place, &row)?;
-    Ok(reply_for(&row))
-}
-
-/// The reply to a payment, from the customer's row after it.
-fn reply_for(row: &Customer) -> Reply
-    ensures { result ≡ Reply.Payment row.now.id row.now.balance }
-{
-    Reply::Payment {
-        customer: row.id,
-        balance: row.balance,
-    }
+    let customer = Customer::id_in(row_bytes_at::<Customer, N>(space, place));
+    let before: CustomerAccount = part_at(space, place);
+    let account = account_after(&before, payment.amount);
+    put_part(space, undo, place, &account)?;
+    Ok(Reply::Payment {
+        customer,
+        balance: account.balance,
+    })
 }

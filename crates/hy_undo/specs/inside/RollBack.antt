@@ -1,5 +1,5 @@
 -- What stays while pages are written, cut off and put back.
-use Rattle.std.specs.Prelude.{◌≡◌, ℕ, ◌+◌, ◌-◌, ◌<◌, ◌≤◌, length, take}
+use Rattle.std.specs.Prelude.{◌≡◌, ℕ, ◌+◌, ◌-◌, ◌<◌, ◌≤◌, [], length, slice_index_or, take}
 use Rattle.hy_frames.specs.FrameTable.{free_of}
 use Rattle.hy_space.specs.Space.{SpaceState, HasPage, IsPrivate, KeepsOwn, SameForChildren, page_count}
 use Rattle.hy_undo.specs.UndoLog.{Image, UndoLog}
@@ -27,3 +27,8 @@ pub record KeepsTable (old new : SpaceState) : Type 0 where
 -- a log without its last image
 abbrev pub without_last : UndoLog → UndoLog
 without_last log = record { counts = log.counts; images = take (length log.images - 1) log.images }
+
+-- its last image
+abbrev pub last_image : UndoLog → Image
+last_image log =
+    slice_index_or log.images (length log.images - 1) (record { segment = 0; page = 0; offset = 0; bytes = [] })

@@ -6,7 +6,7 @@ pub returns : goal.returns
 returns g c =
     let takes = g.S.Sink.takes in
     let both = g.met.S.Sink.takes_both in
-    let content = content_bytes (g.L.Lists.lists c.args.lists.now) in
+    let content = content_bytes c.args.batch.now in
     let size = number_bytes 8 (length content) in
     let said : takes c.put.new.self c.write_number.new.sink size =
     subst (takes c.put.new.self c.write_number.new.sink) c.content_length.ensures c.write_number.ensures in

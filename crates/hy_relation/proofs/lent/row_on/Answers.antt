@@ -1,27 +1,47 @@
-use Rattle.std.proofs.Common.{◌≡◌, ℕ, ◌+◌, ◌≤◌, List, [], sym, ap, ◌∙◌, ap₂, arith}
+use Rattle.std.proofs.Common.{rules, ◌≡◌, ℕ, ◌+◌, ◌^◌, ◌<◌, ◌≤◌, List, [], length, sym, ap, ap₂, ◌∙◌, subst, arith}
 use Rattle.std.proofs.lemmas.List.{get_or_default}
 use Rattle.hy_page.specs.Bytes.{bytes_at}
-use Rattle.hy_rows.specs.Spelling.{list_at, row_of_slot, slot_width}
+use Rattle.hy_rows.specs.Spelling.{list_at, row_of_slot, slot_width, slots_end}
 use Rattle.hy_relation.specs.inside.Addresses.{slot_offset, slot_page}
 use Rattle.hy_relation.proofs.PageLaws.{slot_at-on_page}
 use Rattle.hy_relation.proofs.RelationLaws.{row-used}
-use Rattle.hy_relation.proofs.SpaceLaws.{slot_page-below}
+use Rattle.hy_relation.proofs.SpaceLaws.{lent_few, slot_page-below, used-within}
 use Rattle.hy_relation.proofs.lent.row_on.Goals as goal
 
-pub returns : goal.returns
-returns g c =
+pub address_of-at-requires-clause-number : goal.address_of-at-requires-clause-number
+address_of-at-requires-clause-number g c =
+    subst (λ (w : ℕ). slots_end g.row.N w c.args.slot < 2 ^ 48) (sym c.BYTES.ensures)
+    (lent_few g.row.N g.R.Row.BYTES c.args.pages.now c.args.slot c.requires.size c.requires.small c.requires.sized c.requires.slots c.requires.used c.requires.few)
+
+pub bounds-pages-at : goal.bounds-pages-at
+bounds-pages-at g c =
+    let n : ℕ = g.row.N in
+    let width : ℕ = g.R.Row.BYTES in
+    let place : c.address_of-at.result.page ≡ slot_page n width c.args.slot = c.address_of-at.ensures.page ∙ ap (λ (w : ℕ). slot_page n w c.args.slot) c.BYTES.ensures in
+    omega (arith, place, slot_page-below n width c.args.pages.now c.args.slot (omega (arith, c.requires.size)) c.requires.sized (used-within n width c.args.pages.now c.args.slot c.requires.size c.requires.slots c.requires.used))
+
+pub offset_bounds-pages-at : goal.offset_bounds-pages-at
+offset_bounds-pages-at g c =
+    let n : ℕ = g.row.N in
+    let width : ℕ = g.R.Row.BYTES in
+    let place : c.address_of-at.result.page ≡ slot_page n width c.args.slot = c.address_of-at.ensures.page ∙ ap (λ (w : ℕ). slot_page n w c.args.slot) c.BYTES.ensures in
+    let there = slot_page-below n width c.args.pages.now c.args.slot (omega (arith, c.requires.size)) c.requires.sized (used-within n width c.args.pages.now c.args.slot c.requires.size c.requires.slots c.requires.used) in
+    omega (arith, place, there, c.requires.few)
+
+pub returns-then-at-BYTES : goal.returns-then-at-BYTES
+returns-then-at-BYTES g c =
     let n : ℕ = g.row.N in
     let width : ℕ = g.R.Row.BYTES in
     let k : ℕ = c.args.slot in
     let pages : List (List ℕ) = c.args.pages.now in
-    let room : slot_width width ≤ n = omega (arith, g.met.R.Row.fits, c.requires.size) in
-    let there = slot_page-below n width pages k room c.requires.slots c.requires.used in
-    let place : c.address_of-address.result.page ≡ slot_page n width k = c.address_of-address.ensures.page ∙ ap (λ (w : ℕ). slot_page n w k) c.BYTES.ensures in
-    let offset : c.address_of-address.result.offset ≡ slot_offset n width k = c.address_of-address.ensures.offset ∙ ap (λ (w : ℕ). slot_offset n w k) c.BYTES.ensures in
-    let fits : slot_offset n width k + slot_width width ≤ n = omega (arith, offset, c.BYTES.ensures, c.address_of-address.ensures.fits) in
+    let there = slot_page-below n width pages k (omega (arith, c.requires.size)) c.requires.sized (used-within n width pages k c.requires.size c.requires.slots c.requires.used) in
+    let place : c.address_of-at.result.page ≡ slot_page n width k = c.address_of-at.ensures.page ∙ ap (λ (w : ℕ). slot_page n w k) c.BYTES.ensures in
+    let offset : c.address_of-at.result.offset ≡ slot_offset n width k = c.address_of-at.ensures.offset ∙ ap (λ (w : ℕ). slot_offset n w k) c.BYTES.ensures in
+    let room : c.address_of-at.result.offset + slot_width width ≤ n = search rules in
+    let fits : slot_offset n width k + slot_width width ≤ n = omega (arith, room, offset) in
     let page : c.page.result.now ≡ list_at pages (slot_page n width k) =
-    c.page.ensures.bytes ∙ c.index-pages-address.is
-    ∙ get_or_default pages c.address_of-address.result.page c.index-pages-address.result [] (omega (arith, there, place))
+    c.page.ensures.bytes ∙ c.index-pages-at.is
+    ∙ get_or_default pages c.address_of-at.result.page c.index-pages-at.result [] (omega (arith, there, place))
     ∙ ap (λ (p : ℕ). list_at pages p) place in
     c.row_at.ensures
     ∙ ap (row_of_slot g.R.Row.row_of_bytes)

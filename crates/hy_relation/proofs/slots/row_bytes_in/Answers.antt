@@ -5,7 +5,7 @@ use Rattle.hy_space.specs.Space.{page_bytes}
 use Rattle.hy_relation.specs.Relation.{owner_pages}
 use Rattle.hy_relation.specs.inside.Addresses.{slot_offset, slot_page}
 use Rattle.hy_relation.proofs.PageLaws.{slot_at-on_page}
-use Rattle.hy_relation.proofs.SpaceLaws.{pages_sized, slot_page-below}
+use Rattle.hy_relation.proofs.SpaceLaws.{pages_sized, slot_page-below, used-within}
 use Rattle.hy_relation.proofs.slots.row_bytes_in.Goals as goal
 
 pub returns-clause-row : goal.returns-clause-row
@@ -14,14 +14,14 @@ returns-clause-row g c =
     let width : ℕ = g.R.Row.BYTES in
     let k : ℕ = c.args.slot in
     let pages : List (List ℕ) = owner_pages c.args.space.now g.R.Row.SEGMENT in
-    let room : slot_width width ≤ n = omega (arith, g.met.R.Row.fits, c.sound.ensures.size.smallest) in
-    let there = slot_page-below n width pages k room c.requires.slots c.requires.used in
-    let fits : slot_offset n width k + slot_width width ≤ n = omega (arith, c.address_in-address.ensures.offset, c.address_in-address.ensures.fits) in
+    let sized = pages_sized n g.R.Row.SEGMENT c.args.space.now c.sound.ensures c.requires.slots.first in
+    let there = slot_page-below n width pages k (omega (arith, c.sound.ensures.size.smallest)) sized (used-within n width pages k c.sound.ensures.size.smallest c.requires.slots c.requires.used) in
+    let fits : slot_offset n width k + slot_width width ≤ n = omega (arith, c.address_in-address.ensures.offset, c.address_in-address.ensures.fits c.requires.unspanned) in
     let page : c.page.result.now ≡ page_bytes c.args.space.now g.R.Row.SEGMENT (slot_page n width k) = c.page.ensures.bytes
     ∙ ap (λ (s : ℕ). page_bytes c.args.space.now s c.address_in-address.result.page) c.SEGMENT.ensures
     ∙ ap (page_bytes c.args.space.now g.R.Row.SEGMENT) c.address_in-address.ensures.page in
     let slot : bytes_at c.page.result.now c.address_in-address.result.offset (slot_width width) ≡ slot_at n width pages k =
     ap (λ (bytes : List ℕ). bytes_at bytes c.address_in-address.result.offset (slot_width width)) page
     ∙ ap (λ (o : ℕ). bytes_at (page_bytes c.args.space.now g.R.Row.SEGMENT (slot_page n width k)) o (slot_width width)) c.address_in-address.ensures.offset
-    ∙ sym (slot_at-on_page n width pages k (pages_sized n g.R.Row.SEGMENT c.args.space.now c.sound.ensures c.requires.slots.first) there fits) in
+    ∙ sym (slot_at-on_page n width pages k sized there fits) in
     c.bytes_in_slot.ensures.row ∙ ap (row_of_slot g.R.Row.row_of_bytes) slot

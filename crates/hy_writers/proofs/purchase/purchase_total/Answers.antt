@@ -1,10 +1,15 @@
 use Rattle.std.proofs.Common.{◌-◌, ◌∙◌, ap, ap₂}
 use Rattle.hy_rows.specs.declared.customer.Customer.{Customer}
+use Rattle.hy_rows.proofs.BetweenLaws.{bounds}
+use Rattle.hy_rows.specs.Limits.{max_quantity}
 use Rattle.hy_rows.specs.Rows.{customer_of}
 use Rattle.hy_commands.specs.NewOrders.{total_of}
 use Rattle.hy_store.specs.Writes.{stored_in}
 use Rattle.hy_writers.proofs.PurchaseLaws.{total-found}
 use Rattle.hy_writers.proofs.purchase.purchase_total.Goals as goal
+
+pub purchase_cents-cents-requires-clause-quantities : goal.purchase_cents-cents-requires-clause-quantities
+purchase_cents-cents-requires-clause-quantities g c = λ k d within. (bounds 1 max_quantity _ (c.requires.order.lines k d within).quantity).1
 
 pub returns : goal.returns
 returns g c =

@@ -1,4 +1,4 @@
-use Rattle.std.proofs.Common.{rules, ◌≡◌, ℕ, List, IfOk, sym, ap, subst, ◌∙◌}
+use Rattle.std.proofs.Common.{rules, ◌≡◌, ℕ, List, length, IfOk, sym, ap, subst, ◌∙◌, arith}
 use Rattle.hy_rows.specs.Spelling.{HasSlots, rows_of, list_at}
 use Rattle.hy_partition.proofs.snapshot.SnapshotRowSource.copy_rows.Goals as goal
 
@@ -9,7 +9,10 @@ scan_pages-requires g c =
       search rules,
       (
         subst P (sym pages) (c.segment.ensures.whole.tables.slots g.R.Row.SEGMENT g.R.Row.BYTES g.met.R.Row.is_table),
-        (c.segment.ensures.whole.size.smallest, c.segment.ensures.whole.size.largest),
+        (
+          omega (arith, ap length pages, c.segment.ensures.whole.few g.R.Row.SEGMENT),
+          (c.segment.ensures.whole.size.smallest, c.segment.ensures.whole.size.largest),
+        ),
       ),
     )
 

@@ -8,7 +8,7 @@ use Rattle.hy_redo.proofs.log.Log.write_batch.Goals as goal
 
 pub returns-then-has_failed-2 : goal.returns-then-has_failed-2
 returns-then-has_failed-2 g c =
-    let lists = g.L.Lists.lists c.args.lists.now in
+    let lists = c.args.batch.now in
     let well = sym c.has_failed.ensures ∙ c.if-has_failed.false in
     let start = c.clear.new.self in
     let end = c.sync.new.self in

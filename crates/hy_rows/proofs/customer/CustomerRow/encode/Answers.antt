@@ -7,6 +7,7 @@ use Rattle.hy_rows.specs.Texts.{padded}
 use Rattle.hy_rows.specs.declared.catalogue.Table.TheVariants as tables
 use Rattle.hy_rows.proofs.ColumnLaws.{append-concat, append-number, append-pushed}
 use Rattle.hy_rows.proofs.RowLaws.{length-row_bytes, values_in-row_bytes}
+use Rattle.hy_rows.proofs.PartLaws.{values_in-part}
 use Rattle.hy_rows.proofs.customer.CustomerRow.encode.Goals as goal
 
 -- the columns were pushed one after another
