@@ -42,7 +42,7 @@ grows-then : (old mid new : List (List ℕ)) → GrowsSlots old mid → GrowsSlo
 grows-then old mid new first second = record {
   joined = (
     first.joined.0 ++ second.joined.0,
-    second.joined.1 ∙ ap (λ bytes. bytes ++ second.joined.0) first.joined.1 ∙ append_assoc (slot_bytes old) first.joined.0 second.joined.0
+    second.joined.1 ∙ ap (λ bytes. bytes ++ second.joined.0) first.joined.1 ∙ append_assoc (slot_bytes old) first.joined.0 second.joined.0,
   );
   used = second.used ∙ first.used;
   pages = omega (arith, first.pages, second.pages);

@@ -72,11 +72,11 @@ pub start-apart : (n width j k : ℕ) → least_page ≤ n → j < k → slot_st
 start-apart n width j k size before = elim (cases_Bool (is_spanned width)) [
   | inl is ↦ omega (arith, start-spanned n width j is, start-spanned n width k is, slots_apart width j k before)
   | inr isnt ↦ omega (
-      arith,
-      start-unspanned n width j isnt,
-      start-unspanned n width k isnt,
-      place-apart n width j k (unspanned-room n width size isnt) before,
-    )
+    arith,
+    start-unspanned n width j isnt,
+    start-unspanned n width k isnt,
+    place-apart n width j k (unspanned-room n width size isnt) before,
+  )
 ]
 
 -- each of the first slots ends where they end, or before

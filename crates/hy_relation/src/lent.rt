@@ -45,7 +45,10 @@ fn copy_on<R: Row, const N: usize>(pages: &[Hold<N>], slot: u64) -> SlotBytes
     let mut offset = at.offset;
     while bytes.len() < 1 + R::BYTES {
         let count = (1 + R::BYTES - bytes.len()).min(N - offset);
-        push_part(&mut bytes, &pages[page].page().bytes()[offset..offset + count]);
+        push_part(
+            &mut bytes,
+            &pages[page].page().bytes()[offset..offset + count],
+        );
         page += 1;
         offset = 0;
     }

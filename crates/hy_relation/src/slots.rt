@@ -87,7 +87,10 @@ fn copy_of<R: Row, const N: usize>(
     let mut offset = at.offset;
     while bytes.len() < total {
         let count = (total - bytes.len()).min(N - offset);
-        push_part(&mut bytes, &space.page(R::SEGMENT, page).bytes()[offset..offset + count]);
+        push_part(
+            &mut bytes,
+            &space.page(R::SEGMENT, page).bytes()[offset..offset + count],
+        );
         page += 1;
         offset = 0;
     }

@@ -121,8 +121,8 @@ pub fn put_part<R: Lasting, P: Part<R>, const N: usize>(
     requires there { place < length (R.rows_in (stored_in N space.old).tables) }
     ensures put { OnOk result ((row : R) → slice_get (R.rows_in (stored_in N space.old).tables) place ≡ Some row
         → ChangesStore N space.old space.new (λ old. record old {
-      tables = R.with_rows old.tables (slice_set (R.rows_in old.tables) place (P.with_part row part.now));
-    })) }
+          tables = R.with_rows old.tables (slice_set (R.rows_in old.tables) place (P.with_part row part.now));
+        })) }
     ensures writes { WritesStore N space.old space.new undo.old undo.new }
     ensures no_frame { IsErrOf result Shortage.NoFrame → IsOutOfFrames space.new }
 {

@@ -47,9 +47,19 @@ write_across-written-requires g c =
     let count : page_count old segment * n ≡ n + (length pages - 1) * n = ap (λ (p : ℕ). p * n) (sym (length-segment-owner_bytes old segment)) ∙ times-first n (length pages) some in
     let bytes : length (slot_bytes pages) ≡ (length pages - 1) * n = length-slot_bytes n pages (pages_sized n segment old c.sound.ensures some) in
     let within : c.address_behind-at.result.page * n + c.address_behind-at.result.offset + length c.args.bytes.now ≤ page_count old segment * n =
-    omega (arith, place, count, bytes, c.requires.there, c.requires.within) in
-    (search rules, (search rules, (subst (λ (s : ℕ). s < length old.owner) (sym c.SEGMENT.ensures) there.0, (c.address_behind-at.ensures.within,
-    (subst (λ (s : ℕ). c.address_behind-at.result.page * n + c.address_behind-at.result.offset + length c.args.bytes.now ≤ page_count old s * n) (sym c.SEGMENT.ensures) within, search rules)))))
+    omega (arith, place, count, bytes, c.requires.there, c.requires.within) in (
+      search rules,
+      (
+        search rules,
+        (
+          subst (λ (s : ℕ). s < length old.owner) (sym c.SEGMENT.ensures) there.0,
+          (
+            c.address_behind-at.ensures.within,
+            (subst (λ (s : ℕ). c.address_behind-at.result.page * n + c.address_behind-at.result.offset + length c.args.bytes.now ≤ page_count old s * n) (sym c.SEGMENT.ensures) within, search rules),
+          ),
+        ),
+      ),
+    )
 
 pub returns-clause-can_undo : goal.returns-clause-can_undo
 returns-clause-can_undo g c =

@@ -22,9 +22,16 @@ has_page n s segment page offset count there some within =
 
 pub write_part-requires : goal.write_part-requires
 write_part-requires g t c =
-    let some : 0 < length c.args.bytes.now = grind (arith, nat_tests) in
-    (omega arith, (omega arith, (has_page g.row.N c.args.space.now c.args.segment c.args.page c.args.offset (length c.args.bytes.now) c.requires.segment some c.requires.within,
-    (omega (arith, c.requires.offset, c.if-bytes-room.true), c.requires.undo_log))))
+    let some : 0 < length c.args.bytes.now = grind (arith, nat_tests) in (
+      omega arith,
+      (
+        omega arith,
+        (
+          has_page g.row.N c.args.space.now c.args.segment c.args.page c.args.offset (length c.args.bytes.now) c.requires.segment some c.requires.within,
+          (omega (arith, c.requires.offset, c.if-bytes-room.true), c.requires.undo_log),
+        ),
+      ),
+    )
 
 pub returns-then-bytes-room-clause-can_undo : goal.returns-then-bytes-room-clause-can_undo
 returns-then-bytes-room-clause-can_undo g t c =

@@ -13,10 +13,19 @@ write_slot-requires g c =
     let width : ℕ = g.R.Row.BYTES in
     let pages : List (List ℕ) = owner_pages c.args.space.now g.R.Row.SEGMENT in
     let used : c.args.slot < used_slots pages = live-used n width g.R.Row.row_of_bytes pages c.args.slot c.requires.live in
-    let sound = c.sound.ensures in
-    (omega arith, (omega arith, (used-within n width pages c.args.slot sound.size.smallest c.requires.slots used,
-    (omega (arith, end-before n width c.args.slot sound.size.smallest, start-within n width c.args.slot (used_slots pages) sound.size.smallest used, c.know_few.ensures.ends),
-    (omega arith, c.requires.undo_log)))))
+    let sound = c.sound.ensures in (
+      omega arith,
+      (
+        omega arith,
+        (
+          used-within n width pages c.args.slot sound.size.smallest c.requires.slots used,
+          (
+            omega (arith, end-before n width c.args.slot sound.size.smallest, start-within n width c.args.slot (used_slots pages) sound.size.smallest used, c.know_few.ensures.ends),
+            (omega arith, c.requires.undo_log),
+          ),
+        ),
+      ),
+    )
 
 pub returns-clause-erased : goal.returns-clause-erased
 returns-clause-erased g c = on_ok_weaker c.write_slot.result (λ written.

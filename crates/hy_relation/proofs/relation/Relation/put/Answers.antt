@@ -15,10 +15,19 @@ write_slot-requires g c =
     let pages : List (List ℕ) = owner_pages c.args.space.now g.R.Row.SEGMENT in
     let used : c.args.slot < used_slots pages = live-used n width g.R.Row.row_of_bytes pages c.args.slot c.requires.live in
     let size : length c.as_slice.result.now ≡ slot_width width = ap length (c.as_slice.ensures.value ∙ c.live_slot-other.ensures.bytes) ∙ omega (arith, c.live_slot-other.ensures.width) in
-    let sound = c.sound.ensures in
-    (omega arith, (omega arith, (used-within n width pages c.args.slot sound.size.smallest c.requires.slots used,
-    (omega (arith, end-before n width c.args.slot sound.size.smallest, start-within n width c.args.slot (used_slots pages) sound.size.smallest used, c.know_few.ensures.ends),
-    (omega (arith, size), c.requires.undo_log)))))
+    let sound = c.sound.ensures in (
+      omega arith,
+      (
+        omega arith,
+        (
+          used-within n width pages c.args.slot sound.size.smallest c.requires.slots used,
+          (
+            omega (arith, end-before n width c.args.slot sound.size.smallest, start-within n width c.args.slot (used_slots pages) sound.size.smallest used, c.know_few.ensures.ends),
+            (omega (arith, size), c.requires.undo_log),
+          ),
+        ),
+      ),
+    )
 
 pub returns-clause-put : goal.returns-clause-put
 returns-clause-put g c = on_ok_weaker c.write_slot.result (λ raw.

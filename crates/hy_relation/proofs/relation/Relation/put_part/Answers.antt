@@ -15,10 +15,19 @@ write_slot-requires g c =
     let pages : List (List ℕ) = owner_pages c.args.space.now g.R.Row.SEGMENT in
     let used : c.args.slot < used_slots pages = live-used n width g.R.Row.row_of_bytes pages c.args.slot c.requires.live in
     let size : length c.as_slice.result.now ≡ g.P.Part.WIDTH = ap length (c.as_slice.ensures.value ∙ c.part_bytes-bytes.ensures.bytes) ∙ c.part_bytes-bytes.ensures.width in
-    let sound = c.sound.ensures in
-    (omega arith, (omega arith, (used-within n width pages c.args.slot sound.size.smallest c.requires.slots used,
-    (omega (arith, end-before n width c.args.slot sound.size.smallest, start-within n width c.args.slot (used_slots pages) sound.size.smallest used, c.know_few.ensures.ends),
-    (omega (arith, size, c.OFFSET.ensures, g.met.P.Part.inside), c.requires.undo_log)))))
+    let sound = c.sound.ensures in (
+      omega arith,
+      (
+        omega arith,
+        (
+          used-within n width pages c.args.slot sound.size.smallest c.requires.slots used,
+          (
+            omega (arith, end-before n width c.args.slot sound.size.smallest, start-within n width c.args.slot (used_slots pages) sound.size.smallest used, c.know_few.ensures.ends),
+            (omega (arith, size, c.OFFSET.ensures, g.met.P.Part.inside), c.requires.undo_log),
+          ),
+        ),
+      ),
+    )
 
 pub returns-clause-slots : goal.returns-clause-slots
 returns-clause-slots g c = on_ok_weaker c.write_slot.result (λ written.
