@@ -5,6 +5,7 @@ use Rattle.hy_space.specs.Space.{SpaceState, IsUnchanged, KeepsOwn, SameForOwner
 use Rattle.hy_space.proofs.TableLaws.{same_bytes}
 use Rattle.hy_undo.specs.UndoLog.{UndoLog, empty_log, undone}
 use Rattle.hy_undo.specs.PrivatePages.{GivesUpPages, IsUndoLog}
+use Rattle.hy_undo.specs.Writes.{CanUndoGrowth}
 use Rattle.hy_undo.proofs.PrivatePageLaws.{IsUndoLog-kept, KeepsPages-unseen, length-segment-owner_bytes}
 use Rattle.hy_undo.proofs.RollBackLaws.{undone-empty_log}
 use Rattle.hy_nodes.specs.Writes.{WritesSegment}
@@ -43,6 +44,21 @@ module _ {Key : Type 0} {width : ℕ} {bytes_of_key : Key → List ℕ} {key_of_
     counts = undo_log.segments ∙ segments;
     now = stored;
     begin = subst (AreStored width bytes_of_key key_of_bytes IsKey n) (sym same) stored;
+  }
+
+  -- a row was added to the table
+  pub pushed : (old new : SpaceState) (before after : UndoLog) (writes most : ℕ)
+      → IsStore width bytes_of_key key_of_bytes IsKey n old before → HasSlots n 6 (list_at (owner_bytes new) 4)
+      → ChangesSegment (owner_bytes old) (owner_bytes new) 4 → CanUndoGrowth n writes most old new before after
+      → IsStore width bytes_of_key key_of_bytes IsKey n new after
+  pushed old new before after writes most store slots only can = record {
+    undo_log = can.undo_log;
+    counts = ap length can.counts ∙ store.counts;
+    now = record {
+      relation = slots;
+      index = subst (IsIndex n width bytes_of_key key_of_bytes IsKey) (sym (only.others 8 (λ same. absurd (omega (arith, same))))) store.now.index;
+    };
+    begin = subst (AreStored width bytes_of_key key_of_bytes IsKey n) (sym can.undone) store.begin;
   }
 
   -- an index that was made beside a table
