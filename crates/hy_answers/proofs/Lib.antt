@@ -5,6 +5,7 @@ pub mod ListLaws
 pub mod ResultLaws
 pub mod OrderLaws
 pub mod SortLaws
+pub mod OwnedLaws
 pub mod RankLaws
 pub mod CheckLaws
 pub mod JoinLaws

@@ -7,6 +7,7 @@ pub mod Joins
 pub mod Names
 pub mod Numbers
 pub mod Orders
+pub mod Owned
 pub mod Reading
 pub mod Rows
 pub mod Sources

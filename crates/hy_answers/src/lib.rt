@@ -8,6 +8,7 @@ mod groups;
 mod items;
 mod joins;
 mod names;
+mod owned;
 mod reading;
 mod rows;
 mod sorting;

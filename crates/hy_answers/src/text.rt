@@ -8,7 +8,7 @@ use itoa::Buffer;
 use std::alloc::{AllocError, Global};
 
 /// The text of an answer: a record for each row, and then how many rows there are.
-pub fn text_of(alloc: Global, answer: &Answer<'_>) -> Result<Vec<u8>, AllocError>
+pub fn text_of(alloc: Global, answer: &Answer) -> Result<Vec<u8>, AllocError>
     ensures { IfOk result (λ text. text.items ≡ answer_text answer.now) }
 {
     let mut digits = Buffer::new();

@@ -7,7 +7,7 @@ ghost use Rattle.hy_answers.specs.Texts.{field_of, record_text};
 ghost use Rattle.hy_answers.specs.inside.Answers.{row_at, rows_in};
 ghost use Rattle.hy_answers.specs.inside.Writers.{HasFields};
 
-use crate::items::{ItemValues, value_or_zero};
+use crate::owned::OwnedValues;
 use csv::{Writer, WriterBuilder};
 use hy_query::Value;
 use itoa::Buffer;
@@ -52,14 +52,14 @@ fn write_value(writer: &mut Writer<Vec<u8>>, value: &Value<'_>) -> Result<(), Al
 /// Writes a row as a record.
 fn write_row(
     writer: &mut Writer<Vec<u8>>,
-    columns: &[ItemValues<'_>],
+    columns: &[OwnedValues],
     row: usize,
 ) -> Result<(), AllocError>
     ensures { OnOk result ((text : List ℕ) → HasFields text [] writer.old
         → HasFields (text ++ record_text (row_at columns.now row)) [] writer.new) }
 {
     for column in columns {
-        write_value(writer, &value_or_zero(column.as_slice(), row))?;
+        write_value(writer, &column.value(row))?;
     }
     end_record(writer)
 }
@@ -67,7 +67,7 @@ fn write_row(
 /// Writes rows as records, in some order.
 fn write_rows(
     writer: &mut Writer<Vec<u8>>,
-    columns: &[ItemValues<'_>],
+    columns: &[OwnedValues],
     order: &[usize],
 ) -> Result<(), AllocError>
     ensures { OnOk result ((text : List ℕ) → HasFields text [] writer.old
@@ -82,7 +82,7 @@ fn write_rows(
 /// The text of rows in some order, a record for each.
 pub(crate) fn records(
     alloc: Global,
-    columns: &[ItemValues<'_>],
+    columns: &[OwnedValues],
     order: &[usize],
 ) -> Result<Vec<u8>, AllocError>
     ensures { IfOk result

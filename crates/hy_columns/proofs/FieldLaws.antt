@@ -1,8 +1,8 @@
 -- The fields of a row, by the places of its columns.
-use Rattle.std.proofs.Common.{◌≡◌, ◌≢◌, ℕ, zero, suc, ◌+◌, ◌<◌, ◌≤◌, ◌==◌, ◌||◌, Bool, true, false, Option, Some, None, IsTrue, List, [], ◌∷◌, length, map, take, option_map, refl, sym, ap, ◌∙◌, ◌^◌, arith}
+use Rattle.std.proofs.Common.{◌≡◌, ◌≢◌, ℕ, zero, suc, ◌+◌, ◌<◌, ◌≤◌, ◌==◌, ◌||◌, Bool, true, false, Option, Some, None, IsTrue, List, [], ◌∷◌, length, map, take, option_map, refl, sym, ap, ◌∙◌, ◌^◌, ◌⊎◌, inl, inr, arith}
 use Rattle.std.specs.List.{list_all}
 use Rattle.std.specs.Prelude.{slice_get, slice_index_or}
-use Rattle.std.proofs.lemmas.Bool.{and_parts, eqb-true, ne_eqb}
+use Rattle.std.proofs.lemmas.Bool.{and_parts, cases_lt, eqb-true, false≢true, ne_eqb}
 use Rattle.std.proofs.lemmas.List.{length-map, take-map}
 use Rattle.std.proofs.lemmas.Option.{slice_get-get_or, slice_get-map}
 use Rattle.hy_rows.specs.Catalogue.{columns_of}
@@ -134,3 +134,14 @@ width-eight width read one two four =
     or_false : (test : Bool) → test ≡ (test || false)
     or_false true = refl
     or_false false = refl
+
+-- each width is of a few bytes
+pub width-few : (width : ℕ) → IsTrue (is_width width) → (0 < width) × (width ≤ 8)
+width-few zero read = absurd (false≢true read)
+width-few (suc less) read = (omega arith, most (cases_lt 8 (suc less)))
+  where
+    most : (8 < suc less) ⊎ (suc less ≤ 8) → suc less ≤ 8
+    most (inl more) =
+        let eight = width-eight (suc less) read (λ is. omega (arith, more, is)) (λ is. omega (arith, more, is)) (λ is. omega (arith, more, is)) in
+        absurd (omega (arith, more, eight))
+    most (inr few) = few

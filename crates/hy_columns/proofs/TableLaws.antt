@@ -84,7 +84,7 @@ length-read_all n segment read (snapshot ∷ later) =
     ∙ sym (length-append (rows_of_pages n segment.row_bytes whole_row pages) (read_all n segment whole_row later))
 
 -- what is read of the rows that were read of the bytes of rows is read of these
-map-read_all : {One Read : Type 0} (n : ℕ) (segment : Segment) (read : One → Read) (row_of : List ℕ → One)
+pub map-read_all : {One Read : Type 0} (n : ℕ) (segment : Segment) (read : One → Read) (row_of : List ℕ → One)
     → (read_of : List ℕ → Read) → ((bytes : List ℕ) → read (row_of bytes) ≡ read_of bytes)
     → (snapshots : List SnapshotState)
     → map read (read_all n segment row_of snapshots) ≡ read_all n segment read_of snapshots

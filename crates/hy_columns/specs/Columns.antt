@@ -12,6 +12,7 @@ abbrev pub values_of : ColumnValues → List Value
 values_of (columns.Numbers numbers) = map (λ number. Whole (pos number)) numbers.items
 values_of (columns.Signed numbers) = map Whole numbers.items
 values_of (columns.Texts texts) = map (λ text. Text text.now) texts.items
+values_of (columns.CopiedTexts texts) = map Text texts
 
 -- those at a place of some rows
 abbrev pub column_at : ℕ → List Row → List Value

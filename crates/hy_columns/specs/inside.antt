@@ -2,3 +2,6 @@
 pub mod Fields
 pub mod Pages
 pub mod Snapshots
+pub mod Spanned
+pub mod Texts
+pub mod WorkedSpanned

@@ -1,8 +1,8 @@
 //! The values of a column.
 
-ghost use Rattle.std.specs.Prelude.{◌≡◌, ◌+◌, ◌≤◌, IfOk, IsSome, IsTrue, map, pos};
+ghost use Rattle.std.specs.Prelude.{◌≡◌, ◌+◌, ◌≤◌, false, true, IfOk, IsSome, IsTrue, map, pos};
 ghost use Rattle.hy_rows.specs.Columns.{domain_of, number_at};
-ghost use Rattle.hy_rows.specs.Spelling.{IsTable};
+ghost use Rattle.hy_rows.specs.Spelling.{IsTable, is_spanned};
 ghost use Rattle.hy_rows.specs.declared.value.Value.TheVariants.{Whole};
 ghost use Rattle.hy_query.specs.Columns.{kind_of};
 ghost use Rattle.hy_query.specs.Rows.{rows_of};
@@ -14,7 +14,7 @@ ghost use Rattle.hy_columns.specs.inside.Snapshots.{read_all};
 use crate::decode::{Padded, Signed, Unsigned};
 use crate::fields::{Field, Segment, field_at, segment_of};
 use crate::items::item_values;
-use crate::reading::{items_of, read_all};
+use crate::reading::{copy_all_texts, items_of, read_all, read_all_numbers};
 use crate::values::ColumnValues;
 use hy_forks::SnapshotAll;
 use hy_query::Column;
@@ -53,6 +53,57 @@ fn page_values<'a, const N: usize>(
     requires read { IsTrue (is_read (domain_of field.domain)) }
     ensures { IfOk result (λ found. values_of found ≡ read_all N segment (value_in field) all.now) }
 {
+    if segment.is_spanned() {
+        spanned_values(alloc, all, segment, field)
+    } else {
+        unspanned_values(alloc, all, segment, field)
+    }
+}
+
+/// Those in slots that are spanned: texts are copied.
+fn spanned_values<'a, const N: usize>(
+    alloc: Global,
+    all: &SnapshotAll<N>,
+    segment: Segment,
+    field: Field,
+) -> Result<ColumnValues<'a>, AllocError>
+    requires table { IsTable segment.number segment.row_bytes }
+    requires spanned { is_spanned segment.row_bytes ≡ true }
+    requires fits { end_of field ≤ segment.row_bytes }
+    requires read { IsTrue (is_read (domain_of field.domain)) }
+    ensures { IfOk result (λ found. values_of found ≡ read_all N segment (value_in field) all.now) }
+{
+    let offset = field.offset;
+    let values = match field.domain {
+        Domain::Unsigned { width, .. } => {
+            ColumnValues::Numbers(read_all_numbers(alloc, all, segment, offset, width)?)
+        }
+        Domain::Signed { .. } => {
+            ColumnValues::Signed(read_all_numbers(alloc, all, segment, offset, 8)?)
+        }
+        Domain::Text { width } => {
+            ColumnValues::CopiedTexts(copy_all_texts(alloc, all, segment, offset, width)?)
+        }
+        Domain::OneOf { width, .. } => {
+            ColumnValues::CopiedTexts(copy_all_texts(alloc, all, segment, offset, width)?)
+        }
+    };
+    Ok(values)
+}
+
+/// Those in slots that aren't: texts are lent.
+fn unspanned_values<'a, const N: usize>(
+    alloc: Global,
+    all: &'a SnapshotAll<N>,
+    segment: Segment,
+    field: Field,
+) -> Result<ColumnValues<'a>, AllocError>
+    requires table { IsTable segment.number segment.row_bytes }
+    requires unspanned { is_spanned segment.row_bytes ≡ false }
+    requires fits { end_of field ≤ segment.row_bytes }
+    requires read { IsTrue (is_read (domain_of field.domain)) }
+    ensures { IfOk result (λ found. values_of found ≡ read_all N segment (value_in field) all.now) }
+{
     let offset = field.offset;
     let values = match field.domain {
         Domain::Unsigned { width, .. } => {
@@ -80,6 +131,7 @@ fn numbers<const N: usize>(
     width: usize,
 ) -> Result<Vec<u64>, AllocError>
     requires table { IsTable segment.number segment.row_bytes }
+    requires unspanned { is_spanned segment.row_bytes ≡ false }
     requires fits { offset + width ≤ segment.row_bytes }
     requires read { IsTrue (is_width width) }
     ensures { IfOk result (λ numbers. map (λ number. Whole (pos number)) numbers.items

@@ -98,7 +98,7 @@ impl<'a> Decode<'a> for Padded {
 }
 
 /// The text that a field holds: what stands before its first zero byte.
-fn text_in(field: &[u8]) -> &[u8]
+pub(crate) fn text_in(field: &[u8]) -> &[u8]
     ensures { result.now ≡ text_of field.now }
 {
     let len = field

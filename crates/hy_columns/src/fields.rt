@@ -2,9 +2,13 @@
 
 ghost use Rattle.std.specs.Prelude.{◌≡◌, ◌<◌, length};
 ghost use Rattle.hy_rows.specs.Catalogue.{columns_of};
+ghost use Rattle.hy_rows.specs.Spelling.{is_spanned};
 ghost use Rattle.hy_columns.specs.inside.Fields.{IsField, segment_of};
 
 use hy_rows::{Domain, Table, row_width};
+
+/// No page has fewer bytes.
+const LEAST_PAGE: usize = 256;
 
 /// Where a column lies in the bytes of a row, and which values stand there.
 #[derive(Clone, Copy)]
@@ -34,6 +38,15 @@ pub(crate) struct Segment {
     pub(crate) number: u32,
     /// How many bytes a row has.
     pub(crate) row_bytes: usize,
+}
+
+impl Segment {
+    /// Whether its slots are spanned, over the ends of pages.
+    pub(crate) fn is_spanned(self) -> bool
+        ensures { result ≡ is_spanned self.row_bytes }
+    {
+        self.row_bytes >= LEAST_PAGE
+    }
 }
 
 /// The segment of a table; none of ITEM, which no pages hold.

@@ -6,11 +6,15 @@ mod count;
 mod decode;
 mod fields;
 mod items;
+mod joined;
 mod pages;
 mod reading;
+mod spanned;
+mod texts;
 mod values;
 
 pub use column::column_of;
 pub use count::count_of;
 pub use hy_forks::SnapshotAll;
+pub use texts::CopiedTexts;
 pub use values::ColumnValues;

@@ -9,7 +9,7 @@ use hy_frames::Hold;
 use std::alloc::AllocError;
 
 /// Whether a slot has a row.
-fn is_live(slot: &[u8]) -> bool
+pub(crate) fn is_live(slot: &[u8]) -> bool
     requires { 0 < length slot.now }
     ensures { result ≡ is_live slot.now }
 {
@@ -57,7 +57,7 @@ fn read_page<'a, D: Decode<'a>>(
 }
 
 /// Each page has all its bytes.
-fn know_sizes<const N: usize>(pages: &[Hold<N>])
+pub(crate) fn know_sizes<const N: usize>(pages: &[Hold<N>])
     ensures { All (λ page. length page ≡ N) pages.now }
 {
     for page in pages {
@@ -66,7 +66,7 @@ fn know_sizes<const N: usize>(pages: &[Hold<N>])
 }
 
 /// How many slots of a segment are used.
-fn used_on<const N: usize>(pages: &[Hold<N>]) -> usize
+pub(crate) fn used_on<const N: usize>(pages: &[Hold<N>]) -> usize
     requires some { 0 < length pages.now }
     requires size { 256 ≤ N }
     requires small { N ≤ 65536 }

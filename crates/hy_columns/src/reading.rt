@@ -1,15 +1,19 @@
 //! The rows of a table in the snapshots of all warehouses, one behind another.
 
-ghost use Rattle.std.specs.Prelude.{◌≡◌, ◌^◌, ◌<◌, ◌≤◌, false, IfOk, length, map};
+ghost use Rattle.std.specs.Prelude.{◌≡◌, ◌+◌, ◌^◌, ◌<◌, ◌≤◌, false, true, IfOk, IsTrue, length, map};
+ghost use Rattle.hy_rows.specs.Columns.{number_at, text_at};
 ghost use Rattle.hy_rows.specs.Spelling.{HasSlots, IsTable, is_spanned, list_at, rows_of};
 ghost use Rattle.hy_forks.specs.Snapshots.{IsWhole};
 ghost use Rattle.hy_columns.specs.Snapshots.{items_of};
+ghost use Rattle.hy_columns.specs.inside.Fields.{is_width};
 ghost use Rattle.hy_columns.specs.inside.Pages.{whole_row};
 ghost use Rattle.hy_columns.specs.inside.Snapshots.{read_all};
 
 use crate::decode::Decode;
 use crate::fields::Segment;
 use crate::pages::{count_pages, read_pages};
+use crate::spanned::{FromBits, SpannedColumn, copy_texts, count_spanned, read_numbers};
+use crate::texts::CopiedTexts;
 use hy_forks::{Snapshot, SnapshotAll};
 use hy_frames::Hold;
 use hy_rows::Item;
@@ -20,13 +24,13 @@ fn pages_of<const N: usize>(snapshot: &Snapshot<N>, segment: Segment) -> &[Hold<
     requires { IsTable segment.number segment.row_bytes }
     ensures pages { result.now ≡ list_at snapshot.now.bytes segment.number }
     ensures slots { HasSlots N segment.row_bytes result.now }
-    ensures unspanned { is_spanned segment.row_bytes ≡ false }
+    ensures few { length result.now < 2 ^ 32 }
     ensures whole { IsWhole N snapshot.now.bytes }
 {
     snapshot.segment(segment.number)
 }
 
-/// The values of a column in the rows of all snapshots. Only memory can lack.
+/// The values of a column in the rows of all snapshots, whose slots aren't spanned. Only memory can lack.
 pub(crate) fn read_all<'a, D: Decode<'a>, const N: usize>(
     alloc: Global,
     all: &'a SnapshotAll<N>,
@@ -34,6 +38,7 @@ pub(crate) fn read_all<'a, D: Decode<'a>, const N: usize>(
     column: D,
 ) -> Result<Vec<D::Output>, AllocError>
     requires table { IsTable segment.number segment.row_bytes }
+    requires unspanned { is_spanned segment.row_bytes ≡ false }
     requires fits { D.fits column segment.row_bytes }
     ensures { IfOk result (λ values. map D.value_of values.items
         ≡ read_all N segment (D.value_in column) all.now) }
@@ -44,6 +49,58 @@ pub(crate) fn read_all<'a, D: Decode<'a>, const N: usize>(
         read_pages(&column, pages, segment.row_bytes, &mut values)?;
     }
     Ok(values)
+}
+
+/// The numbers at an offset of the rows of all snapshots, whose slots are spanned. Only memory can lack.
+pub(crate) fn read_all_numbers<B: FromBits, const N: usize>(
+    alloc: Global,
+    all: &SnapshotAll<N>,
+    segment: Segment,
+    offset: usize,
+    width: usize,
+) -> Result<Vec<B>, AllocError>
+    requires table { IsTable segment.number segment.row_bytes }
+    requires spanned { is_spanned segment.row_bytes ≡ true }
+    requires fits { offset + width ≤ segment.row_bytes }
+    requires width { IsTrue (is_width width) }
+    ensures { IfOk result (λ numbers. map B.value_of numbers.items
+        ≡ read_all N segment (λ row. B.value_of_bits (number_at row offset width)) all.now) }
+{
+    let column = SpannedColumn {
+        segment,
+        offset,
+        width,
+    };
+    let mut numbers = Vec::new(alloc);
+    for place in 0..all.len() {
+        read_numbers(column, pages_of(all.part(place), segment), &mut numbers)?;
+    }
+    Ok(numbers)
+}
+
+/// Copies of the texts at an offset of the rows of all snapshots, whose slots are spanned. Only memory can lack.
+pub(crate) fn copy_all_texts<const N: usize>(
+    alloc: Global,
+    all: &SnapshotAll<N>,
+    segment: Segment,
+    offset: usize,
+    width: usize,
+) -> Result<CopiedTexts, AllocError>
+    requires table { IsTable segment.number segment.row_bytes }
+    requires spanned { is_spanned segment.row_bytes ≡ true }
+    requires fits { offset + width ≤ segment.row_bytes }
+    ensures { IfOk result (λ texts. texts ≡ read_all N segment (λ row. text_at row offset width) all.now) }
+{
+    let column = SpannedColumn {
+        segment,
+        offset,
+        width,
+    };
+    let mut texts = CopiedTexts::new(alloc);
+    for place in 0..all.len() {
+        copy_texts(column, pages_of(all.part(place), segment), &mut texts)?;
+    }
+    Ok(texts)
 }
 
 /// How many rows all snapshots have.
@@ -66,7 +123,12 @@ fn count_in<const N: usize>(snapshot: &Snapshot<N>, segment: Segment) -> usize
         (list_at snapshot.now.bytes segment.number)) }
     ensures few { result < 2 ^ 56 }
 {
-    count_pages(pages_of(snapshot, segment), segment.row_bytes)
+    let pages = pages_of(snapshot, segment);
+    if segment.is_spanned() {
+        count_spanned(segment.row_bytes, pages)
+    } else {
+        count_pages(pages, segment.row_bytes)
+    }
 }
 
 /// The items, which all warehouses share; none where there is no snapshot.

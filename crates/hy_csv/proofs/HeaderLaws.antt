@@ -1,7 +1,7 @@
 -- The test of a header.
-use Rattle.std.proofs.Common.{◌≡◌, ◌≢◌, ◌∙◌, ◌∷◌, ◌&&◌, ◌+◌, ◌<◌, [], ℕ, zero, suc, List, length, map, drop, get_or, Bool, true, false, Option, Some, None, Bor, arith, refl, sym, ap}
+use Rattle.std.proofs.Common.{◌≡◌, ◌≢◌, ◌∙◌, ◌∷◌, ◌&&◌, ◌+◌, ◌-◌, ◌<◌, [], ℕ, zero, suc, List, length, map, drop, get_or, Bool, true, false, Option, Some, None, Bor, arith, refl, sym, ap}
 use Rattle.std.proofs.lemmas.Bool.{and_right}
-use Rattle.std.proofs.lemmas.List.{length-map}
+use Rattle.std.proofs.lemmas.List.{append-nil, length-map}
 use Rattle.std.specs.Prelude.{unwrap_or, option_map, bytes_eq}
 use Rattle.std.specs.Option.{option_eq}
 use Rattle.csv.specs.Records.{field_at}
@@ -9,8 +9,11 @@ use Rattle.hy_rows.specs.Catalogue.{columns_of, names_of}
 use Rattle.hy_rows.specs.Columns.{defined}
 use Rattle.hy_rows.specs.declared.catalogue.Table.{Table}
 use Rattle.hy_rows.specs.declared.column.ColumnDefinition.{ColumnDefinition}
-use Rattle.hy_csv.specs.Texts.{has_fields}
+use Rattle.hy_rows.specs.declared.value.Value.{Value}
+use Rattle.hy_csv.specs.Fields.{row_lacking, row_of}
+use Rattle.hy_csv.specs.Texts.{has_fields, is_header, row_under}
 use Rattle.hy_csv.specs.inside.Names.{names_in}
+use Rattle.hy_csv.proofs.RoundTripLaws.{own_fields}
 
 -- records of another length have other fields
 other_length : (fields names : List (List ℕ)) → length fields ≢ length names → has_fields fields names ≡ false
@@ -48,12 +51,16 @@ has_step (field ∷ fields) (column ∷ columns) (suc place) other got within ev
     let more : suc place + 1 ≡ suc (place + 1) = omega arith in
     rw more (has_step fields columns place other got (omega (arith, within)) (omega (arith, even)) is)
 
--- the test of a table's names
-pub of_table : (table : Table) (columns : List ColumnDefinition) (fields : List (List ℕ)) (result : Bool)
-    → map defined columns ≡ columns_of table → result ≡ has_fields fields (names_in columns)
-    → has_fields fields (names_of table) ≡ result
-of_table table columns fields result columns_are is =
-    sym (is ∙ ap (λ all. has_fields fields (map (λ column. column.name) all)) columns_are)
+-- the names of all columns are a header, under which a record lacks no field
+pub names-is_header : (table : Table) → is_header table (names_of table) ≡ true
+names-is_header table = rw (own_fields (names_of table)) refl
+
+pub row_under-names : {Row : Type 0} (table : Table) (row_with : List Value → Row) (fields : List (List ℕ))
+    → row_under table row_with (names_of table) fields ≡ row_of table row_with fields
+row_under-names table row_with fields =
+    let none : length (columns_of table) - length (names_of table) ≡ 0 =
+    omega (arith, length-map (columns_of table) (λ column. column.name)) in
+    ap (λ lacking. row_lacking table row_with lacking fields) none ∙ ap (row_of table row_with) (append-nil fields)
 
 pub and_true : (first second : Bool) → first ≡ true → (first && second) ≡ second
 and_true first second passes = rw passes refl

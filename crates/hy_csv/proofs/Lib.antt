@@ -2,6 +2,7 @@ pub mod RecordLaws
 pub mod HeaderLaws
 pub mod ReadingLaws
 pub mod FieldLaws
+pub mod LackingLaws
 pub mod TableLaws
 pub mod RowLaws
 pub mod InRangeLaws

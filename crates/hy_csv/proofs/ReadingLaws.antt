@@ -1,12 +1,12 @@
 -- The rows of a text, as far as they were read.
-use Rattle.std.proofs.Common.{◌≡◌, ◌+◌, ◌∙◌, ◌++◌, ◌∷◌, [], ℕ, suc, List, length, true, false, Bor, Option, Some, None, Result, Ok, Err, IfOk, inr, arith, refl, sym, ap, append_assoc}
+use Rattle.std.proofs.Common.{◌≡◌, ◌+◌, ◌∙◌, ◌++◌, ◌∷◌, [], ℕ, suc, List, length, Bool, true, false, Bor, Option, Some, None, Result, Ok, Err, IfOk, inr, arith, refl, sym, ap, append_assoc}
 use Rattle.std.proofs.lemmas.Bool.{eq-eqb, ne_eqb}
 use Rattle.std.proofs.lemmas.List.{append-nil, length-append}
 use Rattle.csv.specs.Reading.{default_config, names_headers, reader_config, reader_headers, reader_state, reader_trim, records, source_of, strip_bom}
 use Rattle.csv.specs.declared.parser.State.TheVariants as st
 use Rattle.csv.specs.declared.reader.Reader.{Reader}
 use Rattle.csv.specs.declared.reader.Trim.TheVariants as trim
-use Rattle.hy_csv.specs.Texts.{has_fields, reading_of, rows_before, rows_of}
+use Rattle.hy_csv.specs.Texts.{reading_of, rows_before, rows_of}
 use Rattle.hy_csv.specs.inside.Readers.{StandsBefore, records_at}
 
 -- the records end behind the rows
@@ -58,20 +58,22 @@ made_stands reader text config trims headers none state source = record {
 }
 
 -- what the header leaves to be read
-pub header_right : {Row : Type 0} (names : List (List ℕ)) (row_of : List (List ℕ) → Option Row)
-    → (header : List (List ℕ)) (all later : List (List (List ℕ))) → all ≡ header ∷ later
-    → has_fields header names ≡ true
-    → rows_before (length later) (rows_of row_of later) ≡ reading_of names row_of all
-header_right names row_of header all later is right = rw (is, right) refl
+pub header_right : {Row : Type 0} (is_header : List (List ℕ) → Bool)
+    → (row_under : List (List ℕ) → List (List ℕ) → Option Row) (header : List (List ℕ))
+    → (all later : List (List (List ℕ))) → all ≡ header ∷ later → is_header header ≡ true
+    → rows_before (length later) (rows_of (row_under header) later) ≡ reading_of is_header row_under all
+header_right is_header row_under header all later is right = rw (is, right) refl
 
-pub header_wrong : {Row : Type 0} (names : List (List ℕ)) (row_of : List (List ℕ) → Option Row)
-    → (header : List (List ℕ)) (all later : List (List (List ℕ))) → all ≡ header ∷ later
-    → has_fields header names ≡ false → record { rows = []; unread = Some 0 } ≡ reading_of names row_of all
-header_wrong names row_of header all later is wrong = rw (is, wrong) refl
+pub header_wrong : {Row : Type 0} (is_header : List (List ℕ) → Bool)
+    → (row_under : List (List ℕ) → List (List ℕ) → Option Row) (header : List (List ℕ))
+    → (all later : List (List (List ℕ))) → all ≡ header ∷ later → is_header header ≡ false
+    → record { rows = []; unread = Some 0 } ≡ reading_of is_header row_under all
+header_wrong is_header row_under header all later is wrong = rw (is, wrong) refl
 
-pub header_none : {Row : Type 0} (names : List (List ℕ)) (row_of : List (List ℕ) → Option Row)
-    → (all : List (List (List ℕ))) → all ≡ [] → record { rows = []; unread = Some 0 } ≡ reading_of names row_of all
-header_none names row_of all none = rw none refl
+pub header_none : {Row : Type 0} (is_header : List (List ℕ) → Bool)
+    → (row_under : List (List ℕ) → List (List ℕ) → Option Row) (all : List (List (List ℕ))) → all ≡ []
+    → record { rows = []; unread = Some 0 } ≡ reading_of is_header row_under all
+header_none is_header row_under all none = rw none refl
 
 -- what holds of a value holds of it where there is one
 pub if_ok : {Value Error : Type 0} {Fact Other : Value → Type 0} (result : Result Value Error)

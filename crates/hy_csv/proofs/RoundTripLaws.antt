@@ -1,5 +1,5 @@
 -- The text of rows says these rows.
-use Rattle.std.proofs.Common.{◌≡◌, ◌+◌, ◌<◌, ◌≤◌, ◌∙◌, ◌++◌, ◌∷◌, [], ℕ, zero, suc, List, length, map, All, true, Option, Some, None, arith, refl, sym, ap, inl, inr}
+use Rattle.std.proofs.Common.{◌≡◌, ◌+◌, ◌<◌, ◌≤◌, ◌∙◌, ◌++◌, ◌∷◌, [], ℕ, zero, suc, List, length, map, All, Bool, true, Option, Some, None, arith, refl, sym, ap, inl, inr}
 use Rattle.std.specs.Prelude.{if◌then◌else◌}
 use Rattle.std.specs.List.{concat}
 use Rattle.std.proofs.lemmas.Bool.{and_from, cases_Bool, eq-eqb, ne_eqb}
@@ -81,7 +81,7 @@ rows_back fits fields_of row_of (row ∷ rows) all back =
     (λ place other within. all (suc place) other (omega (arith, within))) back))
 
 -- a record has its own fields
-own_fields : (fields : List (List ℕ)) → has_fields fields fields ≡ true
+pub own_fields : (fields : List (List ℕ)) → has_fields fields fields ≡ true
 own_fields [] = refl
 own_fields (field ∷ fields) = and_from _ _ ((bytes_eq-Decides field field).1 refl) (own_fields fields)
 
@@ -97,12 +97,13 @@ records_back names fields_of rows begins some =
     rw plain (read ∙ rw (begins_kept names begins, all_kept fields_of rows some) refl)
 
 pub rows-reads_back : {Row : Type 0} (fits : Row → Type 0) (names : List (List ℕ))
-    → (fields_of : Row → List (List ℕ)) (row_of : List (List ℕ) → Option Row) → BeginsPlain names
-    → ((row : Row) → 0 < length (fields_of row)) → ((row : Row) → fits row → row_of (fields_of row) ≡ Some row)
-    → (rows : List Row) → All fits rows
-    → reading names row_of (text_of_rows names fields_of rows) ≡ record { rows = rows; unread = None }
-rows-reads_back fits names fields_of row_of begins some back rows all =
+    → (fields_of : Row → List (List ℕ)) (is_header : List (List ℕ) → Bool)
+    → (row_under : List (List ℕ) → List (List ℕ) → Option Row) → BeginsPlain names → is_header names ≡ true
+    → ((row : Row) → 0 < length (fields_of row))
+    → ((row : Row) → fits row → row_under names (fields_of row) ≡ Some row) → (rows : List Row) → All fits rows
+    → reading is_header row_under (text_of_rows names fields_of rows) ≡ record { rows = rows; unread = None }
+rows-reads_back fits names fields_of is_header row_under begins header some back rows all =
     let found = records_back names fields_of rows begins some in
-    let same = rows_back fits fields_of row_of rows all back in
+    let same = rows_back fits fields_of (row_under names) rows all back in
     let count = eq-eqb (length rows) (length (map fields_of rows)) (sym (length-map rows fields_of)) in
-    rw (found, own_fields names, same, count) refl
+    rw (found, header, same, count) refl

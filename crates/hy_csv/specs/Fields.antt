@@ -1,5 +1,5 @@
 -- What a field says as a value of its column, the field that a value is written as, and which values fields can say.
-use Rattle.std.specs.Prelude.{◌==◌, ⊤, ℕ, ℤ, pos, negsuc, ◌^◌, ◌*◌, ◌<◌, Bool, ◌&&◌, nat_lt, nat_le, if◌then◌else◌, List, [], ◌∷◌, length, map, Option, Some, None, option_and_then, option_map, bytes_eq, FitsSigned}
+use Rattle.std.specs.Prelude.{◌==◌, ⊤, ℕ, ℤ, pos, negsuc, ◌^◌, ◌*◌, ◌<◌, Bool, ◌&&◌, nat_lt, nat_le, if◌then◌else◌, List, [], ◌∷◌, ◌++◌, length, map, replicate, Option, Some, None, option_and_then, option_map, bytes_eq, FitsSigned}
 use Rattle.std.specs.Fmt.{signed_decimal}
 use Rattle.std.specs.Int.{w64}
 use Rattle.std.specs.Str.Parse.{signed_digits_value}
@@ -54,6 +54,10 @@ abbrev pub row_of : {Row : Type 0} → Table → (List Value → Row) → List (
 row_of table row_with fields =
     if length fields == length (columns_of table)
     then option_map row_with (values_said (said_by fields) (columns_of table) 0) else None
+
+-- the same of a record that lacks so many fields at its end, which are empty
+abbrev pub row_lacking : {Row : Type 0} → Table → (List Value → Row) → ℕ → List (List ℕ) → Option Row
+row_lacking table row_with lacking fields = row_of table row_with (fields ++ replicate lacking [])
 
 -- the field that a value is written as
 abbrev pub field_of : Value → List ℕ

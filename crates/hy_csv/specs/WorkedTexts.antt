@@ -1,12 +1,10 @@
 -- Worked examples, which the checker computes: fields of each kind, and rows of each table as texts and back.
-use Rattle.std.specs.Prelude.{◌≡◌, ℕ, pos, negsuc, ◌++◌, List, [], ◌∷◌, Some, None, codes, refl}
+use Rattle.std.specs.Prelude.{◌≡◌, ℕ, pos, negsuc, ◌++◌, List, [], ◌∷◌, replicate, Some, None, codes, refl}
 use Rattle.std.specs.Fmt.{digits}
 use Rattle.csv.proofs.OnLiterals.{csv_on_literals}
 use Rattle.csv.specs.Records.{field_at}
 use Rattle.csv.specs.Writing.{escaped, fields_text, is_blank}
 use Rattle.hy_rows.specs.Rows.{customer_values, customer_with, district_values, district_with, history_values, history_with, item_values, item_with, new_order_values, new_order_with, order_line_values, order_line_with, order_values, order_with, stock_values, stock_with, warehouse_values, warehouse_with}
-use Rattle.hy_rows.specs.Catalogue.{names_of}
-use Rattle.hy_rows.specs.declared.catalogue.Table.{Table}
 use Rattle.hy_rows.specs.declared.catalogue.Table.TheVariants as tables
 use Rattle.hy_rows.specs.declared.customer.Customer.{Customer}
 use Rattle.hy_rows.specs.declared.district.District.{District}
@@ -19,7 +17,7 @@ use Rattle.hy_rows.specs.declared.stock.Stock.{Stock}
 use Rattle.hy_rows.specs.declared.warehouse.Warehouse.{Warehouse}
 use Rattle.hy_decimal.specs.Numbers.{number_of}
 use Rattle.hy_csv.specs.Fields.{signed_of, text_of}
-use Rattle.hy_csv.specs.Texts.{table_reading, table_text}
+use Rattle.hy_csv.specs.Texts.{Reading, table_reading, table_text}
 
 -- numbers
 pub greatest_byte : number_of 8 (codes "255") ≡ Some 255
@@ -132,17 +130,25 @@ pub district_read : table_reading tables.District district_with one_district_tex
 unfolding csv_on_literals number_of signed_of text_of digits field_at
 district_read = refl
 
--- CUSTOMER, behind the names of its columns
-abbrev joined : List (List ℕ) → List ℕ
-joined [] = codes "\n"
-joined (name ∷ []) = name ++ codes "\n"
-joined (name ∷ next ∷ names) = name ++ codes "," ++ joined (next ∷ names)
+-- CUSTOMER, whose files had no C_DATA at first
+abbrev names_at_first : List ℕ
+names_at_first =
+    codes "C_ID,C_D_ID,C_W_ID,C_FIRST,C_MIDDLE,C_LAST,C_CREDIT,C_DISCOUNT,C_BALANCE,C_YTD_PAYMENT,"
+    ++ codes "C_PAYMENT_CNT,C_DELIVERY_CNT"
 
-abbrev header : Table → List ℕ
-header table = joined (names_of table)
+abbrev fields_at_first : List ℕ
+fields_at_first = codes "2999,7,3,ANN,OE,BARBARBAR,BC,5,-1000,1001,11,12"
 
-abbrev pub one_customer : List Customer
-one_customer = record {
+-- a file with all columns, or with those that there were at first: a line, and what stands behind its first twelve fields
+abbrev with_all : List ℕ → List ℕ
+with_all behind = names_at_first ++ codes ",C_DATA\n" ++ fields_at_first ++ behind
+
+abbrev with_first : List ℕ → List ℕ
+with_first behind = names_at_first ++ codes "\n" ++ fields_at_first ++ behind
+
+-- the customer of the line, with this C_DATA
+abbrev pub customer : List ℕ → Customer
+customer information = record {
   id = 2999;
   district = 7;
   warehouse = 3;
@@ -155,18 +161,99 @@ one_customer = record {
   ytd_payment = pos 1_001;
   payment_count = 11;
   delivery_count = 12;
-} ∷ []
+  information = information;
+}
 
-abbrev pub one_customer_text : List ℕ
-one_customer_text = header tables.Customer ++ codes "2999,7,3,ANN,OE,BARBARBAR,BC,5,-1000,1001,11,12\n"
+abbrev customers_read : List ℕ → Reading Customer
+customers_read text = table_reading tables.Customer customer_with text
 
-pub customer_written : table_text tables.Customer customer_values one_customer ≡ one_customer_text
-unfolding digits fields_text is_blank
+-- the rows of a file that is whole, and those before a record that is none
+abbrev whole : List Customer → Reading Customer
+whole rows = record { rows = rows; unread = None }
+
+abbrev until : ℕ → List Customer → Reading Customer
+until number rows = record { rows = rows; unread = Some number }
+
+-- a C_DATA with a comma and quotes, and an empty one, which is an empty field
+pub customer_written :
+    table_text tables.Customer customer_values (customer (codes "a, \"b\"") ∷ []) ≡ with_all (codes ",\"a, \"\"b\"\"\"\n")
+unfolding digits fields_text is_blank escaped
 customer_written = refl
 
-pub customer_read : table_reading tables.Customer customer_with one_customer_text ≡ record { rows = one_customer; unread = None }
+pub customer_read : customers_read (with_all (codes ",\"a, \"\"b\"\"\"\n")) ≡ whole (customer (codes "a, \"b\"") ∷ [])
 unfolding csv_on_literals number_of signed_of text_of digits field_at
 customer_read = refl
+
+pub no_text_written : table_text tables.Customer customer_values (customer [] ∷ []) ≡ with_all (codes ",\n")
+unfolding digits fields_text is_blank
+no_text_written = refl
+
+pub no_text_read : customers_read (with_all (codes ",\n")) ≡ whole (customer [] ∷ [])
+unfolding csv_on_literals number_of signed_of text_of digits field_at
+no_text_read = refl
+
+-- each file goes by its own header: twelve fields are a row under that of the first columns alone, and thirteen under that
+-- of all
+pub first_read : customers_read (with_first (codes "\n")) ≡ whole (customer [] ∷ [])
+unfolding csv_on_literals number_of signed_of text_of digits field_at
+first_read = refl
+
+pub twelve_under_all : customers_read (with_all (codes "\n")) ≡ until 1 []
+unfolding csv_on_literals number_of signed_of text_of digits field_at
+twelve_under_all = refl
+
+pub thirteen_under_first :
+    customers_read (with_first (codes "\n" ++ fields_at_first ++ codes ",\n")) ≡ until 2 (customer [] ∷ [])
+unfolding csv_on_literals number_of signed_of text_of digits field_at
+thirteen_under_first = refl
+
+-- no other first names are a header: eleven, all and one more, the last in another case
+pub eleven_names :
+    customers_read (codes "C_ID,C_D_ID,C_W_ID,C_FIRST,C_MIDDLE,C_LAST,C_CREDIT,C_DISCOUNT,C_BALANCE,C_YTD_PAYMENT,"
+    ++ codes "C_PAYMENT_CNT\n" ++ codes "2999,7,3,ANN,OE,BARBARBAR,BC,5,-1000,1001,11\n") ≡ until 0 []
+unfolding csv_on_literals
+eleven_names = refl
+
+pub a_name_more : customers_read (names_at_first ++ codes ",C_DATA,C_DATA\n") ≡ until 0 []
+unfolding csv_on_literals
+a_name_more = refl
+
+pub an_empty_name : customers_read (names_at_first ++ codes ",\n") ≡ until 0 []
+unfolding csv_on_literals
+an_empty_name = refl
+
+pub last_in_another_case : customers_read (names_at_first ++ codes ",C_data\n") ≡ until 0 []
+unfolding csv_on_literals
+last_in_another_case = refl
+
+-- nor is there a second header of another table, and none has that of CUSTOMER
+pub district_without_its_last :
+    table_reading tables.District district_with (codes "D_ID,D_W_ID,D_NAME,D_TAX,D_YTD\n7,3,D7,20,90000\n")
+    ≡ record { rows = []; unread = Some 0 }
+unfolding csv_on_literals
+district_without_its_last = refl
+
+pub district_of_a_customer :
+    table_reading tables.District district_with (with_first (codes "\n")) ≡ record { rows = []; unread = Some 0 }
+unfolding csv_on_literals
+district_of_a_customer = refl
+
+-- a C_DATA of 500 bytes and of 501, with a byte that isn't printable, and with the end of a line
+pub longest_text : customers_read (with_all (44 ∷ replicate 500 88 ++ codes "\n")) ≡ whole (customer (replicate 500 88) ∷ [])
+unfolding csv_on_literals number_of signed_of text_of digits field_at
+longest_text = refl
+
+pub too_long_text : customers_read (with_all (44 ∷ replicate 501 88 ++ codes "\n")) ≡ until 1 []
+unfolding csv_on_literals number_of signed_of text_of digits field_at
+too_long_text = refl
+
+pub unprintable_text : customers_read (with_all (44 ∷ 127 ∷ codes "\n")) ≡ until 1 []
+unfolding csv_on_literals number_of signed_of text_of digits field_at
+unprintable_text = refl
+
+pub text_of_two_lines : customers_read (with_all (codes ",\"a\nb\"\n")) ≡ until 1 []
+unfolding csv_on_literals number_of signed_of text_of digits field_at
+text_of_two_lines = refl
 
 -- HISTORY
 abbrev pub one_payment : List History

@@ -1,58 +1,83 @@
 //! The fields of a record, as the values of a row.
 
-ghost use Rattle.std.specs.Prelude.{◌≡◌, IfSome, option_map};
-ghost use Rattle.csv.specs.Records.{fields_of};
+ghost use Rattle.std.specs.Prelude.{◌≡◌, ◌++◌, [], IfOk, IfSome, option_map, replicate};
+ghost use Rattle.csv.specs.Records.{field_at, fields_of};
 ghost use Rattle.hy_decimal.specs.Numbers.{number_of};
 ghost use Rattle.hy_rows.specs.Texts.{IsText};
-ghost use Rattle.hy_csv.specs.Fields.{row_of, said_by, signed_of, text_of};
+ghost use Rattle.hy_csv.specs.Fields.{row_lacking, said_by, signed_of, text_of};
 ghost use Rattle.hy_csv.specs.inside.Signs.{below_zero};
 
 use csv::ByteRecord;
 use hy_decimal::number;
-use hy_rows::{Record, ValueSource, is_printable};
+use hy_rows::{OwnedRecord, ValueSource, is_printable};
+use std::alloc::{AllocError, Global};
 
-/// The row that a record says, if it says one.
-pub fn row_of<R: Record>(fields: &ByteRecord) -> Option<R>
-    ensures { result ≡ row_of R.TABLE R.row_with (fields_of fields.now) }
+/// The row that a record says, if it says one, where it lacks so many fields at its end, which are empty. Only memory can
+/// lack.
+pub fn row_of<R: OwnedRecord>(
+    alloc: Global,
+    fields: &ByteRecord,
+    lacking: usize,
+) -> Result<Option<R>, AllocError>
+    ensures { IfOk result (λ row. row ≡ row_lacking R.TABLE R.row_with lacking (fields_of fields.now)) }
 {
-    if fields.len() == R::TABLE.columns().len() {
-        R::take(&RecordFields { fields })
+    let columns = R::TABLE.columns().len();
+    if lacking <= columns && fields.len() == columns - lacking {
+        R::taken(alloc, &RecordFields { fields, lacking })
     } else {
-        None
+        Ok(None)
     }
 }
 
-/// The fields of a record.
+/// The fields of a record, and so many empty ones behind them.
 #[derive(Drop)]
 struct RecordFields<'r> {
     fields: &'r ByteRecord,
+    lacking: usize,
+}
+
+impl RecordFields<'_> {
+    /// The field at a place, if one is there.
+    fn field(&self, place: usize) -> Option<&[u8]>
+        ensures { option_map (λ field. field.now) result
+            ≡ field_at (fields_of self.now.fields.now ++ replicate self.now.lacking []) place }
+    {
+        let count = self.fields.len();
+        if place < count {
+            self.fields.get(place)
+        } else if place - count < self.lacking {
+            Some(b"")
+        } else {
+            None
+        }
+    }
 }
 
 impl<'r> ValueSource for RecordFields<'r> {
-    ghost fields = { λ source. said_by (fields_of source.fields.now) };
+    ghost fields = { λ source. said_by (fields_of source.fields.now ++ replicate source.lacking []) };
 
     fn u8(&self, place: usize) -> Option<u8> {
-        u8_of(self.fields.get(place)?)
+        u8_of(self.field(place)?)
     }
 
     fn u16(&self, place: usize) -> Option<u16> {
-        u16_of(self.fields.get(place)?)
+        u16_of(self.field(place)?)
     }
 
     fn u32(&self, place: usize) -> Option<u32> {
-        u32_of(self.fields.get(place)?)
+        u32_of(self.field(place)?)
     }
 
     fn u64(&self, place: usize) -> Option<u64> {
-        number(self.fields.get(place)?)
+        number(self.field(place)?)
     }
 
     fn i64(&self, place: usize) -> Option<i64> {
-        i64_of(self.fields.get(place)?)
+        i64_of(self.field(place)?)
     }
 
     fn text(&self, place: usize, width: usize) -> Option<&[u8]> {
-        text_of(self.fields.get(place)?, width)
+        text_of(self.field(place)?, width)
     }
 }
 

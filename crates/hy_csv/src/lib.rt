@@ -2,6 +2,7 @@
 #![tactic(auto)]
 
 mod fields;
+mod header;
 mod reading;
 mod record;
 mod writing;

@@ -3,20 +3,20 @@
 ghost use Rattle.std.specs.Prelude.{◌≡◌, ℕ, List, [], ◌∷◌, length, IfOk, MatchBool};
 ghost use Rattle.csv.specs.Reading.{default_config, records, strip_bom};
 ghost use Rattle.csv.specs.Records.{fields_of};
-ghost use Rattle.hy_csv.specs.Fields.{row_of};
-ghost use Rattle.hy_csv.specs.Texts.{has_fields, rows_before, rows_of, table_reading};
-ghost use Rattle.hy_csv.specs.inside.Names.{names_in};
+ghost use Rattle.hy_csv.specs.Fields.{row_lacking};
+ghost use Rattle.hy_csv.specs.Texts.{rows_before, rows_of, table_reading};
 ghost use Rattle.hy_csv.specs.inside.Readers.{StandsBefore};
 
 use crate::fields::row_of;
+use crate::header::is_header;
 use csv::{ByteRecord, Reader, ReaderBuilder};
-use hy_rows::{ColumnDefinition, Record};
+use hy_rows::OwnedRecord;
 use std::alloc::{AllocError, Global};
 use std::marker::Model;
 
 /// The rows of a table, as far as a text says them.
 #[derive(Drop)]
-pub struct Reading<R: Copy> {
+pub struct Reading<R: Drop> {
     /// The rows of the records before the first one that is no row.
     pub rows: Vec<R>,
     /// The number of the first record that is no row: 0 for the header, 1 for the record behind it. None where the
@@ -25,7 +25,7 @@ pub struct Reading<R: Copy> {
 }
 
 // Clauses see the rows as a list.
-impl<R: Copy> Model for Reading<R> {
+impl<R: Drop> Model for Reading<R> {
     ghost use Rattle.hy_csv.specs.Texts.{Reading};
 
     ghost Value = { Reading R };
@@ -33,14 +33,16 @@ impl<R: Copy> Model for Reading<R> {
     ghost view = { λ reading. record { rows = reading.rows.items; unread = reading.unread } };
 }
 
-/// The rows that a text says, under the names of their columns.
-pub fn read<R: Record>(alloc: Global, text: &[u8]) -> Result<Reading<R>, AllocError>
+/// The rows that a text says under its header, which names all columns of the table, or those that its files had at
+/// first.
+pub fn read<R: OwnedRecord>(alloc: Global, text: &[u8]) -> Result<Reading<R>, AllocError>
     ensures { IfOk result (λ found. found ≡ table_reading R.TABLE R.row_with text.now) }
 {
     let mut reader = reader_of(alloc, text);
     let mut fields = ByteRecord::new(alloc);
-    if next_record(&mut reader, &mut fields)? && has_names(&fields, R::TABLE.columns()) {
-        read_rows(alloc, &mut reader, &mut fields)
+    if next_record(&mut reader, &mut fields)? && is_header(R::TABLE, &fields) {
+        let lacking = R::TABLE.columns().len().saturating_sub(fields.len());
+        read_rows(alloc, &mut reader, &mut fields, lacking)
     } else {
         Ok(Reading {
             rows: Vec::new(alloc),
@@ -59,21 +61,22 @@ fn reader_of<'t>(alloc: Global, text: &'t [u8]) -> Reader<&'t [u8]>
         .from_reader(alloc, text)
 }
 
-/// The rows of the records to come.
-fn read_rows<R: Record>(
+/// The rows of the records to come, each of which lacks so many fields at its end.
+fn read_rows<R: OwnedRecord>(
     alloc: Global,
     reader: &mut Reader<&[u8]>,
     fields: &mut ByteRecord,
+    lacking: usize,
 ) -> Result<Reading<R>, AllocError>
     ensures { IfOk result (λ found. (records : List (List (List ℕ))) → StandsBefore records reader.old
-        → found ≡ rows_before (length records) (rows_of (row_of R.TABLE R.row_with) records)) }
+        → found ≡ rows_before (length records) (rows_of (row_lacking R.TABLE R.row_with lacking) records)) }
 {
     let mut rows = Vec::new(alloc);
     for _ in 0..u64::MAX {
         if !next_record(reader, fields)? {
             return Ok(Reading { rows, unread: None });
         }
-        match row_of(fields) {
+        match row_of(alloc, fields, lacking)? {
             Some(row) => rows.push(row)?,
             None => {
                 let unread = Some(rows.len() as u64 + 1);
@@ -96,19 +99,4 @@ fn next_record(reader: &mut Reader<&[u8]>, fields: &mut ByteRecord) -> Result<bo
         Ok(found) => Ok(found),
         Err(_) => Err(AllocError),
     }
-}
-
-/// Whether the fields of a record are the names of these columns.
-fn has_names(fields: &ByteRecord, columns: &[ColumnDefinition]) -> bool
-    ensures { result ≡ has_fields (fields_of fields.now) (names_in columns.now) }
-{
-    if fields.len() != columns.len() {
-        return false;
-    }
-    for (place, column) in columns.iter().enumerate() {
-        if fields.get(place) != Some(column.name) {
-            return false;
-        }
-    }
-    true
 }

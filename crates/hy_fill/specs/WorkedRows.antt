@@ -36,13 +36,14 @@ last_backward = refl
 
 -- 100 orders: with pages of 256 bytes twelve rows of ORDER fit a page. A page of their index has 4 of at most 19 entries
 -- at least, and one of last orders 5 of at most 22. So there are 8 + 2 pages of rows, 100 / 3 + 3 and 100 / 4 + 3 of
--- entries, two for each other table and three for each of two other indexes
+-- entries, two for each other table, but four for CUSTOMER, whose first row reaches into its third page behind the count,
+-- and three for each of two other indexes
 of_orders : frames_for 256 (record no_rows { orders = replicate 100 (order 1 2 7 30) })
-    ≡ 10 + 36 + 28 + 2 * (segments - 1) + 3 * 2
+    ≡ 10 + 36 + 28 + 2 * (segments - 2) + 4 + 3 * 2
 unfolding frames_for
 of_orders = refl
 
--- without rows two pages for each table, and three for each of four indexes
-of_none : frames_for 256 no_rows ≡ 2 * segments + 3 * 4
+-- without rows two pages for each table but CUSTOMER, and three for each of four indexes
+of_none : frames_for 256 no_rows ≡ 2 * (segments - 1) + 4 + 3 * 4
 unfolding frames_for
 of_none = refl

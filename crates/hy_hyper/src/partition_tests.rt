@@ -152,9 +152,9 @@ fn within(frames: u64) -> Size
 #[test]
 fn limits_of_a_partition(rt: HostRuntime) {
     assert!(rt;
-        run(&rt, within(16), &On::<4096, _> { case: Case::Limits }) == Err(Refusal::NoFrame)
+        run(&rt, within(20), &On::<4096, _> { case: Case::Limits }) == Err(Refusal::NoFrame)
     );
-    assert!(rt; run(&rt, within(17), &On::<4096, _> { case: Case::Limits }) == Ok(()));
+    assert!(rt; run(&rt, within(21), &On::<4096, _> { case: Case::Limits }) == Ok(()));
 }
 
 fn spells<const N: usize, K: Loaded>(rt: &impl Abort, mut forked: Forked<N, K>) {

@@ -8,8 +8,8 @@ use hy_commands::{
 use hy_csv::{Reading, read, write};
 use hy_layout::Layout;
 use hy_rows::{
-    Customer, District, History, Item, Lists, NewOrder, Order, OrderLine, Record, Row, SlotBytes,
-    Stock, Tables, Text, Warehouse, is_printable,
+    ByteBuffer, Customer, District, FixedRow, History, Item, Lists, LongText, NewOrder, Order,
+    OrderLine, OwnedRecord, Record, Row, Stock, Tables, Text, Warehouse, is_printable,
 };
 use hy_schema::Refusal;
 use hy_tables::generate;
@@ -51,12 +51,11 @@ fn tables_of_one_warehouse(rt: HostRuntime) {
 }
 
 /// Whether a row is written as these bytes, and read from them.
-fn is_bytes<R: Row + PartialEq>(row: R, bytes: &[u8]) -> bool
+fn is_bytes<R: FixedRow + PartialEq>(row: R, bytes: &[u8]) -> bool
     requires { length bytes.now ≡ R.BYTES }
 {
-    let mut slot = SlotBytes::new();
-    row.encode(&mut slot);
-    slot.as_slice() == bytes && R::decode(bytes) == row
+    let slot = row.slot();
+    slot.as_slice().starts_with(&[1]) && slot.as_slice().ends_with(bytes) && R::read(bytes) == row
 }
 
 #[test]
@@ -102,11 +101,23 @@ fn payments_are_bytes(rt: HostRuntime) {
 fn customers_are_read_from_their_bytes(rt: HostRuntime) {
     let load = generate(rt.alloc(), 1, 3, 1).expect(&rt, "a load");
     for customer in load.list::<Customer>() {
-        let mut slot = SlotBytes::new();
-        customer.encode(&mut slot);
-        assert!(rt; slot.len() == Customer::BYTES);
-        assert!(rt; Customer::decode(slot.as_slice()) == *customer);
+        let slot = customer.slot();
+        let bytes = slot.as_slice();
+        assert!(rt; bytes.len() == 1 + Customer::BYTES);
+        let read = Customer::decode(rt.alloc(), &bytes[1..]).expect(&rt, "a row");
+        assert!(rt; read == *customer);
     }
+}
+
+#[test]
+fn long_texts(rt: HostRuntime) {
+    let alloc = rt.alloc();
+    let text: LongText<500> = LongText::of_field(alloc, &[b'a'; 500]).expect(&rt, "a text");
+    assert!(rt; text.as_bytes() == [b'a'; 500].as_slice());
+    assert!(rt; text.copy(alloc).expect(&rt, "a copy") == text);
+    let empty: LongText<500> = LongText::of_field(alloc, &[0; 500]).expect(&rt, "no text");
+    assert!(rt; empty.as_bytes().is_empty());
+    assert!(rt; empty != text);
 }
 
 /// A line of an order.
@@ -182,7 +193,7 @@ fn under_names<R: Record>(rt: &(impl Abort + AllocGlobal), lines: &[u8]) -> Vec<
 }
 
 /// Whether rows are written as these lines behind the names of their columns, and read from them.
-fn is_text<R: Record + PartialEq>(
+fn is_text<R: OwnedRecord + PartialEq>(
     rt: &(impl Abort + AllocGlobal),
     rows: &[R],
     lines: &[u8],
@@ -283,7 +294,7 @@ fn writes_texts_in_quotes(rt: HostRuntime) {
 }
 
 /// Whether lines say one row, and nothing that is none.
-fn is_one_row<R: Record>(rt: &(impl Abort + AllocGlobal), lines: &[u8]) -> bool {
+fn is_one_row<R: OwnedRecord>(rt: &(impl Abort + AllocGlobal), lines: &[u8]) -> bool {
     let text = under_names::<R>(rt, lines);
     let found: Reading<R> = read(rt.alloc(), &text).expect(rt, "rows");
     found.rows.len() == 1 && found.unread == None

@@ -1,16 +1,16 @@
 //! Snapshots beside payments and orders, with small and with large pages.
 
-ghost use Rattle.std.specs.Prelude.{◌≤◌};
+ghost use Rattle.std.specs.Prelude.{◌<◌, ◌≤◌};
 ghost use Rattle.hy_frames.specs.FrameTable.{IsPageSize};
 
-use crate::forked::{Body, Forked, On, Size, of_items, run};
+use crate::forked::{Body, FRAMES, Forked, On, Size, of_items, run};
 use hy_commands::{
     Command, Commit, OrderStatus, Payment, Purchase, PurchaseLine, PurchaseLines, Reply, Who,
 };
 use hy_loads::Load;
 use hy_partition::{Loaded, Progress, Snapshot};
 use hy_passes::Kit;
-use hy_rows::{District, Item, Listed, NewOrder, Order, OrderLine, Stock, Warehouse};
+use hy_rows::{Customer, District, Item, Listed, NewOrder, Order, OrderLine, Stock, Warehouse};
 use hy_schema::Refusal;
 use std::process::Abort;
 
@@ -28,6 +28,7 @@ enum Case {
     WithoutAFrameBehindTheFork,
     WithoutTheFramesOfAFork,
     OneByOne,
+    EachPays,
     HalfDoneOrder,
     OrderWithoutItsItem,
     OrdersOverSplits,
@@ -56,6 +57,7 @@ impl<const N: usize> Body for On<N, Case> {
             Case::WithoutAFrameBehindTheFork => without_a_frame_behind_the_fork(rt, forked),
             Case::WithoutTheFramesOfAFork => without_the_frames_of_a_fork(rt, forked),
             Case::OneByOne => one_by_one(rt, forked),
+            Case::EachPays => each_pays(rt, forked),
             Case::HalfDoneOrder => half_done_order(rt, forked),
             Case::OrderWithoutItsItem => order_without_its_item(rt, forked),
             Case::OrdersOverSplits => orders_over_splits(rt, forked),
@@ -315,6 +317,107 @@ fn forks_between_slices(rt: HostRuntime) {
 fn rollback_without_frames(rt: HostRuntime) {
     try_case::<256, _>(&rt, 1, Case::RefusedBetweenSlices);
     try_case::<4096, _>(&rt, 1, Case::RefusedBetweenSlices);
+}
+
+/// A payment of 100 cents by the customer at a place among those of all districts, three of each, where so many frames are
+/// free: the balance, or why it was refused.
+fn pay_at<const N: usize, K: Loaded>(
+    rt: &impl Abort,
+    forked: &mut Forked<N, K>,
+    place: u64,
+    free: u64,
+) -> Result<i64, Refusal>
+    requires place { place < 30 }
+{
+    let district = 1 + place / 3;
+    forked.set_max(FRAMES)?;
+    forked.limit(rt, free);
+    forked.begin(
+        rt,
+        Command::Payment(Payment {
+            warehouse: 1,
+            district,
+            customer_warehouse: 1,
+            customer_district: district,
+            who: Who::Number(1 + place % 3),
+            amount: 100,
+            at: 1,
+        }),
+    )?;
+    forked.finish();
+    balance_of(forked.answer(rt))
+}
+
+/// Whether so many of the first customers have paid 100 cents in the snapshot at a place, and the others nothing.
+fn have_paid<const N: usize, K: Loaded>(
+    rt: &(impl Abort + AllocGlobal),
+    forked: &Forked<N, K>,
+    place: usize,
+    paid: u64,
+) -> bool {
+    let rows = forked
+        .snapshot(rt, place)
+        .list::<Customer>()
+        .expect(rt, "the rows");
+    let mut same = rows.len() == 30;
+    for at in 0..rows.len() {
+        let row = &rows[at];
+        let balance = if (at as u64) < paid { -1100 } else { -1000 };
+        same = same && row.balance == balance && u64::from(row.id) == 1 + at as u64 % 3;
+    }
+    same
+}
+
+/// Beside a new snapshot a customer's payment is refused where so many frames are free, and leaves nothing.
+fn refused_beside<const N: usize, K: Loaded>(
+    rt: &(impl Abort + AllocGlobal),
+    forked: &mut Forked<N, K>,
+    place: u64,
+    free: u64,
+)
+    requires place { place < 30 }
+{
+    assert!(rt; forked.fork(rt) == Ok(()));
+    assert!(rt; pay_at(rt, forked, place, free) == Err(Refusal::NoFrame));
+    assert!(rt; forked.touched() == 0 && forked.fork(rt) == Ok(()));
+    assert!(rt; have_paid(rt, forked, 0, place) && have_paid(rt, forked, 1, place));
+    forked.close(rt, 0);
+    forked.close(rt, 0);
+}
+
+/// A customer's payment is refused where up to four frames are free, and then accepted beside a snapshot.
+fn one_pays<const N: usize, K: Loaded>(
+    rt: &(impl Abort + AllocGlobal),
+    forked: &mut Forked<N, K>,
+    place: u64,
+)
+    requires place { place < 30 }
+{
+    for free in 0..=4 {
+        refused_beside(rt, forked, place, free);
+    }
+    assert!(rt; forked.fork(rt) == Ok(()));
+    assert!(rt; pay_at(rt, forked, place, 8) == Ok(-1100));
+    assert!(rt; forked.fork(rt) == Ok(()));
+    assert!(rt; have_paid(rt, forked, 0, place) && have_paid(rt, forked, 1, place + 1));
+    forked.close(rt, 0);
+    forked.close(rt, 0);
+}
+
+/// Each customer in turn. A row of 575 bytes begins at another byte of a page of 256 for each of them, and lies on three
+/// pages or on four.
+fn each_pays<const N: usize, K: Loaded>(rt: &(impl Abort + AllocGlobal), mut forked: Forked<N, K>) {
+    for place in 0..30 {
+        one_pays(rt, &mut forked, place);
+    }
+    assert!(rt; forked.kept() == 30);
+    forked.end(rt);
+}
+
+#[test]
+fn each_customer_pays(rt: HostRuntime) {
+    try_case::<256, _>(&rt, 1, Case::EachPays);
+    try_case::<4096, _>(&rt, 1, Case::EachPays);
 }
 
 /// The first slice of a payment of 100 cents, and then so many frames are free. With pages of 4,096 bytes the slice has

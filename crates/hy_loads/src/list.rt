@@ -51,7 +51,7 @@ pub(crate) trait Rule<R, S> {
 }
 
 /// Tests a list. A refusal names its first fault.
-pub(crate) fn check_list<R: Copy, S, L: Rule<R, S>>(
+pub(crate) fn check_list<R, S, L: Rule<R, S>>(
     table: Table,
     end: FileEnd,
     rule: &L,
@@ -72,7 +72,7 @@ pub(crate) fn check_list<R: Copy, S, L: Rule<R, S>>(
 }
 
 /// The number of the first fault of a list, if it has one.
-fn first_fault<R: Copy, S, L: Rule<R, S>>(
+fn first_fault<R, S, L: Rule<R, S>>(
     end: FileEnd,
     rule: &L,
     seen: &mut S,
@@ -107,7 +107,7 @@ fn is_complete<R, S, L: Rule<R, S>>(end: FileEnd, rule: &L) -> bool
 }
 
 /// The number of the first row that is wrong or one too many, if there is one.
-fn first_wrong<R: Copy, S, L: Rule<R, S>>(rule: &L, seen: &mut S) -> Result<Option<u64>, AllocError>
+fn first_wrong<R, S, L: Rule<R, S>>(rule: &L, seen: &mut S) -> Result<Option<u64>, AllocError>
     requires holds { L.holds rule.now }
     requires seen { L.has_seen seen.old [] }
     ensures right { IfOk result (λ number. IfNone number (IsRight (L.right rule.now) ⊤ (L.rows rule.now))) }

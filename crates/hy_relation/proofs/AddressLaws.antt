@@ -1,10 +1,9 @@
 -- What the arithmetic of addresses needs: how great the numbers can be, and on which page a slot begins and ends.
-use Rattle.std.proofs.Common.{◌≡◌, ℕ, zero, suc, ◌+◌, ◌*◌, ◌/◌, ◌%◌, ◌^◌, ◌<◌, ◌≤◌, true, false, refl, sym, ap, ◌∙◌, arith}
+use Rattle.std.proofs.Common.{◌≡◌, ℕ, zero, suc, ◌+◌, ◌*◌, ◌/◌, ◌%◌, ◌<◌, ◌≤◌, true, false, ap, ◌∙◌, arith}
 use Rattle.std.proofs.Math.Nat.{div-mul-le_self, mod-lt, mul-add-div_right, mul-add-mod_self_right, mul-le-mul_left}
 use Rattle.std.proofs.lemmas.Nat.{div-add-mod', div-mul-add, le-div, mod-mul-add}
-use Rattle.hy_rows.specs.Spelling.{is_spanned, least_page, slot_start, slot_width, slots_end, slots_per_page}
+use Rattle.hy_rows.specs.Spelling.{is_spanned, least_page, slot_width, slots_end, slots_per_page}
 use Rattle.hy_undo.specs.Writes.{pages_of_part}
-use Rattle.hy_relation.specs.Relation.{end_place}
 use Rattle.hy_relation.specs.inside.Addresses.{offset_of_byte, page_of_byte, slot_offset, slot_page}
 use Rattle.hy_relation.proofs.SlotLaws.{slots_fit, some_slots, start-spanned, start-unspanned, unspanned-room}
 

@@ -1,5 +1,5 @@
 -- A segment has few pages, whatever is written into it and wherever a call is refused.
-use Rattle.std.proofs.Common.{◌≡◌, ℕ, ◌+◌, ◌≤◌, List, length, sym, subst, arith}
+use Rattle.std.proofs.Common.{◌≡◌, ℕ, ◌≤◌, List, length, sym, subst, arith}
 use Rattle.hy_rows.specs.Spelling.{least_page, list_at, used_slots}
 use Rattle.hy_space.specs.Space.{SpaceState, owner_bytes}
 use Rattle.hy_undo.specs.Writes.{WritesAcross}

@@ -1,8 +1,7 @@
 -- Pages, their joined bytes, and what is written into them.
-use Rattle.std.proofs.Common.{◌≡◌, ℕ, zero, suc, ◌+◌, ◌-◌, ◌*◌, ◌/◌, ◌%◌, ◌^◌, ◌<◌, ◌≤◌, List, [], ◌∷◌, ◌++◌, length, take, drop, set, get_or, sym, ap, ◌∙◌, ap₂, arith, append_assoc, length-append}
+use Rattle.std.proofs.Common.{◌≡◌, ℕ, zero, suc, ◌+◌, ◌-◌, ◌*◌, ◌/◌, ◌%◌, ◌^◌, ◌<◌, ◌≤◌, List, [], ◌∷◌, ◌++◌, length, take, drop, set, sym, ap, ◌∙◌, arith, append_assoc, length-append}
 use Rattle.std.specs.List.{concat}
-use Rattle.std.proofs.Math.Seq.{take-add}
-use Rattle.std.proofs.lemmas.List.{append-nil, drop-append-le, drop-drop, drop-set-lt, drop_at, get_or-drop, get_or-set_same, get_or_append_left, length-drop, length-set, length-take-le, take-append-le, take-take, take_at}
+use Rattle.std.proofs.lemmas.List.{append-nil, drop-append-le, drop-set-lt, drop_at, get_or-drop, get_or-set_same, get_or_append_left, length-drop, length-set, length-take-le, take-append-le, take-take, take_at}
 use Rattle.std.proofs.lemmas.List.Folds.{concat-append}
 use Rattle.std.proofs.lemmas.Nat.{div-add-mod'}
 use Rattle.hy_page.specs.Bytes.{bytes_at, bytes_of, overwritten}

@@ -1,5 +1,5 @@
 -- Some columns of the row in a slot, read by themselves.
-use Rattle.std.proofs.Common.{◌≡◌, ℕ, ◌+◌, ◌-◌, ◌*◌, ◌/◌, ◌%◌, ◌<◌, ◌≤◌, ◌==◌, Bool, true, false, cond, List, length, take, drop, Option, Some, None, refl, sym, ap, ap₂, ◌∙◌, arith}
+use Rattle.std.proofs.Common.{◌≡◌, ℕ, ◌+◌, ◌-◌, ◌*◌, ◌/◌, ◌<◌, ◌≤◌, ◌==◌, true, false, List, length, take, drop, Some, None, refl, sym, ap, ap₂, ◌∙◌, arith}
 use Rattle.std.specs.Option.{option_map}
 use Rattle.std.proofs.lemmas.List.{drop-drop, drop-take, length-drop, take-take}
 use Rattle.hy_page.specs.Bytes.{bytes_at, number_of}
@@ -59,6 +59,17 @@ module _ (n width : ℕ) (pages : List (List ℕ)) (k : ℕ) (sized : Sized n pa
       ap₂ (λ size bytes. take size (drop from bytes)) size is
       ∙ ap (λ begin. bytes_at (list_at pages (slot_page n width k)) begin count) (begins ∙ ap (λ o. o + skip) at)
       ∙ sym (part-on_page n pages (slot_page n width k) (slot_offset n width k + skip) (start + skip) count sized (omega arith) there (omega (arith, at, within)) place)
+
+  -- all of the slot
+  pub slot-here : (to : ℕ) → to ≡ offset + slot_width width → offset + slot_width width ≤ n
+      → take (to - offset) (drop offset page) ≡ slot_at n width pages k
+  slot-here to ends within =
+      let start : ℕ = slot_start n width k in
+      let none : offset ≡ offset + 0 = omega arith in
+      let begin : start + 0 ≡ start = omega arith in
+      ap (λ end. take (end - offset) (drop offset page)) ends
+      ∙ part-here offset 0 (slot_width width) (slot_width width) none refl (omega (arith, within))
+      ∙ ap (λ from. bytes_at (slot_bytes pages) from (slot_width width)) begin
 
   -- its mark
   pub mark-here : offset < n → is_live (take (offset + 1 - offset) (drop offset page)) ≡ is_live (slot_at n width pages k)

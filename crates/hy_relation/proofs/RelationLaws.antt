@@ -1,5 +1,5 @@
 -- What writes into the pages of a segment do to the list of its slots.
-use Rattle.std.proofs.Common.{◌≡◌, ℕ, suc, ◌+◌, ◌<◌, ◌≤◌, List, [], ◌∷◌, ◌++◌, length, replicate, take, set, get_or, Option, Some, None, Result, Ok, Err, OnErr, refl, sym, ap, ◌∙◌, ap₂, subst, arith, inl, inr, length-append}
+use Rattle.std.proofs.Common.{◌≡◌, ℕ, suc, ◌+◌, ◌<◌, ◌≤◌, List, [], ◌∷◌, ◌++◌, length, replicate, take, set, get_or, Option, Some, None, Result, Ok, Err, OnErr, sym, ap, ◌∙◌, ap₂, subst, arith, inl, inr, length-append}
 use Rattle.std.specs.Prelude.{IsSome}
 use Rattle.std.proofs.lemmas.Bool.{cases_lt, false≢true}
 use Rattle.std.proofs.lemmas.List.{append-nil, get_or_past, take_more}
@@ -148,6 +148,16 @@ live_rows-more slots k within =
     ap live_rows (take_more slots k None within)
     ∙ flat_map-append option_to_list (take k slots) (get_or slots k None ∷ [])
     ∙ ap (λ rows. live_rows (take k slots) ++ rows) (append-nil (option_to_list (get_or slots k None)))
+
+-- where the row of that slot was read
+pub live_rows-read : {Row : Type 0} (n width : ℕ) (row_of : List ℕ → Row) (pages : List (List ℕ)) (k : ℕ) (slot : List ℕ) (rows more : List Row)
+    → k < used_slots pages → slot ≡ slot_at n width pages k → rows ≡ live_rows (take k (slots_of n width row_of pages))
+    → more ≡ rows ++ option_to_list (row_of_slot row_of slot) → more ≡ live_rows (take (k + 1) (slots_of n width row_of pages))
+live_rows-read {Row = Row} n width row_of pages k slot rows more within is before pushed =
+    let slots : List (Option Row) = slots_of n width row_of pages in
+    pushed
+    ∙ ap₂ (λ one other. one ++ option_to_list other) before (ap (row_of_slot row_of) is ∙ sym (row-used n width row_of pages k within))
+    ∙ sym (live_rows-more slots k (omega (arith, within, length-slots_of n width row_of pages)))
 
 -- what holds anyhow holds on an error
 pub on_err : {T E P : Type 0} (r : Result T E) → P → OnErr r P

@@ -1,14 +1,14 @@
 -- Pages that are made for the slot behind the used ones, one behind another.
-use Rattle.std.proofs.Common.{◌≡◌, ◌⊎◌, inl, inr, ℕ, zero, suc, ◌+◌, ◌-◌, ◌*◌, ◌/◌, ◌%◌, ◌<◌, ◌≤◌, Bool, true, false, cond, List, [], ◌∷◌, ◌++◌, length, length-append, max, replicate, refl, sym, ap, ◌∙◌, subst, arith, append_assoc}
+use Rattle.std.proofs.Common.{◌≡◌, ◌⊎◌, inl, inr, ℕ, zero, suc, ◌+◌, ◌-◌, ◌*◌, ◌/◌, ◌<◌, ◌≤◌, false, List, [], ◌∷◌, ◌++◌, length, length-append, max, replicate, refl, sym, ap, ◌∙◌, subst, arith, append_assoc}
 use Rattle.std.proofs.Math.Nat.{div-le_of_le-mul, lt-div-mul-add, mod-lt}
-use Rattle.std.proofs.lemmas.Bool.{cases_Bool, cases_lt, cond-false, cond-true}
-use Rattle.std.proofs.lemmas.Nat.{div_below, le-div}
+use Rattle.std.proofs.lemmas.Bool.{cases_Bool, cond-false, cond-true}
+use Rattle.std.proofs.lemmas.Nat.{div_below}
 use Rattle.hy_frames.specs.FrameTable.{free_of}
 use Rattle.hy_rows.specs.Spelling.{HasSlots, is_spanned, least_page, list_at, slot_bytes, slot_start, slot_width, slots_end, slots_per_page, used_slots}
-use Rattle.hy_space.specs.Space.{GrowsPage, IsOwn, SpaceState, owner_bytes, page_count, with_new_page}
+use Rattle.hy_space.specs.Space.{GrowsPage, IsOwn, SpaceState, owner_bytes}
 use Rattle.hy_undo.specs.PrivatePages.{IsUndoLog}
 use Rattle.hy_undo.specs.UndoLog.{UndoLog, undone}
-use Rattle.hy_undo.specs.Writes.{CanUndoGrowth, pages_of_part}
+use Rattle.hy_undo.specs.Writes.{CanUndoGrowth}
 use Rattle.hy_undo.proofs.JoinedLaws.{Sized}
 use Rattle.hy_undo.proofs.PrivatePageLaws.{length-segment-owner_bytes}
 use Rattle.hy_undo.proofs.WriteLaws.{growth-grown, growth-none, growth-then}

@@ -4,7 +4,7 @@ use Rattle.std.proofs.Math.Nat.{mul-le-mul_right, mod-lt, div-mul-le_self, le-di
 use Rattle.std.proofs.lemmas.Bool.{cases_Bool, cases_lt, cond-false, cond-true}
 use Rattle.std.proofs.lemmas.Bool.Decides.{nat_tests}
 use Rattle.std.proofs.lemmas.List.{drop-append-le, take-append-le, length-drop, take-take}
-use Rattle.std.proofs.lemmas.Nat.{div-mul-add, div_below, le-div, mod-mul-add}
+use Rattle.std.proofs.lemmas.Nat.{div_below, le-div}
 use Rattle.hy_page.specs.Bytes.{number_of, bytes_at, overwritten}
 use Rattle.std.specs.Option.{option_map}
 use Rattle.hy_page.proofs.ByteLaws.{length-bytes_at, bytes_at-overwritten_same, bytes_at-overwritten_before, bytes_at-overwritten_behind}

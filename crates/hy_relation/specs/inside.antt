@@ -1,2 +1,3 @@
 -- What the private functions and the proofs of this crate speak of, and no public contract.
 pub mod Addresses
+pub mod Views

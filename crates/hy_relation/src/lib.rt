@@ -5,5 +5,6 @@ mod address;
 mod lent;
 mod relation;
 mod slots;
+mod view;
 
 pub use relation::Relation;

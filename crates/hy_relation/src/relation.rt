@@ -9,13 +9,13 @@ ghost use Rattle.hy_undo.specs.PrivatePages.{IsUndoLog};
 ghost use Rattle.hy_undo.specs.Writes.{CanUndo, CanUndoGrowth, HasChild, IsOutOfFrames};
 ghost use Rattle.hy_relation.specs.Relation.{ChangesSegment, HasAllSlotsUsed, HasFewPages, HasRelation, IsLive, frames_of_push, owner_pages, pages_after_push, pages_of_slot, relation_slots, row_in as row_in_slots};
 
-use crate::lent::{know_sizes, row_on, used_on};
+use crate::lent::{know_sizes, slot_on, used_on};
 use crate::slots::{
-    ends_of, know_few, live_slot, make_room, part_bytes, part_in, row_bytes_in, row_in, used_of,
-    write_count, write_slot,
+    ends_of, know_few, make_room, part_in, row_bytes_in, slot_in, used_of, write_count, write_slot,
 };
+use crate::view::{push_row, row_of};
 use hy_frames::{Hold, Shortage};
-use hy_rows::{Part, Row};
+use hy_rows::{ByteBuffer, FixedRow, Part, Row, WrittenPart};
 use hy_space::Space;
 use hy_undo::Undo;
 use std::alloc::{AllocError, Global};
@@ -40,18 +40,6 @@ impl<R: Row> Relation<R> {
         ensures small { result < 2 ^ 56 }
     {
         used_of::<R, N>(space)
-    }
-
-    /// The row of a slot; none where it was erased or was never used.
-    pub fn get<const N: usize>(&self, space: &Space<N>, slot: u64) -> Option<R>
-        requires { HasRelation N R.SEGMENT R.BYTES space.now }
-        ensures { result ≡ row_in_slots (relation_slots N R.SEGMENT R.BYTES R.row_of_bytes space.now) slot }
-    {
-        if slot < used_of::<R, N>(space) {
-            row_in::<R, N>(space, slot)
-        } else {
-            None
-        }
     }
 
     /// Some columns of the row of a slot; none where it was erased or was never used.
@@ -116,12 +104,12 @@ impl<R: Row> Relation<R> {
     {
         space.sound();
         know_few::<R, N>(space);
-        let other = live_slot(row);
+        let other = row.slot();
         write_slot::<R, N>(space, undo, slot, 0, other.as_slice())
     }
 
     /// Puts other values of some columns into the row of a slot that has one.
-    pub fn put_part<P: Part<R>, const N: usize>(
+    pub fn put_part<P: WrittenPart<R>, const N: usize>(
         &self,
         space: &mut Space<N>,
         undo: &mut Undo<N>,
@@ -145,7 +133,7 @@ impl<R: Row> Relation<R> {
     {
         space.sound();
         know_few::<R, N>(space);
-        let bytes = part_bytes::<R, P>(part);
+        let bytes = part.bytes();
         write_slot::<R, N>(space, undo, slot, 1 + P::OFFSET, bytes.as_slice())
     }
 
@@ -228,7 +216,7 @@ impl<R: Row> Relation<R> {
         let slot = used_of::<R, N>(space);
         make_room::<R, N>(space, undo)?;
         space.sound();
-        let bytes = live_slot(row);
+        let bytes = row.slot();
         write_slot::<R, N>(space, undo, slot, 0, bytes.as_slice())?;
         write_count::<R, N>(space, undo, slot + 1)?;
         Ok(slot)
@@ -245,10 +233,8 @@ impl<R: Row> Relation<R> {
             ≡ live_rows (relation_slots N R.SEGMENT R.BYTES R.row_of_bytes space.now)) }
     {
         let mut rows = Vec::new(alloc);
-        for slot in 0..self.slots(space) {
-            if let Some(row) = self.get(space, slot) {
-                rows.push(row)?;
-            }
+        for slot in 0..used_of::<R, N>(space) {
+            push_row(alloc, &mut rows, slot_in::<R, N>(space, slot).as_slice())?;
         }
         Ok(rows)
     }
@@ -268,10 +254,22 @@ impl<R: Row> Relation<R> {
         know_sizes(pages);
         let mut rows = Vec::new(alloc);
         for slot in 0..used_on::<R, N>(pages) {
-            if let Some(row) = row_on::<R, N>(pages, slot) {
-                rows.push(row)?;
-            }
+            push_row(alloc, &mut rows, slot_on::<R, N>(pages, slot).as_slice())?;
         }
         Ok(rows)
+    }
+}
+
+impl<R: FixedRow> Relation<R> {
+    /// The row of a slot; none where it was erased or was never used.
+    pub fn get<const N: usize>(&self, space: &Space<N>, slot: u64) -> Option<R>
+        requires { HasRelation N R.SEGMENT R.BYTES space.now }
+        ensures { result ≡ row_in_slots (relation_slots N R.SEGMENT R.BYTES R.row_of_bytes space.now) slot }
+    {
+        if slot < used_of::<R, N>(space) {
+            row_of(slot_in::<R, N>(space, slot).as_slice())
+        } else {
+            None
+        }
     }
 }

@@ -1,7 +1,6 @@
 //! The slots of a segment of the owner.
 
 ghost use Rattle.std.specs.Prelude.{◌≡◌, ℕ, List, ◌+◌, ◌*◌, ◌/◌, ◌^◌, ◌<◌, ◌≤◌, ◌∷◌, ◌++◌, ◌⊎◌, false, length, Err, IfSome, OnOk, OnErr};
-ghost use Rattle.arrayvec.specs.ArrayVec.{array_vec_len};
 ghost use Rattle.std.specs.Option.{option_map};
 ghost use Rattle.hy_page.specs.Bytes.{bytes_at, overwritten};
 ghost use Rattle.hy_frames.specs.FrameTable.{free_of};
@@ -12,11 +11,13 @@ ghost use Rattle.hy_undo.specs.PrivatePages.{IsUndoLog};
 ghost use Rattle.hy_undo.specs.Writes.{CanUndo, CanUndoGrowth, IsOutOfFrames};
 ghost use Rattle.hy_relation.specs.Relation.{ChangesSegment, HasAllSlotsUsed, HasFewPages, HasRelation, owner_pages, pages_after_push, pages_of_slot};
 ghost use Rattle.hy_relation.specs.inside.Addresses.{CountsSlots, GrowsSlots, WritesJoined, slot_offset, slot_page};
+ghost use Rattle.hy_relation.specs.inside.Views.{bytes_of_view};
 
 use crate::address::{Address, address_behind, address_of, is_spanned, last_page_of};
+use crate::view::{SlotCopy, SlotView, is_live, push_bytes};
 use hy_frames::Shortage;
 use hy_page::Page;
-use hy_rows::{Part, Row, SlotBytes};
+use hy_rows::{Part, Row};
 use hy_space::Space;
 use hy_undo::Undo;
 
@@ -54,25 +55,13 @@ fn address_in<R: Row, const N: usize>(space: &Space<N>, slot: u64) -> Address
     address_of(N, R::BYTES, slot)
 }
 
-/// Appends some bytes of a page to those of a slot.
-pub(crate) fn push_part(slot: &mut SlotBytes, part: &[u8])
-    requires { array_vec_len slot.old + length part.now ≤ MAX_SLOT_BYTES }
-    ensures bytes { slot.new.items ≡ slot.old.items ++ part.now }
-    ensures len { array_vec_len slot.new ≡ array_vec_len slot.old + length part.now }
-{
-    match slot.try_extend_from_slice(part) {
-        Ok(()) => {}
-        Err(_) => unreachable!(),
-    }
-}
-
 /// A copy of `total` bytes of a used slot, behind as many as are skipped, from as many pages as they lie on.
 fn copy_of<R: Row, const N: usize>(
     space: &Space<N>,
     slot: u64,
     skip: usize,
     total: usize,
-) -> SlotBytes
+) -> SlotCopy
     requires slots { HasRelation N R.SEGMENT R.BYTES space.now }
     requires used { slot < used_slots (owner_pages space.now R.SEGMENT) }
     requires inside { skip + total ≤ slot_width R.BYTES }
@@ -82,12 +71,12 @@ fn copy_of<R: Row, const N: usize>(
     space.sound();
     know_few::<R, N>(space);
     let at = address_behind(N, R::BYTES, slot, skip);
-    let mut bytes = SlotBytes::new();
+    let mut bytes = SlotCopy::new();
     let mut page = at.page as u32;
     let mut offset = at.offset;
     while bytes.len() < total {
         let count = (total - bytes.len()).min(N - offset);
-        push_part(
+        push_bytes(
             &mut bytes,
             &space.page(R::SEGMENT, page).bytes()[offset..offset + count],
         );
@@ -97,47 +86,21 @@ fn copy_of<R: Row, const N: usize>(
     bytes
 }
 
-/// The row that the bytes of a slot say, if the slot is live.
-pub(crate) fn row_in_slot<R: Row>(slot: &[u8]) -> Option<R>
-    requires { length slot.now ≡ slot_width R.BYTES }
-    ensures { result ≡ row_of_slot R.row_of_bytes slot.now }
-{
-    if slot[0] == 1 {
-        Some(R::decode(&slot[1..]))
-    } else {
-        None
-    }
-}
-
-/// The row of the slot at an offset of a page, if the slot is live.
-pub(crate) fn row_at<R: Row, const N: usize>(page: &Page<N>, offset: usize) -> Option<R>
-    requires { offset + slot_width R.BYTES ≤ N }
-    ensures { result ≡ row_of_slot R.row_of_bytes (bytes_at page.now offset (slot_width R.BYTES)) }
-{
-    row_in_slot(&page.bytes()[offset..offset + 1 + R::BYTES])
-}
-
-/// The row of a used slot, if the slot is live.
-pub(crate) fn row_in<R: Row, const N: usize>(space: &Space<N>, slot: u64) -> Option<R>
+/// The bytes of a used slot.
+pub(crate) fn slot_in<R: Row, const N: usize>(space: &Space<N>, slot: u64) -> SlotView<'_>
     requires slots { HasRelation N R.SEGMENT R.BYTES space.now }
     requires used { slot < used_slots (owner_pages space.now R.SEGMENT) }
-    ensures { result ≡ row_of_slot R.row_of_bytes (slot_at N R.BYTES (owner_pages space.now R.SEGMENT) slot) }
+    ensures bytes { bytes_of_view result ≡ slot_at N R.BYTES (owner_pages space.now R.SEGMENT) slot }
+    ensures width { length (bytes_of_view result) ≡ slot_width R.BYTES }
 {
     space.sound();
     let at = address_in::<R, N>(space, slot);
     if !is_spanned(R::BYTES) || at.offset + 1 + R::BYTES <= N {
-        row_at(space.page(R::SEGMENT, at.page as u32), at.offset)
+        let page = space.page(R::SEGMENT, at.page as u32).bytes();
+        SlotView::Lent(&page[at.offset..at.offset + 1 + R::BYTES])
     } else {
-        row_in_slot(copy_of::<R, N>(space, slot, 0, 1 + R::BYTES).as_slice())
+        SlotView::Copied(copy_of::<R, N>(space, slot, 0, 1 + R::BYTES))
     }
-}
-
-/// Whether a slot that begins with this mark has a row.
-fn is_live(mark: &[u8]) -> bool
-    requires { 0 < length mark.now }
-    ensures { result ≡ is_live mark.now }
-{
-    mark[0] == 1
 }
 
 /// Some columns of the row of a used slot, if the slot is live.
@@ -197,30 +160,6 @@ pub(crate) fn ends_of<R: Row, const N: usize>(space: &Space<N>, slot: u64) -> u6
     let page = space.page(R::SEGMENT, at.page as u32).bytes();
     let ends = page[at.offset] ^ page[(at.offset + R::BYTES).min(N - 1)];
     ends.into()
-}
-
-/// The bytes of a live slot.
-pub(crate) fn live_slot<R: Row>(row: &R) -> SlotBytes
-    ensures bytes { result.items ≡ 1 ∷ R.bytes_of_row row.now }
-    ensures width { length (R.bytes_of_row row.now) ≡ R.BYTES }
-    ensures reads_back { R.row_of_bytes (R.bytes_of_row row.now) ≡ row.now }
-{
-    let mut bytes = SlotBytes::new();
-    bytes.push(1);
-    row.encode(&mut bytes);
-    bytes
-}
-
-/// The bytes of some columns.
-pub(crate) fn part_bytes<R: Row, P: Part<R>>(part: &P) -> SlotBytes
-    ensures bytes { result.items ≡ P.bytes_of_part part.now }
-    ensures width { length (P.bytes_of_part part.now) ≡ P.WIDTH }
-    ensures written { (row : List ℕ) → length row ≡ R.BYTES
-        → R.row_of_bytes (overwritten row P.OFFSET (P.bytes_of_part part.now)) ≡ P.with_part (R.row_of_bytes row) part.now }
-{
-    let mut bytes = SlotBytes::new();
-    part.encode_part(&mut bytes);
-    bytes
 }
 
 /// Writes bytes into a slot whose pages are there, behind as many of its bytes as are skipped, and keeps those that they

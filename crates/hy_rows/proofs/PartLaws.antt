@@ -1,15 +1,10 @@
 -- Some columns of a row, one behind another: where they are written anew, the others say what they said.
-use Rattle.std.proofs.Common.{◌≡◌, ℕ, pos, ◌+◌, ◌≤◌, ◌-◌, List, [], ◌∷◌, ◌++◌, length, drop, take, lit≤, refl, sym, ap, ap₂, ◌∙◌, arith, append_assoc, length-append}
-use Rattle.std.specs.Int.{w64, cast_signed}
-use Rattle.std.proofs.lemmas.List.{drop-append-le, drop-drop, drop-take, take-take, length-drop, length-take-le, take-append-le}
-use Rattle.hy_page.specs.Bytes.{bytes_at, number_of, overwritten}
+use Rattle.std.proofs.Common.{◌≡◌, ℕ, ◌+◌, ◌≤◌, List, [], ◌∷◌, ◌++◌, length, drop, take, refl, sym, ap, ap₂, ◌∙◌, arith, length-append}
+use Rattle.std.proofs.lemmas.List.{drop-append-le, length-drop, length-take-le, take-append-le}
+use Rattle.hy_page.specs.Bytes.{bytes_at, overwritten}
 use Rattle.hy_page.proofs.ByteLaws.{bytes_at-overwritten_before, bytes_at-overwritten_behind}
-use Rattle.hy_rows.specs.Columns.{AllFit, Column, Domain, OneOf, Signed, Text, Unsigned, row_bytes, row_width, value_at, values_from, values_in, width_of}
-use Rattle.hy_rows.specs.RowParts.{account_columns, account_in, account_of, account_with}
-use Rattle.hy_rows.specs.Rows.{customer_of}
-use Rattle.hy_rows.specs.Texts.{text_of}
+use Rattle.hy_rows.specs.Columns.{AllFit, Column, row_bytes, row_width, value_at, values_from, values_in, width_of}
 use Rattle.hy_rows.specs.declared.value.Value.{Value}
-use Rattle.hy_rows.specs.declared.value.Value.TheVariants as values
 use Rattle.hy_rows.specs.inside.PartLaws.{value_at-same}
 use Rattle.hy_rows.proofs.RowLaws.{length-row_bytes, values_from-bytes}
 

@@ -21,3 +21,10 @@ pub at_last : {State Taken Refused : Type 0} (after : State → Column → Value
     → now ≡ from → OnOk result (next ≡ after from column value)
 at_last after column value from now next (Ok taken) one others = and_then after one others
 at_last after column value from now next (Err refused) one others = one
+
+-- the last one, where its value is known as another one
+pub at_last_known : {State Taken Refused : Type 0} (after : State → Column → Value → State) (column : Column) (value known : Value)
+    → (from now next : State) (result : Result Taken Refused) → OnOk result (next ≡ after now column value)
+    → value ≡ known → now ≡ from → OnOk result (next ≡ after from column known)
+at_last_known after column value known from now next (Ok taken) one same others = and_known after one same others
+at_last_known after column value known from now next (Err refused) one same others = one

@@ -71,6 +71,7 @@ definition_of tables.Customer = record {
       ∷ amount (codes "C_YTD_PAYMENT") (neg_ℤ (pos max_cents)) (pos max_cents)
       ∷ number (codes "C_PAYMENT_CNT") 8 0 max_count
       ∷ number (codes "C_DELIVERY_CNT") 8 0 max_count
+      ∷ text (codes "C_DATA") 500
       ∷ [];
 }
 definition_of tables.History = record {

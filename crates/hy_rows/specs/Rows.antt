@@ -91,7 +91,7 @@ IsDistrictInRange row = IsTrue (are_allowed (columns_of tables.District) (distri
 abbrev pub customer_values : Customer → List Value
 customer_values row = number row.id ∷ number row.district ∷ number row.warehouse ∷ Text row.first ∷ Text row.middle ∷
     Text row.last ∷ Text row.credit ∷ number row.discount ∷ Whole row.balance ∷ Whole row.ytd_payment ∷
-    number row.payment_count ∷ number row.delivery_count ∷ []
+    number row.payment_count ∷ number row.delivery_count ∷ Text row.information ∷ []
 
 abbrev pub customer_with : List Value → Customer
 customer_with row = record {
@@ -107,6 +107,7 @@ customer_with row = record {
   ytd_payment = signed_of row 9;
   payment_count = number_of row 10;
   delivery_count = number_of row 11;
+  information = text_of row 12;
 }
 
 abbrev pub customer_bytes : Customer → List ℕ

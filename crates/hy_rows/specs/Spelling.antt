@@ -3,7 +3,7 @@
 -- slots lie in the bytes of the pages from 1 on, joined: as many in those of each page as fit it, or, where they are
 -- spanned, one behind another over the ends of pages. A slot is a mark, 1 for a live row and 0 for an erased one, and
 -- the bytes of the row.
-use Rattle.std.specs.Prelude.{◌≡◌, ℕ, ◌+◌, ◌-◌, ◌*◌, ◌/◌, ◌%◌, ◌<◌, ◌≤◌, ◌==◌, Bool, nat_lt, if◌then◌else◌, Option, None, Some, option_to_list, List, [], ◌∷◌, ◌++◌, length, drop, slice_get, slice_index_or, zero, suc}
+use Rattle.std.specs.Prelude.{◌≡◌, ℕ, ◌+◌, ◌*◌, ◌/◌, ◌%◌, ◌<◌, ◌≤◌, ◌==◌, Bool, nat_lt, if◌then◌else◌, Option, None, Some, option_to_list, List, [], ◌∷◌, ◌++◌, length, drop, slice_get, slice_index_or, zero, suc}
 use Rattle.std.specs.List.{concat, flat_map}
 use Rattle.hy_page.specs.Bytes.{bytes_at}
 use Rattle.hy_rows.specs.Catalogue.{columns_of, row_widths, segment_of, segments}

@@ -1,6 +1,6 @@
 -- Worked examples of the ranges, which the checker computes: of each table the rows with the least and the greatest values
 -- that a load may have, and rows with one value just beyond an end.
-use Rattle.std.specs.Prelude.{◌≡◌, ℕ, pos, negsuc, Bool, false, true, List, [], ◌∷◌, codes, refl, slice_set}
+use Rattle.std.specs.Prelude.{◌≡◌, ℕ, pos, negsuc, Bool, false, true, List, [], ◌∷◌, codes, refl, replicate, slice_set}
 use Rattle.std.specs.List.{list_any}
 use Rattle.hy_rows.specs.Catalogue.{columns_of}
 use Rattle.hy_rows.specs.Columns.{are_allowed}
@@ -66,12 +66,14 @@ district-beyond = refl
 -- CUSTOMER
 abbrev least_customer : List Value
 least_customer = number 1 ∷ number 1 ∷ number 1 ∷ Text [] ∷ Text [] ∷ Text [] ∷ Text (codes "BC") ∷ number 0
-    ∷ Whole (negsuc 999_999_999_999_999) ∷ Whole (negsuc 999_999_999_999_999) ∷ number 0 ∷ number 0 ∷ []
+    ∷ Whole (negsuc 999_999_999_999_999) ∷ Whole (negsuc 999_999_999_999_999) ∷ number 0 ∷ number 0
+    ∷ Text [] ∷ []
 
 abbrev greatest_customer : List Value
 greatest_customer = number 3_000 ∷ number 10 ∷ number 16 ∷ Text (codes "~~~~~~~~~~~~~~~~") ∷ Text (codes "~~")
     ∷ Text (codes "                ") ∷ Text (codes "GC") ∷ number 10_000 ∷ Whole (pos 1_000_000_000_000_000)
-    ∷ Whole (pos 1_000_000_000_000_000) ∷ number 1_000_000_000_000_000 ∷ number 1_000_000_000_000_000 ∷ []
+    ∷ Whole (pos 1_000_000_000_000_000) ∷ number 1_000_000_000_000_000 ∷ number 1_000_000_000_000_000
+    ∷ Text (replicate 500 126) ∷ []
 
 pub customer-least : may_be tables.Customer least_customer ≡ true
 customer-least = refl
@@ -86,7 +88,8 @@ customer_beyond = (0, number 0) ∷ (0, number 3_001) ∷ (1, number 0) ∷ (1, 
     ∷ (6, Text (codes "gc")) ∷ (6, Text (codes "GCB")) ∷ (7, number 10_001)
     ∷ (8, Whole (negsuc 1_000_000_000_000_000)) ∷ (8, Whole (pos 1_000_000_000_000_001))
     ∷ (9, Whole (negsuc 1_000_000_000_000_000)) ∷ (9, Whole (pos 1_000_000_000_000_001))
-    ∷ (10, number 1_000_000_000_000_001) ∷ (11, number 1_000_000_000_000_001) ∷ []
+    ∷ (10, number 1_000_000_000_000_001) ∷ (11, number 1_000_000_000_000_001) ∷ (12, Text (replicate 501 126))
+    ∷ (12, Text (31 ∷ [])) ∷ (12, Text (127 ∷ [])) ∷ []
 
 pub customer-beyond : list_any (may_have tables.Customer greatest_customer) customer_beyond ≡ false
 customer-beyond = refl

@@ -1,6 +1,6 @@
 -- Worked examples, which the checker computes: a fresh load of one warehouse with three customers in each district, where
 -- columns lie in rows, the bytes of one row of each table on pages, and a small page table.
-use Rattle.std.specs.Prelude.{◌≡◌, ℕ, Bool, true, false, Option, None, pos, negsuc, ◌*◌, ◌<◌, List, [], ◌∷◌, ◌++◌, length, map, replicate, codes, refl}
+use Rattle.std.specs.Prelude.{◌≡◌, ℕ, true, false, None, pos, negsuc, ◌*◌, ◌<◌, List, [], ◌∷◌, ◌++◌, length, map, replicate, codes, refl}
 use Rattle.std.specs.List.{flat_map, range_with_len}
 use Rattle.std.proofs.Common.{subst, sym, zero, suc, Some, arith, lit<, lit≤}
 use Rattle.std.proofs.lemmas.List.{get_or-replicate}
@@ -18,7 +18,7 @@ use Rattle.hy_rows.specs.Rows.{warehouse_bytes, warehouse_of, district_bytes, di
 use Rattle.hy_rows.specs.Tables.{Tables, all_of, no_rows, of_warehouse, row_counts, values_of}
 use Rattle.hy_rows.specs.declared.catalogue.Table.TheVariants as tables
 use Rattle.hy_rows.specs.declared.value.Value.TheVariants.{Text, Whole}
-use Rattle.hy_rows.specs.Spelling.{HasSlots, IsTable, Spells, is_spanned, list_at, slot_start, slots_end, slots_of, slots_per_page, rows_of, used_slots}
+use Rattle.hy_rows.specs.Spelling.{HasSlots, IsTable, Spells, is_spanned, list_at, slot_start, slots_end, slots_of, slots_per_page, rows_of}
 use Rattle.hy_rows.specs.Catalogue.{all_tables, columns_of, row_widths, segments}
 use Rattle.hy_rows.specs.Columns.{offset_of}
 use Rattle.hy_rows.specs.inside.Places.{segment_there}
@@ -47,6 +47,7 @@ fresh_customer district number first last = record {
   ytd_payment = pos 1_000;
   payment_count = 1;
   delivery_count = 0;
+  information = [];
 }
 
 -- the three customers of a district
@@ -107,16 +108,16 @@ pub two-of_warehouse_2 : of_warehouse 2 two_warehouses ≡ second
 two-of_warehouse_2 = refl
 
 -- how many columns each table has
-pub tables-columns : map (λ table. length (columns_of table)) all_tables ≡ 4 ∷ 6 ∷ 12 ∷ 8 ∷ 3 ∷ 8 ∷ 9 ∷ 6 ∷ 4 ∷ []
+pub tables-columns : map (λ table. length (columns_of table)) all_tables ≡ 4 ∷ 6 ∷ 13 ∷ 8 ∷ 3 ∷ 8 ∷ 9 ∷ 6 ∷ 4 ∷ []
 tables-columns = refl
 
 -- how many bytes a row of each table on pages has
-pub tables-widths : row_widths ≡ 21 ∷ 26 ∷ 74 ∷ 46 ∷ 6 ∷ 19 ∷ 29 ∷ 31 ∷ []
+pub tables-widths : row_widths ≡ 21 ∷ 26 ∷ 574 ∷ 46 ∷ 6 ∷ 19 ∷ 29 ∷ 31 ∷ []
 tables-widths = refl
 
 -- where columns begin in the bytes of a row
-pub customer-offsets : map (offset_of (columns_of tables.Customer)) (range_with_len 0 12)
-    ≡ 0 ∷ 2 ∷ 3 ∷ 4 ∷ 20 ∷ 22 ∷ 38 ∷ 40 ∷ 42 ∷ 50 ∷ 58 ∷ 66 ∷ []
+pub customer-offsets : map (offset_of (columns_of tables.Customer)) (range_with_len 0 13)
+    ≡ 0 ∷ 2 ∷ 3 ∷ 4 ∷ 20 ∷ 22 ∷ 38 ∷ 40 ∷ 42 ∷ 50 ∷ 58 ∷ 66 ∷ 74 ∷ []
 customer-offsets = refl
 
 pub order_line-offsets : map (offset_of (columns_of tables.OrderLine)) (range_with_len 0 9)
@@ -152,20 +153,36 @@ district-bytes = refl
 pub district-reads : district_of bytes_of_district ≡ fresh_district 3 (codes "D3")
 district-reads = refl
 
--- the bytes of customer 2 of district 3: 2, 3, 1, "F0002", "OE", "BARBAROUGHT", "GC", 200, -1000, 1000, 1, 0
-abbrev pub bytes_of_customer : List ℕ
-bytes_of_customer =
+-- the bytes of customer 2 of district 3: 2, 3, 1, "F0002", "OE", "BARBAROUGHT", "GC", 200, -1000, 1000, 1, 0, and a text
+abbrev pub bytes_with_text : List ℕ → List ℕ
+bytes_with_text text =
     2 ∷ 0 ∷ 3 ∷ 1 ∷ 70 ∷ 48 ∷ 48 ∷ 48 ∷ 50 ∷ 0 ∷ 0 ∷ 0 ∷ 0 ∷ 0 ∷ 0 ∷ 0 ∷ 0 ∷ 0 ∷ 0 ∷ 0 ∷ 79 ∷ 69 ∷ 66 ∷ 65
     ∷ 82 ∷ 66 ∷ 65
     ∷ 82 ∷ 79 ∷ 85 ∷ 71 ∷ 72 ∷ 84 ∷ 0 ∷ 0 ∷ 0 ∷ 0 ∷ 0 ∷ 71 ∷ 67 ∷ 200 ∷ 0 ∷ 24 ∷ 252 ∷ 255 ∷ 255 ∷ 255 ∷ 255
     ∷ 255 ∷ 255
-    ∷ 232 ∷ 3 ∷ 0 ∷ 0 ∷ 0 ∷ 0 ∷ 0 ∷ 0 ∷ 1 ∷ 0 ∷ 0 ∷ 0 ∷ 0 ∷ 0 ∷ 0 ∷ 0 ∷ 0 ∷ 0 ∷ 0 ∷ 0 ∷ 0 ∷ 0 ∷ 0 ∷ 0 ∷ []
+    ∷ 232 ∷ 3 ∷ 0 ∷ 0 ∷ 0 ∷ 0 ∷ 0 ∷ 0 ∷ 1 ∷ 0 ∷ 0 ∷ 0 ∷ 0 ∷ 0 ∷ 0 ∷ 0 ∷ 0 ∷ 0 ∷ 0 ∷ 0 ∷ 0 ∷ 0 ∷ 0 ∷ 0 ∷ text
+
+-- where C_DATA is empty, and where it isn't
+abbrev pub bytes_of_customer : List ℕ
+bytes_of_customer = bytes_with_text (replicate 500 0)
 
 pub customer-bytes : customer_bytes (fresh_customer 3 2 (codes "F0002") (codes "BARBAROUGHT")) ≡ bytes_of_customer
 customer-bytes = refl
 
 pub customer-reads : customer_of bytes_of_customer ≡ fresh_customer 3 2 (codes "F0002") (codes "BARBAROUGHT")
 customer-reads = refl
+
+abbrev pub noted_customer : Customer
+noted_customer = record (fresh_customer 3 2 (codes "F0002") (codes "BARBAROUGHT")) { information = codes "2 3;" }
+
+abbrev pub bytes_of_noted : List ℕ
+bytes_of_noted = bytes_with_text (50 ∷ 32 ∷ 51 ∷ 59 ∷ replicate 496 0)
+
+pub noted-bytes : customer_bytes noted_customer ≡ bytes_of_noted
+noted-bytes = refl
+
+pub noted-reads : customer_of bytes_of_noted ≡ noted_customer
+noted-reads = refl
 
 -- the bytes of a payment of 2 of district 3 of warehouse 4, to district 5 of warehouse 6 at 1700000000, of -300 cents
 abbrev pub some_history : History

@@ -49,7 +49,7 @@ pub const SEGMENTS: u32 = 8;
 pub const MAX_COLUMNS: usize = 16;
 
 /// The greatest slot: its mark, and the bytes of the longest row.
-pub const MAX_SLOT_BYTES: usize = 75;
+pub const MAX_SLOT_BYTES: usize = 575;
 
 /// All tables, in their order.
 pub const ALL_TABLES: [Table; TABLES] = [
@@ -146,7 +146,7 @@ pub(crate) const DISTRICT: &[ColumnDefinition; 6] = &[
 ];
 
 /// The columns of CUSTOMER.
-pub(crate) const CUSTOMER: &[ColumnDefinition; 12] = &[
+pub(crate) const CUSTOMER: &[ColumnDefinition; 13] = &[
     number!(b"C_ID", 2, 1, MAX_CUSTOMERS),
     number!(b"C_D_ID", 1, 1, DISTRICTS_PER_WAREHOUSE),
     number!(b"C_W_ID", 1, 1, MAX_WAREHOUSES),
@@ -159,6 +159,7 @@ pub(crate) const CUSTOMER: &[ColumnDefinition; 12] = &[
     amount!(b"C_YTD_PAYMENT", -MAX_CENTS, MAX_CENTS),
     number!(b"C_PAYMENT_CNT", 8, 0, MAX_COUNT),
     number!(b"C_DELIVERY_CNT", 8, 0, MAX_COUNT),
+    text!(b"C_DATA", 500),
 ];
 
 /// The columns of HISTORY.

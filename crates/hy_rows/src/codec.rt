@@ -1,22 +1,49 @@
 //! The bytes of columns in a slot.
 
-ghost use Rattle.std.specs.Prelude.{◌≡◌, ◌+◌, ◌^◌, ◌<◌, ◌≤◌, ◌++◌, length};
+ghost use Rattle.std.specs.Prelude.{◌≡◌, ℕ, ◌+◌, ◌-◌, ◌^◌, ◌<◌, ◌≤◌, List, [], ◌∷◌, ◌++◌, IfOk, length, replicate};
 ghost use Rattle.arrayvec.specs.ArrayVec.{array_vec_len};
 ghost use Rattle.hy_page.specs.Bytes.{bytes_of};
 ghost use Rattle.hy_rows.specs.Columns.{number_at, signed_at, text_at, signed_bytes};
 ghost use Rattle.hy_rows.specs.Texts.{IsText, padded};
 
-use crate::catalogue::MAX_SLOT_BYTES;
+use crate::long_text::LongText;
 use crate::text::Text;
 use arrayvec::ArrayVec;
 use hy_page::number;
+use std::alloc::{AllocError, Global};
 
-/// The bytes of a slot, as they are put together.
-pub type SlotBytes = ArrayVec<u8, MAX_SLOT_BYTES>;
+/// Bytes that were put together.
+pub trait ByteBuffer: Drop {
+    /// The bytes.
+    ghost bytes: { Self → List ℕ };
+
+    /// The bytes.
+    fn as_slice(&self) -> &[u8]
+        ensures { result.now ≡ bytes self.now };
+}
+
+impl<const CAP: usize> ByteBuffer for ArrayVec<u8, CAP> {
+    ghost bytes = { λ buffer. buffer.items };
+
+    fn as_slice(&self) -> &[u8] {
+        self.as_slice()
+    }
+}
+
+/// The mark of a live row, with room for the row.
+pub fn marked<const CAP: usize>() -> ArrayVec<u8, CAP>
+    requires { 1 ≤ CAP }
+    ensures bytes { result.items ≡ 1 ∷ [] }
+    ensures len { array_vec_len result ≡ 1 }
+{
+    let mut slot = ArrayVec::new();
+    slot.push(1);
+    slot
+}
 
 /// Appends the first `width` bytes of a number, the lowest first.
-pub fn push_number(out: &mut SlotBytes, number: u64, width: usize)
-    requires { array_vec_len out.old + width ≤ MAX_SLOT_BYTES }
+pub fn push_number<const CAP: usize>(out: &mut ArrayVec<u8, CAP>, number: u64, width: usize)
+    requires { array_vec_len out.old + width ≤ CAP }
     ensures bytes { out.new.items ≡ out.old.items ++ bytes_of width number }
     ensures len { array_vec_len out.new ≡ array_vec_len out.old + width }
 {
@@ -28,8 +55,8 @@ pub fn push_number(out: &mut SlotBytes, number: u64, width: usize)
 }
 
 /// Appends a signed number in eight bytes.
-pub fn push_signed(out: &mut SlotBytes, number: i64)
-    requires { array_vec_len out.old + 8 ≤ MAX_SLOT_BYTES }
+pub fn push_signed<const CAP: usize>(out: &mut ArrayVec<u8, CAP>, number: i64)
+    requires { array_vec_len out.old + 8 ≤ CAP }
     ensures bytes { out.new.items ≡ out.old.items ++ signed_bytes number }
     ensures len { array_vec_len out.new ≡ array_vec_len out.old + 8 }
 {
@@ -37,15 +64,53 @@ pub fn push_signed(out: &mut SlotBytes, number: i64)
 }
 
 /// Appends a text, padded to its width.
-pub fn push_text<const WIDTH: usize>(out: &mut SlotBytes, text: &Text<WIDTH>)
-    requires { array_vec_len out.old + WIDTH ≤ MAX_SLOT_BYTES }
+pub fn push_text<const WIDTH: usize, const CAP: usize>(
+    out: &mut ArrayVec<u8, CAP>,
+    text: &Text<WIDTH>,
+)
+    requires { array_vec_len out.old + WIDTH ≤ CAP }
     ensures bytes { out.new.items ≡ out.old.items ++ padded WIDTH text.now }
     ensures len { array_vec_len out.new ≡ array_vec_len out.old + WIDTH }
     ensures text { IsText WIDTH text.now }
 {
-    match out.try_extend_from_slice(text.field()) {
+    push_bytes(out, text.field());
+}
+
+/// Appends a text, padded to its width.
+pub fn push_long_text<const WIDTH: usize, const CAP: usize>(
+    out: &mut ArrayVec<u8, CAP>,
+    text: &LongText<WIDTH>,
+)
+    requires { array_vec_len out.old + WIDTH ≤ CAP }
+    ensures bytes { out.new.items ≡ out.old.items ++ padded WIDTH text.now }
+    ensures len { array_vec_len out.new ≡ array_vec_len out.old + WIDTH }
+    ensures text { IsText WIDTH text.now }
+{
+    let bytes = text.as_bytes();
+    push_bytes(out, bytes);
+    push_zeros(out, WIDTH - bytes.len());
+}
+
+/// Appends bytes.
+fn push_bytes<const CAP: usize>(out: &mut ArrayVec<u8, CAP>, bytes: &[u8])
+    requires { array_vec_len out.old + length bytes.now ≤ CAP }
+    ensures bytes { out.new.items ≡ out.old.items ++ bytes.now }
+    ensures len { array_vec_len out.new ≡ array_vec_len out.old + length bytes.now }
+{
+    match out.try_extend_from_slice(bytes) {
         Ok(()) => {}
         Err(_) => unreachable!(),
+    }
+}
+
+/// Appends so many zero bytes.
+fn push_zeros<const CAP: usize>(out: &mut ArrayVec<u8, CAP>, count: usize)
+    requires { array_vec_len out.old + count ≤ CAP }
+    ensures bytes { out.new.items ≡ out.old.items ++ replicate count 0 }
+    ensures len { array_vec_len out.new ≡ array_vec_len out.old + count }
+{
+    for _ in 0..count {
+        out.push(0);
     }
 }
 
@@ -73,4 +138,16 @@ pub fn read_text<const WIDTH: usize>(bytes: &[u8], offset: usize) -> Text<WIDTH>
     ensures { result ≡ text_at bytes.now offset WIDTH }
 {
     Text::of_field(&bytes[offset..offset + WIDTH])
+}
+
+/// The text of a field of `WIDTH` bytes at an offset. Only memory can lack.
+pub fn read_long_text<const WIDTH: usize>(
+    alloc: Global,
+    bytes: &[u8],
+    offset: usize,
+) -> Result<LongText<WIDTH>, AllocError>
+    requires { offset + WIDTH ≤ length bytes.now }
+    ensures { IfOk result (λ text. text ≡ text_at bytes.now offset WIDTH) }
+{
+    LongText::of_field(alloc, &bytes[offset..offset + WIDTH])
 }

@@ -2,12 +2,14 @@
 
 use crate::catalogue::{DISTRICT, Table};
 use crate::codec::{
-    SlotBytes, push_number, push_signed, push_text, read_number, read_signed, read_text,
+    marked, push_number, push_signed, push_text, read_number, read_signed, read_text,
 };
-use crate::record::{Record, ValueSink, ValueSource};
-use crate::row::{Lasting, Row};
+use crate::record::{FixedRecord, Record, ValueSink, ValueSource};
+use crate::row::{FixedRow, Lasting, Row};
 use crate::tables::Tables;
 use crate::text::Text;
+use arrayvec::ArrayVec;
+use std::alloc::{AllocError, Global};
 
 /// How many districts a warehouse has (TPC-C clause 1.2.1).
 pub const DISTRICTS_PER_WAREHOUSE: u8 = 10;
@@ -55,6 +57,12 @@ impl Record for District {
         sink.u32(next_order, self.next_order)
     }
 
+    ghost has_all = { λ row. refl };
+
+    ghost same_row = { λ row. refl };
+}
+
+impl FixedRecord for District {
     fn take<S: ValueSource>(source: &S) -> Option<District> {
         Some(District {
             id: source.u8(0)?,
@@ -65,10 +73,6 @@ impl Record for District {
             next_order: source.u32(5)?,
         })
     }
-
-    ghost has_all = { λ row. refl };
-
-    ghost same_row = { λ row. refl };
 }
 
 impl Row for District {
@@ -81,6 +85,8 @@ impl Row for District {
     const SEGMENT: u32 = 1;
 
     const BYTES: usize = 26;
+
+    type Slot = ArrayVec<u8, 27>;
 
     ghost SEGMENT = { 1 };
 
@@ -96,24 +102,19 @@ impl Row for District {
 
     ghost with_rows = { λ tables rows. record tables { districts = rows } };
 
-    fn encode(&self, slot: &mut SlotBytes) {
-        push_number(slot, self.id.into(), 1);
-        push_number(slot, self.warehouse.into(), 1);
-        push_text(slot, &self.name);
-        push_number(slot, self.tax.into(), 2);
-        push_signed(slot, self.ytd);
-        push_number(slot, self.next_order.into(), 4);
+    fn slot(&self) -> ArrayVec<u8, 27> {
+        let mut slot = marked();
+        push_number(&mut slot, self.id.into(), 1);
+        push_number(&mut slot, self.warehouse.into(), 1);
+        push_text(&mut slot, &self.name);
+        push_number(&mut slot, self.tax.into(), 2);
+        push_signed(&mut slot, self.ytd);
+        push_number(&mut slot, self.next_order.into(), 4);
+        slot
     }
 
-    fn decode(bytes: &[u8]) -> District {
-        District {
-            id: read_number(bytes, 0, 1) as u8,
-            warehouse: read_number(bytes, 1, 1) as u8,
-            name: read_text(bytes, 2),
-            tax: read_number(bytes, 12, 2) as u16,
-            ytd: read_signed(bytes, 14),
-            next_order: read_number(bytes, 22, 4) as u32,
-        }
+    fn decode(_alloc: Global, bytes: &[u8]) -> Result<District, AllocError> {
+        Ok(District::read(bytes))
     }
 
     fn rows_of(tables: &Tables) -> &[District] {
@@ -144,6 +145,19 @@ impl Row for District {
 
     ghost respelled = { λ n bytes pages whole. by_places (λ all. tables_of n (slice_set all 1 pages)
         ≡ record (tables_of n all) { districts = rows_of n 26 district_of pages }) bytes whole refl };
+}
+
+impl FixedRow for District {
+    fn read(bytes: &[u8]) -> District {
+        District {
+            id: read_number(bytes, 0, 1) as u8,
+            warehouse: read_number(bytes, 1, 1) as u8,
+            name: read_text(bytes, 2),
+            tax: read_number(bytes, 12, 2) as u16,
+            ytd: read_signed(bytes, 14),
+            next_order: read_number(bytes, 22, 4) as u32,
+        }
+    }
 }
 
 impl Lasting for District {

@@ -2,12 +2,14 @@
 
 use crate::catalogue::{HISTORY, Table};
 use crate::codec::{
-    SlotBytes, push_number, push_signed, push_text, read_number, read_signed, read_text,
+    marked, push_number, push_signed, push_text, read_number, read_signed, read_text,
 };
-use crate::record::{Record, ValueSink, ValueSource};
-use crate::row::{Lasting, Row};
+use crate::record::{FixedRecord, Record, ValueSink, ValueSource};
+use crate::row::{FixedRow, Lasting, Row};
 use crate::tables::Tables;
 use crate::text::Text;
+use arrayvec::ArrayVec;
+use std::alloc::{AllocError, Global};
 
 /// The last moment.
 pub const MAX_MOMENT: u64 = 1_000_000_000_000_000;
@@ -67,6 +69,12 @@ impl Record for History {
         sink.text(information, self.information.as_bytes())
     }
 
+    ghost has_all = { λ row. refl };
+
+    ghost same_row = { λ row. refl };
+}
+
+impl FixedRecord for History {
     fn take<S: ValueSource>(source: &S) -> Option<History> {
         Some(History {
             customer: source.u16(0)?,
@@ -79,10 +87,6 @@ impl Record for History {
             information: Text::of_bytes(source.text(7, 24)?),
         })
     }
-
-    ghost has_all = { λ row. refl };
-
-    ghost same_row = { λ row. refl };
 }
 
 impl Row for History {
@@ -95,6 +99,8 @@ impl Row for History {
     const SEGMENT: u32 = 3;
 
     const BYTES: usize = 46;
+
+    type Slot = ArrayVec<u8, 47>;
 
     ghost SEGMENT = { 3 };
 
@@ -110,28 +116,21 @@ impl Row for History {
 
     ghost with_rows = { λ tables rows. record tables { history = rows } };
 
-    fn encode(&self, slot: &mut SlotBytes) {
-        push_number(slot, self.customer.into(), 2);
-        push_number(slot, self.customer_district.into(), 1);
-        push_number(slot, self.customer_warehouse.into(), 1);
-        push_number(slot, self.district.into(), 1);
-        push_number(slot, self.warehouse.into(), 1);
-        push_number(slot, self.date, 8);
-        push_signed(slot, self.amount);
-        push_text(slot, &self.information);
+    fn slot(&self) -> ArrayVec<u8, 47> {
+        let mut slot = marked();
+        push_number(&mut slot, self.customer.into(), 2);
+        push_number(&mut slot, self.customer_district.into(), 1);
+        push_number(&mut slot, self.customer_warehouse.into(), 1);
+        push_number(&mut slot, self.district.into(), 1);
+        push_number(&mut slot, self.warehouse.into(), 1);
+        push_number(&mut slot, self.date, 8);
+        push_signed(&mut slot, self.amount);
+        push_text(&mut slot, &self.information);
+        slot
     }
 
-    fn decode(bytes: &[u8]) -> History {
-        History {
-            customer: read_number(bytes, 0, 2) as u16,
-            customer_district: read_number(bytes, 2, 1) as u8,
-            customer_warehouse: read_number(bytes, 3, 1) as u8,
-            district: read_number(bytes, 4, 1) as u8,
-            warehouse: read_number(bytes, 5, 1) as u8,
-            date: read_number(bytes, 6, 8),
-            amount: read_signed(bytes, 14),
-            information: read_text(bytes, 22),
-        }
+    fn decode(_alloc: Global, bytes: &[u8]) -> Result<History, AllocError> {
+        Ok(History::read(bytes))
     }
 
     fn rows_of(tables: &Tables) -> &[History] {
@@ -162,6 +161,21 @@ impl Row for History {
 
     ghost respelled = { λ n bytes pages whole. by_places (λ all. tables_of n (slice_set all 3 pages)
         ≡ record (tables_of n all) { history = rows_of n 46 history_of pages }) bytes whole refl };
+}
+
+impl FixedRow for History {
+    fn read(bytes: &[u8]) -> History {
+        History {
+            customer: read_number(bytes, 0, 2) as u16,
+            customer_district: read_number(bytes, 2, 1) as u8,
+            customer_warehouse: read_number(bytes, 3, 1) as u8,
+            district: read_number(bytes, 4, 1) as u8,
+            warehouse: read_number(bytes, 5, 1) as u8,
+            date: read_number(bytes, 6, 8),
+            amount: read_signed(bytes, 14),
+            information: read_text(bytes, 22),
+        }
+    }
 }
 
 impl Lasting for History {

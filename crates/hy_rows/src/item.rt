@@ -2,7 +2,7 @@
 
 use crate::catalogue::{ITEM, Table};
 use crate::lists::Lists;
-use crate::record::{Record, ValueSink, ValueSource};
+use crate::record::{FixedRecord, Record, ValueSink, ValueSource};
 use crate::row::{Listed, Source};
 use crate::text::Text;
 use std::alloc::AllocError;
@@ -50,6 +50,12 @@ impl Record for Item {
         sink.u32(price, self.price)
     }
 
+    ghost has_all = { λ row. refl };
+
+    ghost same_row = { λ row. refl };
+}
+
+impl FixedRecord for Item {
     fn take<S: ValueSource>(source: &S) -> Option<Item> {
         Some(Item {
             id: source.u32(0)?,
@@ -58,10 +64,6 @@ impl Record for Item {
             price: source.u32(3)?,
         })
     }
-
-    ghost has_all = { λ row. refl };
-
-    ghost same_row = { λ row. refl };
 }
 
 impl Listed for Item {

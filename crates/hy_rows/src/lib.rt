@@ -9,6 +9,7 @@ mod district;
 mod history;
 mod item;
 mod lists;
+mod long_text;
 mod new_order;
 mod order;
 mod order_line;
@@ -21,20 +22,26 @@ mod text;
 mod value;
 mod warehouse;
 
-pub use catalogue::{ALL_TABLES, MAX_COLUMNS, SEGMENTS, TABLES, TABLES_BY_FILE, Table};
-pub use codec::SlotBytes;
+pub use catalogue::{
+    ALL_TABLES, MAX_COLUMNS, MAX_SLOT_BYTES, SEGMENTS, TABLES, TABLES_BY_FILE, Table,
+};
+pub use codec::ByteBuffer;
 pub use column::{ColumnDefinition, Domain, row_width};
-pub use customer::{Customer, CustomerAccount, MAX_COUNT, MAX_CUSTOMERS};
+pub use customer::{
+    Customer, CustomerAccount, CustomerDiscount, CustomerIdentity, CustomerNumber, MAX_COUNT,
+    MAX_CUSTOMERS,
+};
 pub use district::{DISTRICTS_PER_WAREHOUSE, District, MAX_ORDER};
 pub use history::{History, MAX_MOMENT};
 pub use item::{Item, MAX_IMAGES, MAX_ITEMS, MAX_PRICE};
 pub use lists::Lists;
+pub use long_text::LongText;
 pub use new_order::NewOrder;
 pub use order::{MAX_CARRIERS, MAX_LINES, MIN_LINES, Order};
 pub use order_line::{MAX_LINE_CENTS, MAX_QUANTITY, OrderLine};
-pub use part::Part;
-pub use record::{Never, Record, ValueSink, ValueSource};
-pub use row::{Lasting, Listed, Row, RowSource, Source};
+pub use part::{Part, WrittenPart};
+pub use record::{FixedRecord, Never, OwnedRecord, Record, ValueSink, ValueSource};
+pub use row::{FixedRow, Lasting, Listed, Row, RowSource, Source};
 pub use stock::{MAX_STOCK, Stock};
 pub use tables::{PerTable, Tables};
 pub use text::{Text, is_printable};

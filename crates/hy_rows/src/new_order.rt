@@ -1,10 +1,12 @@
 //! Rows of NEW-ORDER.
 
 use crate::catalogue::{NEW_ORDER, Table};
-use crate::codec::{SlotBytes, push_number, read_number};
-use crate::record::{Record, ValueSink, ValueSource};
-use crate::row::Row;
+use crate::codec::{marked, push_number, read_number};
+use crate::record::{FixedRecord, Record, ValueSink, ValueSource};
+use crate::row::{FixedRow, Row};
 use crate::tables::Tables;
+use arrayvec::ArrayVec;
+use std::alloc::{AllocError, Global};
 
 /// A row of NEW-ORDER (TPC-C clause 1.3.1).
 #[derive(Clone, Copy, Debug, PartialEq, Eq)]
@@ -37,6 +39,12 @@ impl Record for NewOrder {
         sink.u8(warehouse, self.warehouse)
     }
 
+    ghost has_all = { λ row. refl };
+
+    ghost same_row = { λ row. refl };
+}
+
+impl FixedRecord for NewOrder {
     fn take<S: ValueSource>(source: &S) -> Option<NewOrder> {
         Some(NewOrder {
             order: source.u32(0)?,
@@ -44,10 +52,6 @@ impl Record for NewOrder {
             warehouse: source.u8(2)?,
         })
     }
-
-    ghost has_all = { λ row. refl };
-
-    ghost same_row = { λ row. refl };
 }
 
 impl Row for NewOrder {
@@ -60,6 +64,8 @@ impl Row for NewOrder {
     const SEGMENT: u32 = 4;
 
     const BYTES: usize = 6;
+
+    type Slot = ArrayVec<u8, 7>;
 
     ghost SEGMENT = { 4 };
 
@@ -75,18 +81,16 @@ impl Row for NewOrder {
 
     ghost with_rows = { λ tables rows. record tables { new_orders = rows } };
 
-    fn encode(&self, slot: &mut SlotBytes) {
-        push_number(slot, self.order.into(), 4);
-        push_number(slot, self.district.into(), 1);
-        push_number(slot, self.warehouse.into(), 1);
+    fn slot(&self) -> ArrayVec<u8, 7> {
+        let mut slot = marked();
+        push_number(&mut slot, self.order.into(), 4);
+        push_number(&mut slot, self.district.into(), 1);
+        push_number(&mut slot, self.warehouse.into(), 1);
+        slot
     }
 
-    fn decode(bytes: &[u8]) -> NewOrder {
-        NewOrder {
-            order: read_number(bytes, 0, 4) as u32,
-            district: read_number(bytes, 4, 1) as u8,
-            warehouse: read_number(bytes, 5, 1) as u8,
-        }
+    fn decode(_alloc: Global, bytes: &[u8]) -> Result<NewOrder, AllocError> {
+        Ok(NewOrder::read(bytes))
     }
 
     fn rows_of(tables: &Tables) -> &[NewOrder] {
@@ -117,4 +121,14 @@ impl Row for NewOrder {
 
     ghost respelled = { λ n bytes pages whole. by_places (λ all. tables_of n (slice_set all 4 pages)
         ≡ record (tables_of n all) { new_orders = rows_of n 6 new_order_of pages }) bytes whole refl };
+}
+
+impl FixedRow for NewOrder {
+    fn read(bytes: &[u8]) -> NewOrder {
+        NewOrder {
+            order: read_number(bytes, 0, 4) as u32,
+            district: read_number(bytes, 4, 1) as u8,
+            warehouse: read_number(bytes, 5, 1) as u8,
+        }
+    }
 }

@@ -1,10 +1,12 @@
 //! Rows of ORDER.
 
 use crate::catalogue::{ORDER, Table};
-use crate::codec::{SlotBytes, push_number, read_number};
-use crate::record::{Record, ValueSink, ValueSource};
-use crate::row::{Lasting, Row};
+use crate::codec::{marked, push_number, read_number};
+use crate::record::{FixedRecord, Record, ValueSink, ValueSource};
+use crate::row::{FixedRow, Lasting, Row};
 use crate::tables::Tables;
+use arrayvec::ArrayVec;
+use std::alloc::{AllocError, Global};
 
 /// The greatest O_CARRIER_ID (TPC-C clause 2.7.1.2).
 pub const MAX_CARRIERS: u8 = 10;
@@ -69,6 +71,12 @@ impl Record for Order {
         sink.u8(all_local, self.all_local)
     }
 
+    ghost has_all = { λ row. refl };
+
+    ghost same_row = { λ row. refl };
+}
+
+impl FixedRecord for Order {
     fn take<S: ValueSource>(source: &S) -> Option<Order> {
         Some(Order {
             id: source.u32(0)?,
@@ -81,10 +89,6 @@ impl Record for Order {
             all_local: source.u8(7)?,
         })
     }
-
-    ghost has_all = { λ row. refl };
-
-    ghost same_row = { λ row. refl };
 }
 
 impl Row for Order {
@@ -97,6 +101,8 @@ impl Row for Order {
     const SEGMENT: u32 = 5;
 
     const BYTES: usize = 19;
+
+    type Slot = ArrayVec<u8, 20>;
 
     ghost SEGMENT = { 5 };
 
@@ -112,28 +118,21 @@ impl Row for Order {
 
     ghost with_rows = { λ tables rows. record tables { orders = rows } };
 
-    fn encode(&self, slot: &mut SlotBytes) {
-        push_number(slot, self.id.into(), 4);
-        push_number(slot, self.district.into(), 1);
-        push_number(slot, self.warehouse.into(), 1);
-        push_number(slot, self.customer.into(), 2);
-        push_number(slot, self.entry_date, 8);
-        push_number(slot, self.carrier.into(), 1);
-        push_number(slot, self.line_count.into(), 1);
-        push_number(slot, self.all_local.into(), 1);
+    fn slot(&self) -> ArrayVec<u8, 20> {
+        let mut slot = marked();
+        push_number(&mut slot, self.id.into(), 4);
+        push_number(&mut slot, self.district.into(), 1);
+        push_number(&mut slot, self.warehouse.into(), 1);
+        push_number(&mut slot, self.customer.into(), 2);
+        push_number(&mut slot, self.entry_date, 8);
+        push_number(&mut slot, self.carrier.into(), 1);
+        push_number(&mut slot, self.line_count.into(), 1);
+        push_number(&mut slot, self.all_local.into(), 1);
+        slot
     }
 
-    fn decode(bytes: &[u8]) -> Order {
-        Order {
-            id: read_number(bytes, 0, 4) as u32,
-            district: read_number(bytes, 4, 1) as u8,
-            warehouse: read_number(bytes, 5, 1) as u8,
-            customer: read_number(bytes, 6, 2) as u16,
-            entry_date: read_number(bytes, 8, 8),
-            carrier: read_number(bytes, 16, 1) as u8,
-            line_count: read_number(bytes, 17, 1) as u8,
-            all_local: read_number(bytes, 18, 1) as u8,
-        }
+    fn decode(_alloc: Global, bytes: &[u8]) -> Result<Order, AllocError> {
+        Ok(Order::read(bytes))
     }
 
     fn rows_of(tables: &Tables) -> &[Order] {
@@ -164,6 +163,21 @@ impl Row for Order {
 
     ghost respelled = { λ n bytes pages whole. by_places (λ all. tables_of n (slice_set all 5 pages)
         ≡ record (tables_of n all) { orders = rows_of n 19 order_of pages }) bytes whole refl };
+}
+
+impl FixedRow for Order {
+    fn read(bytes: &[u8]) -> Order {
+        Order {
+            id: read_number(bytes, 0, 4) as u32,
+            district: read_number(bytes, 4, 1) as u8,
+            warehouse: read_number(bytes, 5, 1) as u8,
+            customer: read_number(bytes, 6, 2) as u16,
+            entry_date: read_number(bytes, 8, 8),
+            carrier: read_number(bytes, 16, 1) as u8,
+            line_count: read_number(bytes, 17, 1) as u8,
+            all_local: read_number(bytes, 18, 1) as u8,
+        }
+    }
 }
 
 impl Lasting for Order {

@@ -1,10 +1,12 @@
 //! Rows of ORDER-LINE.
 
 use crate::catalogue::{ORDER_LINE, Table};
-use crate::codec::{SlotBytes, push_number, push_signed, read_number, read_signed};
-use crate::record::{Record, ValueSink, ValueSource};
-use crate::row::{Lasting, Row};
+use crate::codec::{marked, push_number, push_signed, read_number, read_signed};
+use crate::record::{FixedRecord, Record, ValueSink, ValueSource};
+use crate::row::{FixedRow, Lasting, Row};
 use crate::tables::Tables;
+use arrayvec::ArrayVec;
+use std::alloc::{AllocError, Global};
 
 /// The greatest quantity of an order line (TPC-C clause 2.4.1.5).
 pub const MAX_QUANTITY: u8 = 10;
@@ -71,6 +73,12 @@ impl Record for OrderLine {
         sink.i64(amount, self.amount)
     }
 
+    ghost has_all = { λ row. refl };
+
+    ghost same_row = { λ row. refl };
+}
+
+impl FixedRecord for OrderLine {
     fn take<S: ValueSource>(source: &S) -> Option<OrderLine> {
         Some(OrderLine {
             order: source.u32(0)?,
@@ -84,10 +92,6 @@ impl Record for OrderLine {
             amount: source.i64(8)?,
         })
     }
-
-    ghost has_all = { λ row. refl };
-
-    ghost same_row = { λ row. refl };
 }
 
 impl Row for OrderLine {
@@ -100,6 +104,8 @@ impl Row for OrderLine {
     const SEGMENT: u32 = 6;
 
     const BYTES: usize = 29;
+
+    type Slot = ArrayVec<u8, 30>;
 
     ghost SEGMENT = { 6 };
 
@@ -115,30 +121,22 @@ impl Row for OrderLine {
 
     ghost with_rows = { λ tables rows. record tables { order_lines = rows } };
 
-    fn encode(&self, slot: &mut SlotBytes) {
-        push_number(slot, self.order.into(), 4);
-        push_number(slot, self.district.into(), 1);
-        push_number(slot, self.warehouse.into(), 1);
-        push_number(slot, self.number.into(), 1);
-        push_number(slot, self.item.into(), 4);
-        push_number(slot, self.supply_warehouse.into(), 1);
-        push_number(slot, self.delivery_date, 8);
-        push_number(slot, self.quantity.into(), 1);
-        push_signed(slot, self.amount);
+    fn slot(&self) -> ArrayVec<u8, 30> {
+        let mut slot = marked();
+        push_number(&mut slot, self.order.into(), 4);
+        push_number(&mut slot, self.district.into(), 1);
+        push_number(&mut slot, self.warehouse.into(), 1);
+        push_number(&mut slot, self.number.into(), 1);
+        push_number(&mut slot, self.item.into(), 4);
+        push_number(&mut slot, self.supply_warehouse.into(), 1);
+        push_number(&mut slot, self.delivery_date, 8);
+        push_number(&mut slot, self.quantity.into(), 1);
+        push_signed(&mut slot, self.amount);
+        slot
     }
 
-    fn decode(bytes: &[u8]) -> OrderLine {
-        OrderLine {
-            order: read_number(bytes, 0, 4) as u32,
-            district: read_number(bytes, 4, 1) as u8,
-            warehouse: read_number(bytes, 5, 1) as u8,
-            number: read_number(bytes, 6, 1) as u8,
-            item: read_number(bytes, 7, 4) as u32,
-            supply_warehouse: read_number(bytes, 11, 1) as u8,
-            delivery_date: read_number(bytes, 12, 8),
-            quantity: read_number(bytes, 20, 1) as u8,
-            amount: read_signed(bytes, 21),
-        }
+    fn decode(_alloc: Global, bytes: &[u8]) -> Result<OrderLine, AllocError> {
+        Ok(OrderLine::read(bytes))
     }
 
     fn rows_of(tables: &Tables) -> &[OrderLine] {
@@ -169,6 +167,22 @@ impl Row for OrderLine {
 
     ghost respelled = { λ n bytes pages whole. by_places (λ all. tables_of n (slice_set all 6 pages)
         ≡ record (tables_of n all) { order_lines = rows_of n 29 order_line_of pages }) bytes whole refl };
+}
+
+impl FixedRow for OrderLine {
+    fn read(bytes: &[u8]) -> OrderLine {
+        OrderLine {
+            order: read_number(bytes, 0, 4) as u32,
+            district: read_number(bytes, 4, 1) as u8,
+            warehouse: read_number(bytes, 5, 1) as u8,
+            number: read_number(bytes, 6, 1) as u8,
+            item: read_number(bytes, 7, 4) as u32,
+            supply_warehouse: read_number(bytes, 11, 1) as u8,
+            delivery_date: read_number(bytes, 12, 8),
+            quantity: read_number(bytes, 20, 1) as u8,
+            amount: read_signed(bytes, 21),
+        }
+    }
 }
 
 impl Lasting for OrderLine {

@@ -1,15 +1,13 @@
 //! Parts of rows: some columns, one behind another, that are read and written without the others.
 
-ghost use Rattle.std.specs.Prelude.{◌≡◌, ℕ, ◌+◌, ◌≤◌, ◌++◌, List, length};
-ghost use Rattle.arrayvec.specs.ArrayVec.{array_vec_len};
+ghost use Rattle.std.specs.Prelude.{◌≡◌, ℕ, ◌+◌, ◌≤◌, List, length};
 ghost use Rattle.hy_page.specs.Bytes.{bytes_at, overwritten};
-ghost use Rattle.hy_rows.specs.declared.catalogue.TheConstants.{MAX_SLOT_BYTES};
 
-use crate::codec::SlotBytes;
+use crate::codec::ByteBuffer;
 use crate::row::Row;
 
 /// Some columns of a row, one behind another.
-pub trait Part<R: Row>: Copy {
+pub trait Part<R: Row>: Drop {
     /// Where the first of them begins among the bytes of a row.
     const OFFSET: usize;
 
@@ -24,22 +22,8 @@ pub trait Part<R: Row>: Copy {
     /// What a row has of them.
     ghost part_of: { R → Self };
 
-    /// A row with others of them.
-    ghost with_part: { R → Self → R };
-
-    /// Their bytes.
-    ghost bytes_of_part: { Self → List ℕ };
-
     /// What bytes say of them.
     ghost part_of_bytes: { List ℕ → Self };
-
-    /// Appends their bytes to those of a slot.
-    fn encode_part(&self, slot: &mut SlotBytes)
-        requires { array_vec_len slot.old + WIDTH ≤ MAX_SLOT_BYTES }
-        ensures bytes { slot.new.items ≡ slot.old.items ++ bytes_of_part self.now }
-        ensures width { length (bytes_of_part self.now) ≡ WIDTH }
-        ensures written { (row : List ℕ) → length row ≡ R.BYTES
-            → R.row_of_bytes (overwritten row OFFSET (bytes_of_part self.now)) ≡ with_part (R.row_of_bytes row) self.now };
 
     /// What these bytes say of them.
     fn decode_part(bytes: &[u8]) -> Self
@@ -51,4 +35,23 @@ pub trait Part<R: Row>: Copy {
 
     ghost said: { (row : List ℕ) → length row ≡ R.BYTES
         → part_of (R.row_of_bytes row) ≡ part_of_bytes (bytes_at row OFFSET WIDTH) };
+}
+
+/// Some columns of a row that are written without the others.
+pub trait WrittenPart<R: Row>: Part<R> {
+    /// Their bytes, put together.
+    type Bytes: ByteBuffer;
+
+    /// A row with others of them.
+    ghost with_part: { R → Self → R };
+
+    /// The bytes that are written for them.
+    ghost bytes_of_part: { Self → List ℕ };
+
+    /// Those bytes. A row in whose place they are written has these columns, and its others as before.
+    fn bytes(&self) -> Self::Bytes
+        ensures bytes { Self.Bytes.bytes result ≡ bytes_of_part self.now }
+        ensures width { length (bytes_of_part self.now) ≤ Self.Part.WIDTH }
+        ensures written { (row : List ℕ) → length row ≡ R.BYTES
+            → R.row_of_bytes (overwritten row Self.Part.OFFSET (bytes_of_part self.now)) ≡ with_part (R.row_of_bytes row) self.now };
 }

@@ -1,6 +1,6 @@
 //! A row as the values of its columns.
 
-ghost use Rattle.std.specs.Prelude.{◌≡◌, pos, ◌&&◌, List, IfSome, OnOk, length, option_map};
+ghost use Rattle.std.specs.Prelude.{◌≡◌, pos, ◌&&◌, List, IfOk, IfSome, OnOk, length, option_map};
 ghost use Rattle.hy_rows.specs.Catalogue.{columns_of};
 ghost use Rattle.hy_rows.specs.Columns.{Column, allows, are_allowed, defined};
 ghost use Rattle.hy_rows.specs.Records.{Fields, after_all, values_said};
@@ -11,6 +11,7 @@ ghost use Rattle.hy_rows.specs.declared.value.Value.TheVariants.{Text as TextVal
 
 use crate::catalogue::Table;
 use crate::column::ColumnDefinition;
+use std::alloc::{AllocError, Global};
 
 /// What takes the values of a row, one column after another.
 pub trait ValueSink {
@@ -77,7 +78,7 @@ pub trait ValueSource {
 }
 
 /// A row of a table.
-pub trait Record: Copy {
+pub trait Record: Drop {
     /// Its table.
     const TABLE: Table;
 
@@ -94,10 +95,6 @@ pub trait Record: Copy {
     fn put<S: ValueSink>(&self, sink: &mut S) -> Result<(), S::Refused>
         ensures { OnOk result (sink.new ≡ after_all S.after sink.old (columns_of TABLE) (values_of self.now)) };
 
-    /// The row that fields say, if each of them says a value of its column.
-    fn take<S: ValueSource>(source: &S) -> Option<Self>
-        ensures { result ≡ option_map row_with (values_said (S.fields source.now) (columns_of TABLE) 0) };
-
     /// Whether each column has a value that a load may have.
     fn is_in_range(&self) -> bool
         ensures { result ≡ are_allowed (columns_of TABLE) (values_of self.now) }
@@ -113,6 +110,36 @@ pub trait Record: Copy {
     ghost has_all: { (row : Self) → length (values_of row) ≡ length (columns_of TABLE) };
 
     ghost same_row: { (row : Self) → row_with (values_of row) ≡ row };
+}
+
+/// A row that is made and copied where memory is there for it.
+pub trait OwnedRecord: Record {
+    /// The row that fields say, if each of them says a value of its column. Only memory can lack.
+    fn taken<S: ValueSource>(alloc: Global, source: &S) -> Result<Option<Self>, AllocError>
+        ensures { IfOk result (λ row. row
+            ≡ option_map Self.Record.row_with (values_said (S.fields source.now) (columns_of Self.Record.TABLE) 0)) };
+
+    /// Another row with the same values. Only memory can lack.
+    fn copy(&self, alloc: Global) -> Result<Self, AllocError>
+        ensures { IfOk result (λ copy. copy ≡ self.now) };
+}
+
+/// A row that needs no memory of its own.
+pub trait FixedRecord: Record + Copy {
+    /// The row that fields say, if each of them says a value of its column.
+    fn take<S: ValueSource>(source: &S) -> Option<Self>
+        ensures { result
+            ≡ option_map Self.Record.row_with (values_said (S.fields source.now) (columns_of Self.Record.TABLE) 0) };
+}
+
+impl<R: FixedRecord> OwnedRecord for R {
+    fn taken<S: ValueSource>(_alloc: Global, source: &S) -> Result<Option<R>, AllocError> {
+        Ok(R::take(source))
+    }
+
+    fn copy(&self, _alloc: Global) -> Result<R, AllocError> {
+        Ok(*self)
+    }
 }
 
 /// What isn't: the reason why a value isn't taken, where each is.

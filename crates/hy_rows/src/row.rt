@@ -1,29 +1,31 @@
 //! What the rows of all tables have in common.
 
-ghost use Rattle.std.specs.Prelude.{◌≡◌, ◌≢◌, ℕ, ◌+◌, ◌<◌, ◌≤◌, ◌++◌, Bool, List, filter, length, slice_index, slice_set, IfOk};
+ghost use Rattle.std.specs.Prelude.{◌≡◌, ◌≢◌, ℕ, ◌+◌, ◌<◌, ◌≤◌, ◌++◌, ◌∷◌, Bool, List, filter, length, slice_index, slice_set, IfOk};
 ghost use Rattle.std.specs.List.{flat_map};
-ghost use Rattle.arrayvec.specs.ArrayVec.{array_vec_len};
 ghost use Rattle.hy_rows.specs.Tables.{Lists, Tables, all_of, of_warehouse, row_counts};
-ghost use Rattle.hy_rows.specs.Spelling.{IsTable, list_at, rows_of as rows_of_pages, tables_of};
+ghost use Rattle.hy_rows.specs.Spelling.{IsTable, list_at, rows_of as rows_of_pages, slot_width, tables_of};
 ghost use Rattle.hy_rows.specs.Catalogue.{segment_of, segments};
 ghost use Rattle.hy_rows.specs.declared.catalogue.Table.TheVariants as tables;
 ghost use Rattle.hy_rows.specs.declared.item.Item.{Item as ItemRow};
 ghost use Rattle.hy_rows.specs.declared.catalogue.TheConstants.{MAX_SLOT_BYTES};
 
-use crate::codec::SlotBytes;
+use crate::codec::ByteBuffer;
 use crate::item::Item;
 use crate::lists::Lists;
-use crate::record::Record;
+use crate::record::{FixedRecord, OwnedRecord};
 use crate::tables::Tables;
-use std::alloc::AllocError;
+use std::alloc::{AllocError, Global};
 
 /// A row of a table: how it lies in the slots of its segment, and where lists of all tables have it.
-pub trait Row: Record {
+pub trait Row: OwnedRecord {
     /// The segment of the table.
     const SEGMENT: u32;
 
     /// How many bytes a row has.
     const BYTES: usize;
+
+    /// The bytes of a slot.
+    type Slot: ByteBuffer;
 
     /// The segment and the number of bytes, as clauses name them.
     ghost SEGMENT: { ℕ };
@@ -64,17 +66,16 @@ pub trait Row: Record {
     ghost counted: { (all : Tables) (others : List ℕ)
         → slice_index (row_counts all ++ others) SEGMENT ≡ length (rows_in all) };
 
-    /// Appends the bytes of the row to a slot.
-    fn encode(&self, slot: &mut SlotBytes)
-        requires { array_vec_len slot.old + BYTES ≤ MAX_SLOT_BYTES }
-        ensures bytes { slot.new.items ≡ slot.old.items ++ bytes_of_row self.now }
+    /// A slot with the row: the mark of a live one, and the bytes of the row.
+    fn slot(&self) -> Self::Slot
+        ensures bytes { Self.Slot.bytes result ≡ 1 ∷ bytes_of_row self.now }
         ensures width { length (bytes_of_row self.now) ≡ BYTES }
         ensures reads_back { row_of_bytes (bytes_of_row self.now) ≡ self.now };
 
-    /// The row that these bytes say.
-    fn decode(bytes: &[u8]) -> Self
+    /// The row that these bytes say. Only memory can lack.
+    fn decode(alloc: Global, bytes: &[u8]) -> Result<Self, AllocError>
         requires { length bytes.now ≡ BYTES }
-        ensures { result ≡ row_of_bytes bytes.now };
+        ensures { IfOk result (λ row. row ≡ row_of_bytes bytes.now) };
 
     /// The rows of this table.
     fn rows_of(tables: &Tables) -> &[Self]
@@ -84,8 +85,8 @@ pub trait Row: Record {
     fn belongs_to(&self, warehouse: u8) -> bool
         ensures { result ≡ is_of warehouse self.now };
 
-    /// A row and its mark fit a slot, and a slot fits every page.
-    ghost fits: { BYTES < MAX_SLOT_BYTES };
+    /// No slot is longer.
+    ghost fits: { slot_width BYTES ≤ MAX_SLOT_BYTES };
 
     /// The segment and the width are those of one of the tables.
     ghost is_table: { IsTable SEGMENT BYTES };
@@ -101,6 +102,14 @@ pub trait Row: Record {
         ≡ with_rows (tables_of n bytes) (rows_of_pages n BYTES row_of_bytes pages) };
 }
 
+/// A row that is read without memory of its own.
+pub trait FixedRow: Row + FixedRecord {
+    /// The row that these bytes say.
+    fn read(bytes: &[u8]) -> Self
+        requires { length bytes.now ≡ Self.Row.BYTES }
+        ensures { result ≡ Self.Row.row_of_bytes bytes.now };
+}
+
 /// A row of a table that never loses one.
 pub trait Lasting: Row {
     /// NEW-ORDER alone loses rows.
@@ -108,7 +117,7 @@ pub trait Lasting: Row {
 }
 
 /// A row of any table, also of one that no pages hold: where the lists of a load have it.
-pub trait Listed: Record {
+pub trait Listed: OwnedRecord {
     /// The rows of this table.
     ghost list_in: { Lists → List Self };
 

@@ -1,10 +1,12 @@
 //! Rows of STOCK.
 
 use crate::catalogue::{STOCK, Table};
-use crate::codec::{SlotBytes, push_number, read_number};
-use crate::record::{Record, ValueSink, ValueSource};
-use crate::row::{Lasting, Row};
+use crate::codec::{marked, push_number, read_number};
+use crate::record::{FixedRecord, Record, ValueSink, ValueSource};
+use crate::row::{FixedRow, Lasting, Row};
 use crate::tables::Tables;
+use arrayvec::ArrayVec;
+use std::alloc::{AllocError, Global};
 
 /// The greatest quantity of an item that a loaded row has in stock.
 pub const MAX_STOCK: u16 = 9_999;
@@ -49,6 +51,12 @@ impl Record for Stock {
         sink.u64(remote_count, self.remote_count)
     }
 
+    ghost has_all = { λ row. refl };
+
+    ghost same_row = { λ row. refl };
+}
+
+impl FixedRecord for Stock {
     fn take<S: ValueSource>(source: &S) -> Option<Stock> {
         Some(Stock {
             item: source.u32(0)?,
@@ -59,10 +67,6 @@ impl Record for Stock {
             remote_count: source.u64(5)?,
         })
     }
-
-    ghost has_all = { λ row. refl };
-
-    ghost same_row = { λ row. refl };
 }
 
 impl Row for Stock {
@@ -75,6 +79,8 @@ impl Row for Stock {
     const SEGMENT: u32 = 7;
 
     const BYTES: usize = 31;
+
+    type Slot = ArrayVec<u8, 32>;
 
     ghost SEGMENT = { 7 };
 
@@ -90,24 +96,19 @@ impl Row for Stock {
 
     ghost with_rows = { λ tables rows. record tables { stock = rows } };
 
-    fn encode(&self, slot: &mut SlotBytes) {
-        push_number(slot, self.item.into(), 4);
-        push_number(slot, self.warehouse.into(), 1);
-        push_number(slot, self.quantity.into(), 2);
-        push_number(slot, self.ytd, 8);
-        push_number(slot, self.order_count, 8);
-        push_number(slot, self.remote_count, 8);
+    fn slot(&self) -> ArrayVec<u8, 32> {
+        let mut slot = marked();
+        push_number(&mut slot, self.item.into(), 4);
+        push_number(&mut slot, self.warehouse.into(), 1);
+        push_number(&mut slot, self.quantity.into(), 2);
+        push_number(&mut slot, self.ytd, 8);
+        push_number(&mut slot, self.order_count, 8);
+        push_number(&mut slot, self.remote_count, 8);
+        slot
     }
 
-    fn decode(bytes: &[u8]) -> Stock {
-        Stock {
-            item: read_number(bytes, 0, 4) as u32,
-            warehouse: read_number(bytes, 4, 1) as u8,
-            quantity: read_number(bytes, 5, 2) as u16,
-            ytd: read_number(bytes, 7, 8),
-            order_count: read_number(bytes, 15, 8),
-            remote_count: read_number(bytes, 23, 8),
-        }
+    fn decode(_alloc: Global, bytes: &[u8]) -> Result<Stock, AllocError> {
+        Ok(Stock::read(bytes))
     }
 
     fn rows_of(tables: &Tables) -> &[Stock] {
@@ -138,6 +139,19 @@ impl Row for Stock {
 
     ghost respelled = { λ n bytes pages whole. by_places (λ all. tables_of n (slice_set all 7 pages)
         ≡ record (tables_of n all) { stock = rows_of n 31 stock_of pages }) bytes whole refl };
+}
+
+impl FixedRow for Stock {
+    fn read(bytes: &[u8]) -> Stock {
+        Stock {
+            item: read_number(bytes, 0, 4) as u32,
+            warehouse: read_number(bytes, 4, 1) as u8,
+            quantity: read_number(bytes, 5, 2) as u16,
+            ytd: read_number(bytes, 7, 8),
+            order_count: read_number(bytes, 15, 8),
+            remote_count: read_number(bytes, 23, 8),
+        }
+    }
 }
 
 impl Lasting for Stock {

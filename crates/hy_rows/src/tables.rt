@@ -1,6 +1,6 @@
 //! The rows of all tables, as lists.
 
-ghost use Rattle.std.specs.Prelude.{◌≡◌, filter, IfOk};
+ghost use Rattle.std.specs.Prelude.{◌≡◌, [], ◌∷◌, ◌++◌, filter, IfOk, OnOk};
 
 use crate::customer::Customer;
 use crate::district::District;
@@ -144,8 +144,24 @@ impl Tables {
 fn rows_of_one<R: Row>(alloc: Global, rows: &[R], warehouse: u8) -> Result<Vec<R>, AllocError>
     ensures { IfOk result (λ found. found.items ≡ filter (R.is_of warehouse) rows.now) }
 {
-    rows.iter()
-        .copied()
-        .filter(|row| row.belongs_to(warehouse))
-        .collect(alloc)
+    let mut found = Vec::new(alloc);
+    for row in rows {
+        push_own(alloc, &mut found, row, warehouse)?;
+    }
+    Ok(found)
+}
+
+/// Appends a copy of a row that belongs to a warehouse.
+fn push_own<R: Row>(
+    alloc: Global,
+    found: &mut Vec<R>,
+    row: &R,
+    warehouse: u8,
+) -> Result<(), AllocError>
+    ensures { OnOk result (found.new.items ≡ found.old.items ++ filter (R.is_of warehouse) (row.now ∷ [])) }
+{
+    if row.belongs_to(warehouse) {
+        found.push(row.copy(alloc)?)?;
+    }
+    Ok(())
 }

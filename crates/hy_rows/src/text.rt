@@ -100,7 +100,7 @@ pub fn is_printable(text: &[u8]) -> bool
 }
 
 /// How many bytes stand before the first zero byte.
-fn text_len(bytes: &[u8]) -> usize
+pub(crate) fn text_len(bytes: &[u8]) -> usize
     ensures within { result ≤ length bytes.now }
     ensures text { take result bytes.now ≡ text_of bytes.now }
 {

@@ -2,12 +2,14 @@
 
 use crate::catalogue::{Table, WAREHOUSE};
 use crate::codec::{
-    SlotBytes, push_number, push_signed, push_text, read_number, read_signed, read_text,
+    marked, push_number, push_signed, push_text, read_number, read_signed, read_text,
 };
-use crate::record::{Record, ValueSink, ValueSource};
-use crate::row::{Lasting, Row};
+use crate::record::{FixedRecord, Record, ValueSink, ValueSource};
+use crate::row::{FixedRow, Lasting, Row};
 use crate::tables::Tables;
 use crate::text::Text;
+use arrayvec::ArrayVec;
+use std::alloc::{AllocError, Global};
 
 /// The greatest W_ID.
 pub const MAX_WAREHOUSES: u8 = 16;
@@ -52,6 +54,12 @@ impl Record for Warehouse {
         sink.i64(ytd, self.ytd)
     }
 
+    ghost has_all = { λ row. refl };
+
+    ghost same_row = { λ row. refl };
+}
+
+impl FixedRecord for Warehouse {
     fn take<S: ValueSource>(source: &S) -> Option<Warehouse> {
         Some(Warehouse {
             id: source.u8(0)?,
@@ -60,10 +68,6 @@ impl Record for Warehouse {
             ytd: source.i64(3)?,
         })
     }
-
-    ghost has_all = { λ row. refl };
-
-    ghost same_row = { λ row. refl };
 }
 
 impl Row for Warehouse {
@@ -76,6 +80,8 @@ impl Row for Warehouse {
     const SEGMENT: u32 = 0;
 
     const BYTES: usize = 21;
+
+    type Slot = ArrayVec<u8, 22>;
 
     ghost SEGMENT = { 0 };
 
@@ -91,20 +97,17 @@ impl Row for Warehouse {
 
     ghost with_rows = { λ tables rows. record tables { warehouses = rows } };
 
-    fn encode(&self, slot: &mut SlotBytes) {
-        push_number(slot, self.id.into(), 1);
-        push_text(slot, &self.name);
-        push_number(slot, self.tax.into(), 2);
-        push_signed(slot, self.ytd);
+    fn slot(&self) -> ArrayVec<u8, 22> {
+        let mut slot = marked();
+        push_number(&mut slot, self.id.into(), 1);
+        push_text(&mut slot, &self.name);
+        push_number(&mut slot, self.tax.into(), 2);
+        push_signed(&mut slot, self.ytd);
+        slot
     }
 
-    fn decode(bytes: &[u8]) -> Warehouse {
-        Warehouse {
-            id: read_number(bytes, 0, 1) as u8,
-            name: read_text(bytes, 1),
-            tax: read_number(bytes, 11, 2) as u16,
-            ytd: read_signed(bytes, 13),
-        }
+    fn decode(_alloc: Global, bytes: &[u8]) -> Result<Warehouse, AllocError> {
+        Ok(Warehouse::read(bytes))
     }
 
     fn rows_of(tables: &Tables) -> &[Warehouse] {
@@ -135,6 +138,17 @@ impl Row for Warehouse {
 
     ghost respelled = { λ n bytes pages whole. by_places (λ all. tables_of n (slice_set all 0 pages)
         ≡ record (tables_of n all) { warehouses = rows_of n 21 warehouse_of pages }) bytes whole refl };
+}
+
+impl FixedRow for Warehouse {
+    fn read(bytes: &[u8]) -> Warehouse {
+        Warehouse {
+            id: read_number(bytes, 0, 1) as u8,
+            name: read_text(bytes, 1),
+            tax: read_number(bytes, 11, 2) as u16,
+            ytd: read_signed(bytes, 13),
+        }
+    }
 }
 
 impl Lasting for Warehouse {

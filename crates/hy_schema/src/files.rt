@@ -7,6 +7,6 @@ pub enum FileEnd {
     Whole,
     /// To a record that is no row of the table. The list has the rows before it.
     BadRecord,
-    /// Not at all: its first record isn't the names of the columns.
+    /// Not at all: its first record is no header of the table.
     BadHeader,
 }

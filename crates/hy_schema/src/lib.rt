@@ -8,6 +8,6 @@ pub use files::FileEnd;
 pub use hy_rows::{
     Customer, DISTRICTS_PER_WAREHOUSE, District, History, MAX_CENTS, MAX_COUNT, MAX_CUSTOMERS,
     MAX_MOMENT, MAX_ORDER, MAX_RATE, MAX_WAREHOUSES, NewOrder, Order, OrderLine, Row, SEGMENTS,
-    SlotBytes, Stock, Table, Tables, Text, Warehouse,
+    Stock, Table, Tables, Text, Warehouse,
 };
 pub use refusal::{LoadFault, Refusal};

@@ -17,8 +17,8 @@ pub(crate) fn rows_of_all<R: Row, const N: usize>(
 {
     let mut rows = Vec::new(alloc);
     for place in 0..all.len() {
-        let more = all.part(place).list::<R>()?;
-        rows.extend_from_slice(&more)?;
+        let mut more = all.part(place).list::<R>()?;
+        rows.append(&mut more)?;
     }
     Ok(rows)
 }

@@ -15,7 +15,7 @@ ghost use Rattle.hy_store.specs.Writes.{ChangesStore, IsWritableStore, WritesSto
 
 use hy_frames::Shortage;
 use hy_relation::Relation;
-use hy_rows::{Lasting, NewOrder, Part, Row};
+use hy_rows::{FixedRow, Lasting, NewOrder, Part, Row, WrittenPart};
 use hy_space::Space;
 use hy_undo::Undo;
 
@@ -43,7 +43,7 @@ fn know_rows<R: Lasting, const N: usize>(_space: &Space<N>)
 {}
 
 /// The row at a place of its table.
-pub fn row_at<R: Lasting, const N: usize>(space: &Space<N>, place: u64) -> R
+pub fn row_at<R: Lasting + FixedRow, const N: usize>(space: &Space<N>, place: u64) -> R
     requires store { HasStore N (owner_bytes space.now) }
     requires there { place < length (R.rows_in (stored_in N space.now).tables) }
     ensures { slice_get (R.rows_in (stored_in N space.now).tables) place ≡ Some result }
@@ -111,7 +111,7 @@ pub fn put_row<R: Lasting, const N: usize>(
 }
 
 /// Puts other values of some columns into the row at a place.
-pub fn put_part<R: Lasting, P: Part<R>, const N: usize>(
+pub fn put_part<R: Lasting, P: WrittenPart<R>, const N: usize>(
     space: &mut Space<N>,
     undo: &mut Undo<N>,
     place: u64,

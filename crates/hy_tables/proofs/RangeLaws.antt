@@ -107,7 +107,7 @@ customer_in_range warehouse district number warehouse_between district_between b
                   credit_allowed number,
                   (
                     IsBetween-bounds 0 max_rate discount (omega arith) (omega arith),
-                    (refl, (money 1_000 (lit< tt), (refl, (refl, tt)))),
+                    (refl, (money 1_000 (lit< tt), (refl, (refl, (refl, tt))))),
                   ),
                 ),
               ),

@@ -79,6 +79,7 @@ generated_customer warehouse district number = record {
   ytd_payment = pos 1_000;
   payment_count = 1;
   delivery_count = 0;
+  information = [];
 }
 
 abbrev pub generated_payment : ℕ → ℕ → ℕ → History

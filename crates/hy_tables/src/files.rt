@@ -19,7 +19,7 @@ use std::alloc::{AllocError, Global};
 
 /// The load that nine texts say: those of the files of WAREHOUSE, DISTRICT, CUSTOMER, ITEM, STOCK, ORDER, NEW-ORDER,
 /// ORDER-LINE and HISTORY, in this order. E12 names the first broken row, in this order, or else the first broken
-/// consistency condition; a file whose header isn't the names of the columns breaks at row 0. E1 where memory is
+/// consistency condition; a file whose first record is no header of its table breaks at row 0. E1 where memory is
 /// refused.
 pub fn load(alloc: Global, texts: &[&[u8]; TABLES]) -> Result<Load, Refusal>
     ensures { let readings = readings_of (map (λ text. text.now) texts.now) in

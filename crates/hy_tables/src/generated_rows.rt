@@ -4,7 +4,7 @@ ghost use Rattle.std.specs.Prelude.{◌≡◌, ◌≤◌, IfOk};
 ghost use Rattle.hy_tables.specs.Generated.{generated_customer, generated_district, generated_item, generated_payment, generated_stock, generated_warehouse};
 
 use crate::generated_texts::{credit, first_name, information, last_name, name};
-use hy_rows::{Customer, District, History, Item, Stock, Text, Warehouse};
+use hy_rows::{Customer, District, History, Item, LongText, Stock, Text, Warehouse};
 use std::alloc::{AllocError, Global};
 
 /// A generated row of WAREHOUSE, with so many customers in each district.
@@ -60,6 +60,7 @@ pub(crate) fn customer(
         ytd_payment: 1000,
         payment_count: 1,
         delivery_count: 0,
+        information: LongText::of_bytes(alloc, b"")?,
     })
 }
 

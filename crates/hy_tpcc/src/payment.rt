@@ -11,10 +11,10 @@ ghost use Rattle.hy_tpcc.specs.Shortages.{FindsNoFrame};
 use crate::refused::refusal_of_shortage;
 use hy_commands::{Command, Payment, Reply};
 use hy_layout::Layout;
-use hy_rows::Customer;
+use hy_rows::CustomerNumber;
 use hy_schema::Refusal;
 use hy_space::Space;
-use hy_store::row_bytes_at;
+use hy_store::part_at;
 use hy_undo::Undo;
 use hy_writers::{pay_customer, pay_home};
 
@@ -25,7 +25,8 @@ pub(crate) fn number_at<const N: usize>(space: &Space<N>, place: u64) -> u16
     ensures { (row : Customer) × (slice_get (stored_in N space.now).tables.customers place ≡ Some row)
         × (result ≡ row.id) }
 {
-    Customer::id_in(row_bytes_at::<Customer, N>(space, place))
+    let customer: CustomerNumber = part_at(space, place);
+    customer.number
 }
 
 /// The next slice of a payment behind so many: the home warehouse's, then the customer's with the reply.

@@ -1,6 +1,8 @@
 //! Order-Status (TPC-C clause 2.6): a customer's last order.
 
 ghost use Rattle.std.specs.Prelude.{◌≡◌, ◌<◌, ◌≤◌, All, IfOk, length};
+ghost use Rattle.hy_rows.specs.RowParts.{identity_of};
+ghost use Rattle.hy_rows.specs.declared.customer.Customer.{Customer};
 ghost use Rattle.hy_space.specs.Space.{owner_bytes};
 ghost use Rattle.hy_index.specs.Index.{found};
 ghost use Rattle.hy_index.specs.declared.key.Entry.{Entry};
@@ -17,9 +19,9 @@ ghost use Rattle.hy_tpcc.specs.Lines.{lines_named};
 use hy_commands::{OrderStatus, PlacedOrder, Reply, StatusLines};
 use hy_index::Entry;
 use hy_layout::Layout;
-use hy_rows::{Customer, Order, OrderLine};
+use hy_rows::{CustomerAccount, CustomerIdentity, Order, OrderLine};
 use hy_space::Space;
-use hy_store::{CustomerKey, LineKey, find_slot, know_entries, read_entries, row_at};
+use hy_store::{CustomerKey, LineKey, find_slot, know_entries, part_at, read_entries, row_at};
 use std::alloc::{AllocError, Global};
 
 /// Order-Status (TPC-C clause 2.6) for the customer at a place: the customer's number, names and balance, in cents, and
@@ -41,21 +43,27 @@ pub(crate) fn order_status<const N: usize>(
     ensures { IfOk result (λ reply. reply
         ≡ status_reply (asker status.now (stored_in N space.now).tables) (stored_in N space.now).tables) }
 {
-    let customer = row_at::<Customer, N>(space, place);
-    let order = last_order(alloc, layout, space, &customer, entries)?;
-    Ok(reply_for(&customer, order))
+    let identity: CustomerIdentity = part_at(space, place);
+    let account: CustomerAccount = part_at(space, place);
+    let order = last_order(alloc, layout, space, &identity, entries)?;
+    Ok(reply_for(&identity, &account, order))
 }
 
 /// The reply for a customer with a last order, or none.
-fn reply_for(row: &Customer, order: Option<PlacedOrder>) -> Reply
-    ensures { result ≡ Reply.OrderStatus row.now.id row.now.first row.now.middle row.now.last row.now.balance order }
+fn reply_for(
+    identity: &CustomerIdentity,
+    account: &CustomerAccount,
+    order: Option<PlacedOrder>,
+) -> Reply
+    ensures { result ≡ Reply.OrderStatus identity.now.id identity.now.first identity.now.middle identity.now.last
+        account.now.balance order }
 {
     Reply::OrderStatus {
-        customer: row.id,
-        first: row.first,
-        middle: row.middle,
-        last: row.last,
-        balance: row.balance,
+        customer: identity.id,
+        first: identity.first,
+        middle: identity.middle,
+        last: identity.last,
+        balance: account.balance,
         order,
     }
 }
@@ -65,15 +73,16 @@ fn last_order<const N: usize>(
     alloc: Global,
     layout: &Layout,
     space: &Space<N>,
-    customer: &Customer,
+    identity: &CustomerIdentity,
     entries: &mut Vec<Entry<LineKey>>,
 ) -> Result<Option<PlacedOrder>, AllocError>
     requires store { HasStore N (owner_bytes space.now) }
     requires sound { IsSoundStore layout.now (stored_in N space.now) }
-    requires home { customer.now.warehouse ≡ layout.now.warehouse }
-    ensures { IfOk result (λ order. order ≡ last_placed customer.now (stored_in N space.now).tables) }
+    requires home { identity.now.warehouse ≡ layout.now.warehouse }
+    ensures { IfOk result (λ order. (row : Customer) → identity_of row ≡ identity.now
+        → order ≡ last_placed row (stored_in N space.now).tables) }
 {
-    match place_of_last(space, customer) {
+    match place_of_last(space, identity) {
         Some(place) => {
             let order = row_at::<Order, N>(space, place);
             let lines = order_lines(alloc, layout, space, &order, entries)?;
@@ -84,14 +93,14 @@ fn last_order<const N: usize>(
 }
 
 /// The place of a customer's last order.
-fn place_of_last<const N: usize>(space: &Space<N>, customer: &Customer) -> Option<u64>
+fn place_of_last<const N: usize>(space: &Space<N>, identity: &CustomerIdentity) -> Option<u64>
     requires { HasStore N (owner_bytes space.now) }
     ensures { result ≡ found is_lesser_customer
-        (record { district = customer.now.district; customer = customer.now.id }) (stored_in N space.now).last_orders }
+        (record { district = identity.now.district; customer = identity.now.id }) (stored_in N space.now).last_orders }
 {
     let key = CustomerKey {
-        district: customer.district,
-        customer: customer.id,
+        district: identity.district,
+        customer: identity.id,
     };
     find_slot(space, &key)
 }

@@ -20,9 +20,9 @@ use arrayvec::ArrayVec;
 use hy_commands::{Payment, Reply};
 use hy_frames::Shortage;
 use hy_layout::Layout;
-use hy_rows::{Customer, CustomerAccount, District, History, Text, Warehouse};
+use hy_rows::{CustomerAccount, CustomerNumber, District, History, Text, Warehouse};
 use hy_space::Space;
-use hy_store::{part_at, push_row, put_part, put_row, row_bytes_at};
+use hy_store::{part_at, push_row, put_part, put_row};
 use hy_undo::Undo;
 
 /// An amount that rises by some cents.
@@ -178,12 +178,12 @@ pub fn pay_customer<const N: usize>(
     ensures writes { WritesStore N space.old space.new undo.old undo.new }
     ensures no_frame { IsErrOf result Shortage.NoFrame → IsOutOfFrames space.new }
 {
-    let customer = Customer::id_in(row_bytes_at::<Customer, N>(space, place));
+    let customer: CustomerNumber = part_at(space, place);
     let before: CustomerAccount = part_at(space, place);
     let account = account_after(&before, payment.amount);
     put_part(space, undo, place, &account)?;
     Ok(Reply::Payment {
-        customer,
+        customer: customer.number,
         balance: account.balance,
     })
 }

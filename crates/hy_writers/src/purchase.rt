@@ -21,11 +21,11 @@ use crate::finds::{own_district, own_district_tax, own_next_order, own_stock, ow
 use hy_commands::{Purchase, PurchaseLine, PurchaseLines};
 use hy_frames::Shortage;
 use hy_layout::Layout;
-use hy_rows::{Customer, District, Item, NewOrder, Order, OrderLine, Stock};
+use hy_rows::{CustomerDiscount, District, Item, NewOrder, Order, OrderLine, Stock};
 use hy_space::Space;
 use hy_store::{
-    CustomerKey, LineKey, OrderKey, WaitingKey, insert_entry, push_new_order, push_row, put_row,
-    row_bytes_at,
+    CustomerKey, LineKey, OrderKey, WaitingKey, insert_entry, part_at, push_new_order, push_row,
+    put_row,
 };
 use hy_undo::Undo;
 
@@ -333,7 +333,7 @@ pub fn purchase_total<const N: usize>(
 {
     let warehouse_tax = own_tax(layout, space);
     let district_tax = own_district_tax(layout, space, order.district);
-    let discount = Customer::discount_in(row_bytes_at::<Customer, N>(space, place));
+    let customer: CustomerDiscount = part_at(space, place);
     let cents = purchase_cents(layout, &order.lines);
-    total_of(cents, discount, warehouse_tax, district_tax)
+    total_of(cents, customer.discount, warehouse_tax, district_tax)
 }

@@ -4,8 +4,8 @@ use Rattle.std.specs.Int.{w64, cast_signed}
 use Rattle.std.proofs.lemmas.List.{drop-drop, drop-take, take-take}
 use Rattle.hy_page.specs.Bytes.{bytes_at, number_of}
 use Rattle.hy_rows.specs.Columns.{Column, Domain, OneOf, Signed, Text, Unsigned, row_width, value_at, values_from, width_of}
-use Rattle.hy_rows.specs.RowParts.{account_columns, account_in, account_of, account_with}
-use Rattle.hy_rows.specs.Rows.{customer_of}
+use Rattle.hy_rows.specs.RowParts.{account_columns, account_in, account_of, account_with, discount_columns, discount_in, discount_of, identity_columns, identity_in, identity_of, identity_with, number_columns, number_in, number_of_customer}
+use Rattle.hy_rows.specs.Rows.{customer_of, number_of as number_at}
 use Rattle.hy_rows.specs.Texts.{text_of}
 use Rattle.hy_rows.specs.declared.value.Value.TheVariants as values
 
@@ -34,7 +34,18 @@ values_from-part (column ∷ columns) bytes start count offset from within at =
         ∙ ap (take width) (drop-take offset (count - offset) (drop start bytes)) ∙ take-take width (count - offset) (drop offset (drop start bytes)) (omega (arith, within))
         ∙ ap (take width) (drop-drop offset start bytes ∙ ap (λ place. drop place bytes) at)
 
--- ---- the account of a customer
+-- ---- the parts of a customer
 
-pub account_said : (row : List ℕ) → length row ≡ 74 → account_of (customer_of row) ≡ account_in (bytes_at row 38 36)
+pub account_said : (row : List ℕ) → length row ≡ 574 → account_of (customer_of row) ≡ account_in (bytes_at row 38 36)
 account_said row size = ap account_with (values_from-part account_columns row 38 36 0 38 (lit≤ tt) refl)
+
+pub identity_said : (row : List ℕ) → length row ≡ 574 → identity_of (customer_of row) ≡ identity_in (bytes_at row 0 38)
+identity_said row size = ap identity_with (values_from-part identity_columns row 0 38 0 0 (lit≤ tt) refl)
+
+pub number_said : (row : List ℕ) → length row ≡ 574 → number_of_customer (customer_of row) ≡ number_in (bytes_at row 0 2)
+number_said row size =
+    ap (λ values. record { number = number_at values 0 }) (values_from-part number_columns row 0 2 0 0 (lit≤ tt) refl)
+
+pub discount_said : (row : List ℕ) → length row ≡ 574 → discount_of (customer_of row) ≡ discount_in (bytes_at row 40 2)
+discount_said row size =
+    ap (λ values. record { discount = number_at values 0 }) (values_from-part discount_columns row 40 2 0 40 (lit≤ tt) refl)

@@ -4,11 +4,11 @@ use Rattle.hy_frames.specs.FrameTable.{max_frames}
 use Rattle.hy_columns.proofs.reading.count_in.Goals as goal
 
 -- there are no more rows than slots, and no more pages than frames
-pub returns-clause-few : goal.returns-clause-few
-returns-clause-few g c =
+pub returns-else-is_spanned-clause-few : goal.returns-else-is_spanned-clause-few
+returns-else-is_spanned-clause-few g c =
     let n : ℕ = g.row.N in
-    let pages : List (List ℕ) = c.pages_of.result.now in
-    let whole = c.pages_of.ensures.whole in
-    let few : length pages ≤ max_frames = omega (arith, ap length c.pages_of.ensures.pages, whole.few c.args.segment.number) in
+    let pages : List (List ℕ) = c.pages_of-pages.result.now in
+    let whole = c.pages_of-pages.ensures.whole in
+    let few : length pages ≤ max_frames = omega (arith, ap length c.pages_of-pages.ensures.pages, whole.few c.args.segment.number) in
     let more : length pages * n ≤ length pages * 65536 = mul-le-mul_left (length pages) whole.size.largest in
     omega (arith, c.count_pages.ensures.most, more, few)

@@ -1,4 +1,4 @@
-use Rattle.std.proofs.Common.{sym, subst}
+use Rattle.std.proofs.Common.{length, ap, sym, subst, arith}
 use Rattle.hy_rows.specs.Spelling.{HasSlots}
 use Rattle.hy_columns.proofs.reading.pages_of.Goals as goal
 
@@ -6,3 +6,8 @@ pub returns-clause-slots : goal.returns-clause-slots
 returns-clause-slots g c =
     subst (HasSlots g.row.N c.args.segment.row_bytes) (sym c.segment.ensures.pages)
     (c.segment.ensures.whole.tables.slots c.args.segment.number c.args.segment.row_bytes c.requires)
+
+-- there are no more pages than frames
+pub returns-clause-few : goal.returns-clause-few
+returns-clause-few g c =
+    omega (arith, ap length c.segment.ensures.pages, c.segment.ensures.whole.few c.args.segment.number)

@@ -1,8 +1,8 @@
-use Rattle.std.proofs.Common.{◌≡◌, ℕ, ◌+◌, ◌/◌, ◌%◌, ◌≤◌, sym, ap, ◌∙◌, arith}
+use Rattle.std.proofs.Common.{◌≡◌, ℕ, ◌+◌, ◌/◌, ◌%◌, sym, ap, ◌∙◌, arith}
 use Rattle.std.proofs.Math.Nat.{div-le_self}
 use Rattle.hy_rows.specs.Spelling.{slot_start}
 use Rattle.hy_relation.proofs.AddressLaws.{offset-behind, page-behind}
-use Rattle.hy_relation.specs.inside.Addresses.{offset_of_byte, page_of_byte, slot_offset, slot_page}
+use Rattle.hy_relation.specs.inside.Addresses.{offset_of_byte}
 use Rattle.hy_relation.proofs.address.address_behind.Goals as goal
 
 pub overflow_add-result-2 : goal.overflow_add-result-2

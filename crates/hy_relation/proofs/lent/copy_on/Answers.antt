@@ -1,4 +1,4 @@
-use Rattle.std.proofs.Common.{rules, ◌≡◌, ℕ, ◌+◌, ◌-◌, ◌^◌, ◌<◌, ◌≤◌, List, [], ◌++◌, length, min, take, drop, sym, ap, ap₂, ◌∙◌, subst, arith}
+use Rattle.std.proofs.Common.{◌≡◌, ℕ, ◌+◌, ◌-◌, ◌^◌, ◌<◌, List, [], length, min, take, drop, sym, ap, ap₂, ◌∙◌, subst, arith}
 use Rattle.std.proofs.lemmas.List.{get_or_default}
 use Rattle.hy_page.specs.Bytes.{bytes_at}
 use Rattle.hy_rows.specs.Spelling.{list_at, slot_start, slot_width, slots_end}
@@ -55,5 +55,5 @@ loop-bytes-preserved g c =
     c.bytes.ensures.bytes ∙ c.page.ensures.bytes ∙ c.index-pages-page.is ∙ get_or_default pages page c.index-pages-page.result [] there in
     let part : take (offset + count - offset) (drop offset c.bytes.result.now) ≡ bytes_at (list_at pages page) offset count =
     ap₂ (λ (size : ℕ) (bytes : List ℕ). take size (drop offset bytes)) (let size : offset + count - offset ≡ count = omega arith in size) here in
-    subst (λ (copied : List ℕ). IsCopied n (slot_width width) start pages copied (page + 1) 0) (sym c.push_part.ensures.bytes)
+    subst (λ (copied : List ℕ). IsCopied n (slot_width width) start pages copied (page + 1) 0) (sym c.push_bytes.ensures.bytes)
     (copied-more n (slot_width width) start pages c.loop-bytes.bytes.items page offset c.requires.sized fits c.loop-bytes.invariant more count _ counted part)

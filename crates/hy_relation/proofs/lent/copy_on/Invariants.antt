@@ -1,4 +1,4 @@
-use Rattle.std.proofs.Common.{ℕ, ◌-◌, length}
+use Rattle.std.proofs.Common.{◌-◌, length}
 use Rattle.hy_rows.specs.Spelling.{slot_start, slot_width}
 use Rattle.hy_relation.proofs.CopyLaws.{IsCopied}
 use Rattle.hy_relation.proofs.lent.copy_on.Given as goal

@@ -1,4 +1,4 @@
-use Rattle.std.proofs.Common.{◌≡◌, ℕ, ◌^◌, ◌<◌, ◌≤◌, List, sym, ap, ◌∙◌, subst, arith}
+use Rattle.std.proofs.Common.{◌≡◌, ℕ, ◌^◌, ◌<◌, List, sym, ap, ◌∙◌, subst, arith}
 use Rattle.hy_rows.specs.Spelling.{slots_end, used_slots}
 use Rattle.hy_space.specs.Space.{HasPage}
 use Rattle.hy_undo.proofs.PrivatePageLaws.{length-segment-owner_bytes}

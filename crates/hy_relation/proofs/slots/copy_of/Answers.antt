@@ -1,10 +1,10 @@
-use Rattle.std.proofs.Common.{rules, ◌≡◌, ℕ, ◌+◌, ◌-◌, ◌*◌, ◌/◌, ◌^◌, ◌<◌, ◌≤◌, List, [], ◌++◌, length, min, take, drop, sym, ap, ap₂, ◌∙◌, subst, arith}
+use Rattle.std.proofs.Common.{rules, ◌≡◌, ℕ, ◌+◌, ◌-◌, ◌*◌, ◌/◌, ◌^◌, ◌<◌, ◌≤◌, List, length, min, take, drop, sym, ap, ap₂, ◌∙◌, subst, arith}
 use Rattle.std.proofs.Math.Nat.{div-le_of_le-mul}
 use Rattle.hy_page.specs.Bytes.{bytes_at}
-use Rattle.hy_rows.specs.Spelling.{list_at, slot_bytes, slot_start, slot_width, slots_end, used_slots}
+use Rattle.hy_rows.specs.Spelling.{list_at, slot_bytes, slot_start, slots_end, used_slots}
 use Rattle.hy_space.specs.Space.{HasPage, page_bytes}
 use Rattle.hy_relation.specs.Relation.{owner_pages}
-use Rattle.hy_relation.specs.inside.Addresses.{offset_of_byte, page_of_byte}
+use Rattle.hy_relation.specs.inside.Addresses.{page_of_byte}
 use Rattle.hy_relation.proofs.CopyLaws.{IsCopied, copied-more, copied-there}
 use Rattle.hy_relation.proofs.PageLaws.{length-slot_bytes}
 use Rattle.hy_relation.proofs.SlotLaws.{end-before, start-within}
@@ -67,7 +67,7 @@ loop-bytes-preserved g c =
     c.bytes.ensures.bytes ∙ c.page.ensures.bytes ∙ ap (λ (s : ℕ). page_bytes c.args.space.now s page) c.SEGMENT.ensures in
     let part : take (offset + count - offset) (drop offset c.bytes.result.now) ≡ bytes_at (list_at pages page) offset count =
     ap₂ (λ (size : ℕ) (bytes : List ℕ). take size (drop offset bytes)) (let size : offset + count - offset ≡ count = omega arith in size) here in
-    subst (λ (copied : List ℕ). IsCopied n c.args.total start pages copied (page + 1) 0) (sym c.push_part.ensures.bytes)
+    subst (λ (copied : List ℕ). IsCopied n c.args.total start pages copied (page + 1) 0) (sym c.push_bytes.ensures.bytes)
     (copied-more n c.args.total start pages c.loop-bytes.bytes.items page offset (pages_sized n segment c.args.space.now sound c.requires.slots.first) (omega (arith, fits, c.requires.inside))
     c.loop-bytes.invariant more count _ counted part)
 

@@ -1,4 +1,4 @@
-use Rattle.std.proofs.Common.{ℕ, ◌+◌, ◌-◌, length}
+use Rattle.std.proofs.Common.{◌+◌, ◌-◌, length}
 use Rattle.hy_rows.specs.Spelling.{slot_start}
 use Rattle.hy_relation.specs.Relation.{owner_pages}
 use Rattle.hy_relation.proofs.CopyLaws.{IsCopied}

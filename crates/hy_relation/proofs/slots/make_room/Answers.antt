@@ -1,12 +1,11 @@
-use Rattle.std.proofs.Common.{rules, ◌≡◌, ◌⊎◌, inl, inr, ℕ, ◌+◌, ◌-◌, ◌^◌, ◌<◌, ◌≤◌, List, false, length, sym, ap, ◌∙◌, subst, arith}
-use Rattle.hy_frames.specs.FrameTable.{free_of}
-use Rattle.hy_rows.specs.Spelling.{is_spanned, slots_end, used_slots}
-use Rattle.hy_space.specs.Space.{GrowsPage, IsOwn, SpaceState, owner_bytes, page_count}
+use Rattle.std.proofs.Common.{◌≡◌, ℕ, ◌+◌, ◌^◌, ◌<◌, length, sym, ap, ◌∙◌, subst, arith}
+use Rattle.hy_rows.specs.Spelling.{slots_end, used_slots}
+use Rattle.hy_space.specs.Space.{GrowsPage, SpaceState, owner_bytes, page_count}
 use Rattle.hy_undo.specs.Writes.{CanUndoGrowth}
 use Rattle.hy_undo.proofs.PrivatePageLaws.{length-segment-owner_bytes}
-use Rattle.hy_relation.specs.Relation.{ChangesSegment, HasAllSlotsUsed, HasFewPages, end_place, owner_pages, pages_of_slot}
-use Rattle.hy_relation.specs.inside.Addresses.{GrowsSlots, slot_page}
-use Rattle.hy_relation.proofs.RoomLaws.{HasGrown, grown-few, grown-few_frames, grown-own, grown-pages, grown-room, grown-stays_few, has_grown-more, one_more}
+use Rattle.hy_relation.specs.Relation.{ChangesSegment, HasFewPages, end_place, owner_pages, pages_of_slot}
+use Rattle.hy_relation.specs.inside.Addresses.{GrowsSlots}
+use Rattle.hy_relation.proofs.RoomLaws.{grown-few_frames, grown-own, grown-pages, grown-room, grown-stays_few, has_grown-more, one_more}
 use Rattle.hy_relation.proofs.SpaceLaws.{ends_few, pages_sized}
 use Rattle.hy_relation.proofs.slots.make_room.Goals as goal
 use Rattle.hy_relation.proofs.slots.make_room.Given as given

@@ -1,4 +1,4 @@
-use Rattle.std.proofs.Common.{ℕ, ◌+◌, ◌-◌, length}
+use Rattle.std.proofs.Common.{◌+◌, ◌-◌, length}
 use Rattle.hy_relation.specs.Relation.{owner_pages}
 use Rattle.hy_relation.proofs.RoomLaws.{HasGrown}
 use Rattle.hy_relation.proofs.slots.make_room.Given as goal

@@ -1,7 +1,7 @@
-use Rattle.std.proofs.Common.{rules, ◌≡◌, ℕ, ◌+◌, ◌*◌, ◌<◌, ◌≤◌, ◌^◌, List, false, length, OnOk, arith, sym, ap, ap₂, ◌∙◌, subst}
+use Rattle.std.proofs.Common.{rules, ◌≡◌, ℕ, ◌+◌, ◌*◌, ◌<◌, ◌^◌, List, false, length, OnOk, arith, sym, ap, ap₂, ◌∙◌, subst}
 use Rattle.std.proofs.lemmas.Result.{on_err_weaker, on_ok_weaker}
 use Rattle.hy_frames.specs.FrameTable.{free_of}
-use Rattle.hy_rows.specs.Spelling.{is_spanned, slot_start, slot_width}
+use Rattle.hy_rows.specs.Spelling.{is_spanned, slot_start}
 use Rattle.hy_space.specs.Space.{SpaceState, HasPage, IsOwn, owner_bytes}
 use Rattle.hy_undo.specs.Writes.{IsOutOfFrames, WritesAcross}
 use Rattle.hy_undo.proofs.JoinedLaws.{across-written}

@@ -5,7 +5,7 @@ use Rattle.hy_rows.proofs.codec.push_number.Goals as goal
 
 -- the lowest byte of the rest was pushed
 pub loop-preserved : goal.loop-preserved
-loop-preserved c =
+loop-preserved g c =
     let left = c.args.width - (c.loop.counter + 1) in
     record {
       bytes =

@@ -4,7 +4,7 @@ use Rattle.hy_rows.proofs.codec.push_number.Given as goal
 
 -- what was pushed, with the bytes that are left of the rest, are the bytes of the number
 abbrev pub invariant-loop : goal.invariant-loop
-invariant-loop l = record {
+invariant-loop g l = record {
   bytes : l.out.items ++ bytes_of (l.width - l.counter) l.rest ≡ l.fn.out.items ++ bytes_of l.width l.number;
   len : length l.out.items ≡ length l.fn.out.items + l.counter;
 }

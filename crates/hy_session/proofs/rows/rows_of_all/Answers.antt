@@ -8,9 +8,9 @@ loop-place-preserved g c =
     let all = c.args.all.now in
     let rows = c.loop-place.rows.items in
     let within : place < length all = omega (arith, c.loop-place-test.true, c.loop-place.invariant.1) in (
-      c.in_ok-extend_from_slice.ensures.items
-          ∙ joined-more g.R.Row.rows_in g.row.N all place c.part.result.now rows c.deref.result.now within
-          c.part.ensures c.loop-place.invariant.0 (c.deref.ensures.value ∙ c.in_ok-more.ensures),
+      c.in_ok-append.ensures.items
+          ∙ joined-more g.R.Row.rows_in g.row.N all place c.part.result.now rows c.in_ok-more.more.items within
+          c.part.ensures c.loop-place.invariant.0 c.in_ok-more.ensures,
       c.loop-place.invariant.1,
     )
 

@@ -19,7 +19,7 @@ put_part-requires g c =
 pub returns-clause-put : goal.returns-clause-put
 returns-clause-put g c = on_ok_weaker c.put_part.result (λ done row here.
     let rows = g.R.Row.rows_in (stored_in g.row.N c.args.space.now).tables in
-    let change : g.row.R.Denot → g.row.R.Denot = λ row. g.P.Part.with_part row c.args.part.now in
+    let change : g.row.R.Denot → g.row.R.Denot = λ row. g.P.WrittenPart.with_part row c.args.part.now in
     let had = ap (λ slots. get_or slots c.args.place None) c.know_rows.ensures.slots ∙ row-get rows c.args.place ∙ here in
     let slots = slots-put rows c.args.place (change row)
     (done.1 ∙ ap (λ item. set (relation_slots g.row.N g.R.Row.SEGMENT g.R.Row.BYTES g.R.Row.row_of_bytes c.args.space.now) c.args.place (option_map change item)) had) c.know_rows.ensures.slots in

@@ -1,4 +1,4 @@
-use Rattle.std.proofs.Common.{◌≡◌, ℕ, ◌+◌, ◌<◌, ◌≤◌, List, [], ◌∷◌, ◌++◌, length, Some, sym, ap, ◌∙◌, subst, arith}
+use Rattle.std.proofs.Common.{◌≡◌, ℕ, ◌+◌, ◌≤◌, List, [], ◌∷◌, ◌++◌, length, Some, sym, ap, ◌∙◌, subst, arith}
 use Rattle.hy_rows.specs.Spelling.{list_at, slot_bytes, slot_start, slot_width, slots_of}
 use Rattle.hy_space.specs.Space.{SpaceState, owner_bytes}
 use Rattle.hy_relation.specs.Relation.{ChangesSegment, HasFewPages, HasRelation, owner_pages, relation_slots}
@@ -21,12 +21,12 @@ returns-clause-pushed g c =
     let filled : List (List ℕ) = owner_pages c.write_slot.new.space segment in
     let row : List ℕ = g.R.Row.bytes_of_row c.args.row.now in
     let written : WritesSlot n width grown filled k (1 ∷ row) =
-    subst (λ (part : List ℕ). WritesSlot n width grown filled k part) (c.as_slice.ensures.value ∙ c.live_slot-bytes.ensures.bytes) (at_start n width grown filled k c.as_slice.result.now c.in_ok-write_slot.ensures.slot) in
+    subst (λ (part : List ℕ). WritesSlot n width grown filled k part) (c.as_slice.ensures ∙ c.slot-bytes.ensures.bytes) (at_start n width grown filled k c.as_slice.result.now c.in_ok-write_slot.ensures.slot) in
     let within : slot_start n width k + slot_width width ≤ length (slot_bytes grown) =
     subst (λ (used : ℕ). slot_start n width used + slot_width width ≤ length (slot_bytes grown)) (sym c.used_of-slot.ensures.value) c.in_ok-make_room.ensures.room in
     slots_of-pushed n width g.R.Row.row_of_bytes old k c.sound.ensures.size.smallest c.requires.slots grown filled (owner_pages c.write_count.new.space segment) row
-    (sym c.used_of-slot.ensures.value) c.make_room.ensures.grows within c.live_slot-bytes.ensures.width written c.in_ok-write_count.ensures.count
-    ∙ ap (λ last. slots_of n width g.R.Row.row_of_bytes old ++ Some last ∷ []) c.live_slot-bytes.ensures.reads_back
+    (sym c.used_of-slot.ensures.value) c.make_room.ensures.grows within c.slot-bytes.ensures.width written c.in_ok-write_count.ensures.count
+    ∙ ap (λ last. slots_of n width g.R.Row.row_of_bytes old ++ Some last ∷ []) c.slot-bytes.ensures.reads_back
 
 pub returns-clause-slots : goal.returns-clause-slots
 returns-clause-slots g c =
@@ -39,11 +39,11 @@ returns-clause-slots g c =
     let filled : List (List ℕ) = owner_pages c.write_slot.new.space segment in
     let row : List ℕ = g.R.Row.bytes_of_row c.args.row.now in
     let written : WritesSlot n width grown filled k (1 ∷ row) =
-    subst (λ (part : List ℕ). WritesSlot n width grown filled k part) (c.as_slice.ensures.value ∙ c.live_slot-bytes.ensures.bytes) (at_start n width grown filled k c.as_slice.result.now c.in_ok-write_slot.ensures.slot) in
+    subst (λ (part : List ℕ). WritesSlot n width grown filled k part) (c.as_slice.ensures ∙ c.slot-bytes.ensures.bytes) (at_start n width grown filled k c.as_slice.result.now c.in_ok-write_slot.ensures.slot) in
     let within : slot_start n width k + slot_width width ≤ length (slot_bytes grown) =
     subst (λ (used : ℕ). slot_start n width used + slot_width width ≤ length (slot_bytes grown)) (sym c.used_of-slot.ensures.value) c.in_ok-make_room.ensures.room in
     has_slots-pushed n width g.R.Row.row_of_bytes old k c.sound.ensures.size.smallest c.requires.slots grown filled (owner_pages c.write_count.new.space segment) row
-    (sym c.used_of-slot.ensures.value) c.make_room.ensures.grows within c.live_slot-bytes.ensures.width written c.in_ok-write_count.ensures.count
+    (sym c.used_of-slot.ensures.value) c.make_room.ensures.grows within c.slot-bytes.ensures.width written c.in_ok-write_count.ensures.count
 
 pub returns-clause-number : goal.returns-clause-number
 returns-clause-number g c =
@@ -90,7 +90,7 @@ returns-in_err-write_count-clause-slots g c =
     let grown : List (List ℕ) = owner_pages c.make_room.new.space segment in
     let within : slot_start n width k + slot_width width ≤ length (slot_bytes grown) =
     subst (λ (used : ℕ). slot_start n width used + slot_width width ≤ length (slot_bytes grown)) (sym c.used_of-slot.ensures.value) c.in_ok-make_room.ensures.room in
-    let size : length c.as_slice.result.now ≡ slot_width width = ap length (c.as_slice.ensures.value ∙ c.live_slot-bytes.ensures.bytes) ∙ omega (arith, c.live_slot-bytes.ensures.width) in
+    let size : length c.as_slice.result.now ≡ slot_width width = ap length (c.as_slice.ensures ∙ c.slot-bytes.ensures.bytes) ∙ omega (arith, c.slot-bytes.ensures.width) in
     subst (λ (space : SpaceState). HasRelation n segment width space) (sym c.in_err-write_count.ensures.err.1)
     (has_slots-behind n width g.R.Row.row_of_bytes old k c.sound.ensures.size.smallest c.requires.slots grown (owner_pages c.write_slot.new.space segment) c.as_slice.result.now
     (sym c.used_of-slot.ensures.value) c.make_room.ensures.grows within (omega (arith, size)) (at_start n width grown (owner_pages c.write_slot.new.space segment) k c.as_slice.result.now c.in_ok-write_slot.ensures.slot))
@@ -105,7 +105,7 @@ returns-in_err-write_count-clause-kept g c =
     let grown : List (List ℕ) = owner_pages c.make_room.new.space segment in
     let within : slot_start n width k + slot_width width ≤ length (slot_bytes grown) =
     subst (λ (used : ℕ). slot_start n width used + slot_width width ≤ length (slot_bytes grown)) (sym c.used_of-slot.ensures.value) c.in_ok-make_room.ensures.room in
-    let size : length c.as_slice.result.now ≡ slot_width width = ap length (c.as_slice.ensures.value ∙ c.live_slot-bytes.ensures.bytes) ∙ omega (arith, c.live_slot-bytes.ensures.width) in
+    let size : length c.as_slice.result.now ≡ slot_width width = ap length (c.as_slice.ensures ∙ c.slot-bytes.ensures.bytes) ∙ omega (arith, c.slot-bytes.ensures.width) in
     on_err c.from_residual-in_err-write_count.result
     (ap (λ (space : SpaceState). relation_slots n segment width g.R.Row.row_of_bytes space) c.in_err-write_count.ensures.err.1
     ∙ slots_of-behind n width g.R.Row.row_of_bytes old k c.sound.ensures.size.smallest c.requires.slots grown (owner_pages c.write_slot.new.space segment) c.as_slice.result.now

@@ -1,6 +1,6 @@
-use Rattle.std.proofs.Common.{◌≡◌, ℕ, ◌+◌, ◌<◌, ◌≤◌, List, length, ap, ◌∙◌, subst, arith}
+use Rattle.std.proofs.Common.{ℕ, ◌+◌, ◌<◌, ◌≤◌, List, length, ap, ◌∙◌, subst, arith}
 use Rattle.std.proofs.lemmas.Result.{on_ok_weaker}
-use Rattle.hy_rows.specs.Spelling.{slot_start, slot_width, used_slots}
+use Rattle.hy_rows.specs.Spelling.{slot_start, used_slots}
 use Rattle.hy_relation.specs.Relation.{owner_pages}
 use Rattle.hy_relation.specs.inside.Addresses.{WritesJoined}
 use Rattle.hy_relation.proofs.RelationLaws.{has_slots-written, live-used, slots_of-part}
@@ -14,7 +14,7 @@ write_slot-requires g c =
     let width : ℕ = g.R.Row.BYTES in
     let pages : List (List ℕ) = owner_pages c.args.space.now g.R.Row.SEGMENT in
     let used : c.args.slot < used_slots pages = live-used n width g.R.Row.row_of_bytes pages c.args.slot c.requires.live in
-    let size : length c.as_slice.result.now ≡ g.P.Part.WIDTH = ap length (c.as_slice.ensures.value ∙ c.part_bytes-bytes.ensures.bytes) ∙ c.part_bytes-bytes.ensures.width in
+    let size : length c.as_slice.result.now ≤ g.P.Part.WIDTH = omega (arith, ap length (c.as_slice.ensures ∙ c.bytes-bytes.ensures.bytes), c.bytes-bytes.ensures.width) in
     let sound = c.sound.ensures in (
       omega arith,
       (
@@ -35,7 +35,7 @@ returns-clause-slots g c = on_ok_weaker c.write_slot.result (λ written.
     let width : ℕ = g.R.Row.BYTES in
     let pages : List (List ℕ) = owner_pages c.args.space.now g.R.Row.SEGMENT in
     let used : c.args.slot < used_slots pages = live-used n width g.R.Row.row_of_bytes pages c.args.slot c.requires.live in
-    let size : length c.as_slice.result.now ≡ g.P.Part.WIDTH = ap length (c.as_slice.ensures.value ∙ c.part_bytes-bytes.ensures.bytes) ∙ c.part_bytes-bytes.ensures.width in
+    let size : length c.as_slice.result.now ≤ g.P.Part.WIDTH = omega (arith, ap length (c.as_slice.ensures ∙ c.bytes-bytes.ensures.bytes), c.bytes-bytes.ensures.width) in
     let within = used-within n width pages c.args.slot c.sound.ensures.size.smallest c.requires.slots used in
     has_slots-written n width pages (owner_pages c.write_slot.new.space g.R.Row.SEGMENT) _ c.as_slice.result.now
     (omega (arith, within, size, c.OFFSET.ensures, g.met.P.Part.inside)) written c.requires.slots) c.write_slot.ensures.slot
@@ -47,9 +47,9 @@ returns-clause-put g c = on_ok_weaker c.write_slot.result (λ raw.
     let old : List (List ℕ) = owner_pages c.args.space.now g.R.Row.SEGMENT in
     let new : List (List ℕ) = owner_pages c.write_slot.new.space g.R.Row.SEGMENT in
     let used : c.args.slot < used_slots old = live-used n width g.R.Row.row_of_bytes old c.args.slot c.requires.live in
-    let bytes : List ℕ = g.P.Part.bytes_of_part c.args.part.now in
+    let bytes : List ℕ = g.P.WrittenPart.bytes_of_part c.args.part.now in
     let written : WritesJoined old new (slot_start n width c.args.slot + (1 + g.P.Part.OFFSET)) bytes =
     subst (λ (skip : ℕ). WritesJoined old new (slot_start n width c.args.slot + (1 + skip)) bytes) c.OFFSET.ensures
-    (subst (λ (part : List ℕ). WritesJoined old new (slot_start n width c.args.slot + (1 + c.OFFSET.result)) part) (c.as_slice.ensures.value ∙ c.part_bytes-bytes.ensures.bytes) raw) in
+    (subst (λ (part : List ℕ). WritesJoined old new (slot_start n width c.args.slot + (1 + c.OFFSET.result)) part) (c.as_slice.ensures ∙ c.bytes-bytes.ensures.bytes) raw) in
     slots_of-part n width g.R.Row.row_of_bytes old c.args.slot c.sound.ensures.size.smallest c.requires.slots new used g.P.Part.OFFSET bytes
-    (λ row. g.P.Part.with_part row c.args.part.now) (omega (arith, c.part_bytes-bytes.ensures.width, g.met.P.Part.inside)) c.part_bytes-bytes.ensures.written written) c.write_slot.ensures.slot
+    (λ row. g.P.WrittenPart.with_part row c.args.part.now) (omega (arith, c.bytes-bytes.ensures.width, g.met.P.Part.inside)) c.bytes-bytes.ensures.written written) c.write_slot.ensures.slot

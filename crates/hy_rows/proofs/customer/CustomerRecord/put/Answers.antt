@@ -1,7 +1,7 @@
 use Rattle.std.proofs.Common.{ap, rules, w64}
 use Rattle.std.proofs.lemmas.Int.{to_z-of_z}
 use Rattle.hy_rows.specs.declared.value.Value.TheVariants.{Text, Whole}
-use Rattle.hy_rows.proofs.RecordLaws.{and_known, and_then, at_last}
+use Rattle.hy_rows.proofs.RecordLaws.{and_known, and_then, at_last_known}
 use Rattle.hy_rows.proofs.customer.CustomerRecord.put.Goals as goal
 
 -- the values were given one after another
@@ -22,4 +22,5 @@ returns g c =
     let by_balance = and_known after c.in_ok-i64.ensures balance by_discount in
     let by_ytd_payment = and_known after c.in_ok-i64-2.ensures ytd_payment by_balance in
     let by_payment_count = and_then after c.in_ok-u64.ensures by_ytd_payment in
-    at_last after _ _ _ _ _ c.u64-2.result c.u64-2.ensures by_payment_count
+    let by_delivery_count = and_then after c.in_ok-u64-2.ensures by_payment_count in
+    at_last_known after _ _ _ _ _ _ c.text-5.result c.text-5.ensures (ap Text c.as_bytes-5.ensures.bytes) by_delivery_count
