@@ -1,4 +1,4 @@
--- The bytes of batches of commits, edition 1. Each number has its lowest byte first.
+-- The bytes of batches of commits. Each number has its lowest byte first.
 use Rattle.std.specs.Prelude.{ℕ, List, [], ◌∷◌, ◌++◌, length}
 use Rattle.std.specs.List.{flat_map}
 use Rattle.hy_page.specs.Bytes.{bytes_of}
@@ -12,6 +12,9 @@ use Rattle.hy_commands.specs.declared.command.Purchase.{Purchase}
 use Rattle.hy_commands.specs.declared.command.PurchaseLine.{PurchaseLine}
 use Rattle.hy_commands.specs.declared.command.Who.{Who}
 use Rattle.hy_commands.specs.declared.command.Who.TheVariants as who
+use Rattle.hy_commands.specs.declared.edition.Edition.{Edition}
+use Rattle.hy_commands.specs.declared.edition.Edition.TheVariants as editions
+use Rattle.hy_batches.specs.Batches.{Batch}
 
 -- a number in so many bytes
 unfoldable pub number_bytes : ℕ → ℕ → List ℕ
@@ -51,10 +54,10 @@ command_bytes command = []
 
 -- ---- batches
 
--- a commit: 00, or 01 and its number among those of several warehouses, and then its command
+-- a commit: 00, or 01 and its number among those of several warehouses, and then its command. Its edition is the batch's
 abbrev pub commit_bytes : Commit → List ℕ
-commit_bytes (commits.Local command) = 0 ∷ command_bytes command
-commit_bytes (commits.Cross number command) = 1 ∷ number_bytes 8 number ++ command_bytes command
+commit_bytes (commits.Local edition command) = 0 ∷ command_bytes command
+commit_bytes (commits.Cross edition number command) = 1 ∷ number_bytes 8 number ++ command_bytes command
 
 -- the commits of a warehouse: how many they are, and they
 abbrev pub list_bytes : List Commit → List ℕ
@@ -64,14 +67,16 @@ list_bytes commits = number_bytes 4 (length commits) ++ flat_map commit_bytes co
 abbrev pub content_bytes : List (List Commit) → List ℕ
 content_bytes lists = number_bytes 1 (length lists) ++ flat_map list_bytes lists
 
--- HYB1, which tells the edition
-abbrev pub mark : List ℕ
-mark = 72 ∷ 89 ∷ 66 ∷ 49 ∷ []
+-- HYB1 or HYB2, which tells the edition
+abbrev pub mark : Edition → List ℕ
+mark editions.First = 72 ∷ 89 ∷ 66 ∷ 49 ∷ []
+mark editions.Second = 72 ∷ 89 ∷ 66 ∷ 50 ∷ []
 
 -- a batch: the mark, the length of the content, the content, and 45 in hexadecimal
-abbrev pub batch_bytes : List (List Commit) → List ℕ
-batch_bytes lists = mark ++ number_bytes 8 (length (content_bytes lists)) ++ content_bytes lists ++ 69 ∷ []
+abbrev pub batch_bytes : Batch → List ℕ
+batch_bytes batch =
+    mark batch.edition ++ number_bytes 8 (length (content_bytes batch.lists)) ++ content_bytes batch.lists ++ 69 ∷ []
 
 -- batches one behind another
-abbrev pub log_bytes : List (List (List Commit)) → List ℕ
+abbrev pub log_bytes : List Batch → List ℕ
 log_bytes batches = flat_map batch_bytes batches

@@ -1,3 +1,4 @@
+pub mod Batches
 pub mod Encoding
 pub mod Grammar
 pub mod Logs

@@ -1,12 +1,13 @@
 -- Which bytes are a log, where others fail, and what reading answers.
 use Rattle.std.specs.Prelude.{◌≡◌, ℕ, ◌+◌, ◌≤◌, ◌==◌, ◌⊎◌, Bool, false, ◌&&◌, ◌||◌, nat_lt, IsTrue, List, ◌++◌, length, take, bytes_eq, Result, Ok, Err}
-use Rattle.std.specs.List.{list_all}
 use Rattle.hy_page.specs.Bytes.{bytes_at, number_of}
 use Rattle.hy_schema.specs.declared.refusal.Refusal.{Refusal}
 use Rattle.hy_schema.specs.declared.refusal.Refusal.TheVariants as refusals
-use Rattle.hy_commands.specs.declared.command.Commit.{Commit}
+use Rattle.hy_commands.specs.declared.edition.Edition.{Edition}
+use Rattle.hy_commands.specs.declared.edition.Edition.TheVariants as editions
+use Rattle.hy_batches.specs.Batches.{Batch, may_follow}
 use Rattle.hy_batches.specs.Encoding.{batch_bytes, log_bytes, mark}
-use Rattle.hy_batches.specs.Grammar.{IsBatch, is_batch}
+use Rattle.hy_batches.specs.Grammar.{IsBatch, are_batches, last_edition}
 
 -- ---- the end of a log
 
@@ -18,11 +19,15 @@ said_length rest = number_of (bytes_at rest 4 8)
 abbrev pub is_short : List ℕ → Bool
 is_short rest = nat_lt (length rest) 12 || nat_lt (length rest) (13 + said_length rest)
 
--- whether bytes are the begin of a batch that was cut: at least one byte, the first of them, up to four, those of the
--- mark, and too few. What stands behind the length doesn't matter
+-- whether the first bytes, up to four, are those of the mark of an edition
+abbrev pub has_mark : List ℕ → Edition → Bool
+has_mark rest edition = bytes_eq (take 4 rest) (take (length rest) (mark edition))
+
+-- whether bytes are the begin of a batch that was cut: at least one byte, the first of them, up to four, those of a mark,
+-- and too few. What stands behind the length doesn't matter, nor which edition it is of
 abbrev pub is_beginning : List ℕ → Bool
 is_beginning rest =
-    nat_lt 0 (length rest) && bytes_eq (take 4 rest) (take (length rest) mark) && is_short rest
+    nat_lt 0 (length rest) && (has_mark rest editions.First || has_mark rest editions.Second) && is_short rest
 
 -- whether nothing, or no more than such a beginning, is left
 abbrev pub is_end : List ℕ → Bool
@@ -31,22 +36,23 @@ is_end rest = length rest == 0 || is_beginning rest
 -- ---- logs
 
 -- the bytes are those of whole batches, and what is left is the end
-pub record IsLog (bytes : List ℕ) (batches : List (List (List Commit))) (rest : List ℕ) : Type 0 where
+pub record IsLog (bytes : List ℕ) (batches : List Batch) (rest : List ℕ) : Type 0 where
   pub spelled : bytes ≡ log_bytes batches ++ rest
-  pub whole : IsTrue (list_all is_batch batches)
+  pub whole : IsTrue (are_batches batches)
   pub ended : IsTrue (is_end rest)
 
--- whole batches come first, and what is left is no end, nor does it begin with a batch
-pub record IsFaultyBehind (bytes : List ℕ) (batches : List (List (List Commit))) (rest : List ℕ) : Type 0 where
+-- whole batches come first, and what is left is no end, nor does it begin with a batch that may stand behind them
+pub record IsFaultyBehind (bytes : List ℕ) (batches : List Batch) (rest : List ℕ) : Type 0 where
   pub spelled : bytes ≡ log_bytes batches ++ rest
-  pub whole : IsTrue (list_all is_batch batches)
+  pub whole : IsTrue (are_batches batches)
   pub goes_on : is_end rest ≡ false
-  pub fault : (lists : List (List Commit)) (more : List ℕ) → IsBatch lists → rest ≡ batch_bytes lists ++ more → ⊥
+  pub fault : (batch : Batch) (more : List ℕ) → IsBatch batch → IsTrue (may_follow (last_edition editions.First batches) batch.edition)
+      → rest ≡ batch_bytes batch ++ more → ⊥
 
 -- the place is that of the first byte of what is no batch
 abbrev pub IsFaultyAt : List ℕ → ℕ → Type 0
 IsFaultyAt bytes place =
-    (batches : List (List (List Commit))) × (rest : List ℕ)
+    (batches : List Batch) × (rest : List ℕ)
     × IsFaultyBehind bytes batches rest × (place ≡ length (log_bytes batches))
 
 -- ---- laws
@@ -54,10 +60,10 @@ IsFaultyAt bytes place =
 -- bytes are a log, or they fail at a place
 abbrev pub IsDecided : List ℕ → Type 0
 IsDecided bytes =
-    ((batches : List (List (List Commit))) × (rest : List ℕ) × IsLog bytes batches rest) ⊎ ((place : ℕ) × IsFaultyAt bytes place)
+    ((batches : List Batch) × (rest : List ℕ) × IsLog bytes batches rest) ⊎ ((place : ℕ) × IsFaultyAt bytes place)
 
 -- the first bytes of a log, so many of them, are a log of the first batches, all that are whole in these bytes
-abbrev pub BeginsLog : List (List (List Commit)) → ℕ → Type 0
+abbrev pub BeginsLog : List Batch → ℕ → Type 0
 BeginsLog batches size =
     (count : ℕ) × (rest : List ℕ) × IsLog (take size (log_bytes batches)) (take count batches) rest
     × ((whole : ℕ) → whole ≤ length batches → length (log_bytes (take whole batches)) ≤ size → whole ≤ count)
@@ -66,7 +72,7 @@ BeginsLog batches size =
 
 -- bytes are read as their batches exactly where they are a log; else the place of what is no batch is told, unless memory
 -- ran out before
-abbrev pub Reads : List ℕ → Result (List (List (List Commit))) Refusal → Type 0
+abbrev pub Reads : List ℕ → Result (List Batch) Refusal → Type 0
 Reads bytes (Ok batches) = (rest : List ℕ) × IsLog bytes batches rest
 Reads bytes (Err (refusals.LogMalformed place)) = IsFaultyAt bytes place
 Reads bytes (Err refusals.NoMemory) = Unit {0}

@@ -1,13 +1,15 @@
 //! Whole logs.
 
 ghost use Rattle.std.specs.Prelude.{◌≡◌, ◌++◌, ◌∷◌, [], OnOk};
-ghost use Rattle.hy_batches.specs.Logs.{Reads, is_beginning, is_end, is_short};
+ghost use Rattle.hy_batches.specs.Batches.{may_follow};
+ghost use Rattle.hy_batches.specs.Logs.{Reads, has_mark, is_beginning, is_end, is_short};
 ghost use Rattle.hy_batches.specs.inside.Nexts.{IsNext};
 
 use crate::batch::Batch;
 use crate::fault::ReadFault;
 use crate::reading::batch_at;
-use crate::writing::MARK;
+use crate::writing::mark;
+use hy_commands::Edition;
 use hy_page::number;
 use hy_schema::Refusal;
 use std::alloc::{AllocError, Global};
@@ -21,11 +23,11 @@ pub struct Batches {
 }
 
 impl Model for Batches {
-    ghost use Rattle.hy_commands.specs.declared.command.Commit.{Commit};
     ghost use Rattle.std.specs.Prelude.{List};
+    ghost use Rattle.hy_batches.specs.Batches.{Batch};
     ghost use Rattle.hy_batches.specs.inside.Logs.{AreBatches};
 
-    ghost Value = { List (List (List Commit)) };
+    ghost Value = { List Batch };
 
     ghost view = { λ log. log.batches.items };
 
@@ -34,9 +36,9 @@ impl Model for Batches {
 
 impl Batches {
     ghost use Rattle.std.specs.Prelude.{◌≡◌, ◌<◌, [], true, length, slice_index_or};
-    ghost use Rattle.std.specs.List.{list_all};
+    ghost use Rattle.hy_commands.specs.declared.edition.Edition.TheVariants as editions;
     ghost use Rattle.hy_batches.specs.Encoding.{log_bytes};
-    ghost use Rattle.hy_batches.specs.Grammar.{is_batch};
+    ghost use Rattle.hy_batches.specs.Grammar.{are_batches};
 
     /// How many batches there are.
     pub fn count(&self) -> u64
@@ -52,9 +54,9 @@ impl Batches {
         self.bytes as u64
     }
 
-    /// Each of them is a batch, whatever log they were read from. Does nothing.
+    /// They are batches that stand in a log in this order, whatever log they were read from. Does nothing.
     pub fn sound(&self)
-        ensures { list_all is_batch self.now ≡ true }
+        ensures { are_batches self.now ≡ true }
     {
         let _batches = &self.batches;
     }
@@ -62,7 +64,7 @@ impl Batches {
     /// The batch at a place, from 0.
     pub fn batch(&self, place: usize) -> &Batch
         requires { place < length self.now }
-        ensures { result.now ≡ slice_index_or self.now place [] }
+        ensures { result.now ≡ slice_index_or self.now place (record { edition = editions.Second; lists = [] }) }
     {
         &self.batches[place]
     }
@@ -79,12 +81,22 @@ fn is_short(rest: &[u8]) -> bool
     (rest.len() - 12) as u64 <= said
 }
 
+/// Whether the first bytes, up to four, are those of the mark of an edition.
+fn has_mark(rest: &[u8], edition: Edition) -> bool
+    ensures { result ≡ has_mark rest.now edition }
+{
+    let mark = mark(edition);
+    let common = rest.len().min(mark.len());
+    rest[..common] == mark[..common]
+}
+
 /// Whether bytes are the begin of a batch that was cut.
 fn is_beginning(rest: &[u8]) -> bool
     ensures { result ≡ is_beginning rest.now }
 {
-    let common = rest.len().min(MARK.len());
-    0 < common && rest[..common] == MARK[..common] && is_short(rest)
+    !rest.is_empty()
+        && (has_mark(rest, Edition::First) || has_mark(rest, Edition::Second))
+        && is_short(rest)
 }
 
 /// Whether no more than the begin of a batch is left.
@@ -94,12 +106,30 @@ fn is_end(rest: &[u8]) -> bool
     rest.is_empty() || is_beginning(rest)
 }
 
-/// The batch that bytes begin with, which stand at a place of the log, and what is left.
-fn next_batch(alloc: Global, place: usize, rest: &[u8]) -> Result<(Batch, &[u8]), Refusal>
-    ensures { IsNext (λ read. (read.0, read.1.now)) place rest.now result }
+/// Whether a batch of an edition may stand behind one of another.
+fn may_follow(before: Edition, behind: Edition) -> bool
+    ensures { result ≡ may_follow before behind }
+{
+    before == Edition::First || behind == Edition::Second
+}
+
+/// The batch that bytes begin with, which stand at a place of the log behind a batch of an edition, and what is left.
+fn next_batch(
+    alloc: Global,
+    edition: Edition,
+    place: usize,
+    rest: &[u8],
+) -> Result<(Batch, &[u8]), Refusal>
+    ensures { IsNext (λ read. (read.0, read.1.now)) edition place rest.now result }
 {
     match batch_at(alloc, rest) {
-        Ok((batch, after)) => Ok((batch, after)),
+        Ok((batch, after)) => {
+            if may_follow(edition, batch.edition()) {
+                Ok((batch, after))
+            } else {
+                Err(Refusal::LogMalformed(place as u64))
+            }
+        }
         Err(ReadFault::Malformed) => Err(Refusal::LogMalformed(place as u64)),
         Err(ReadFault::NoMemory) => Err(Refusal::NoMemory),
     }
@@ -113,15 +143,18 @@ fn add(batches: &mut Vec<Batch>, batch: Batch) -> Result<(), AllocError>
     Ok(())
 }
 
-/// The batches of a log. `LogMalformed` where the bytes are none, with the place of the first byte of what is neither a
-/// batch nor the begin of one; `NoMemory` where the batches before it, or its own commits, find none.
+/// The batches of a log: those of the first edition, and behind them those of the second. `LogMalformed` where the bytes
+/// are none, with the place of the first byte of what is neither a batch that may stand there nor the begin of one;
+/// `NoMemory` where the batches before it, or its own commits, find none.
 pub fn read_log(alloc: Global, bytes: &[u8]) -> Result<Batches, Refusal>
     ensures { Reads bytes.now result }
 {
     let mut batches = Vec::new(alloc);
+    let mut edition = Edition::First;
     let mut rest = bytes;
     'batches: while !is_end(rest) {
-        let (batch, after) = next_batch(alloc, bytes.len() - rest.len(), rest)?;
+        let (batch, after) = next_batch(alloc, edition, bytes.len() - rest.len(), rest)?;
+        edition = batch.edition();
         add(&mut batches, batch)?;
         rest = after;
     }

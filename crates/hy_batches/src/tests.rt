@@ -1,6 +1,6 @@
 use super::*;
 use hy_commands::{
-    Command, Commit, Delivery, Name, Payment, Purchase, PurchaseLine, PurchaseLines, Who,
+    Command, Commit, Delivery, Edition, Name, Payment, Purchase, PurchaseLine, PurchaseLines, Who,
 };
 use hy_schema::Refusal;
 use std::alloc::{AllocError, Global};
@@ -11,6 +11,9 @@ const SAMPLE: [u8; 43] = [
     0x48, 0x59, 0x42, 0x31, 0x1e, 0, 0, 0, 0, 0, 0, 0, 2, 1, 0, 0, 0, 0, 2, 1, 1, 1, 1, 0, 1, 0,
     0x64, 0, 0, 0, 1, 0, 0, 0, 0, 0, 0, 0, 0, 0, 0, 0, 0x45,
 ];
+
+/// The place of the byte of the mark that tells the edition.
+const EDITION: usize = 3;
 
 const LENGTH: usize = 4;
 
@@ -45,12 +48,36 @@ fn purchase(alloc: Global) -> Result<Command, AllocError> {
     }))
 }
 
-/// A batch of two warehouses with these commits of the first.
-fn batch_of(alloc: Global, commits: Vec<Commit>) -> Result<Batch, AllocError> {
+/// A batch of an edition, of two warehouses with these commits of the first.
+fn batch_of(alloc: Global, edition: Edition, commits: Vec<Commit>) -> Result<Batch, AllocError> {
     let mut lists = Vec::with_capacity(alloc, 2)?;
     lists.push_reserved(commits);
     lists.push_reserved(Vec::new(alloc));
-    Ok(Batch::new(lists))
+    Ok(Batch::new(edition, lists))
+}
+
+/// The sample of the second edition: the mark alone is another one.
+fn second() -> [u8; 43] {
+    let mut bytes = SAMPLE;
+    bytes[EDITION] = 0x32;
+    bytes
+}
+
+/// The sample, written as a batch of an edition.
+fn sample_of(alloc: Global, edition: Edition) -> Result<Text, AllocError> {
+    let mut commits = Vec::with_capacity(alloc, 1)?;
+    commits.push_reserved(Commit::Local(edition, payment(1, Who::Number(1))));
+    let mut text = Text::new(alloc);
+    write_batch(&mut text, &batch_of(alloc, edition, commits)?);
+    Ok(text)
+}
+
+/// Some bytes, and others behind them.
+fn joined(alloc: Global, front: &[u8], back: &[u8]) -> Result<Vec<u8>, AllocError> {
+    let mut bytes = Vec::new(alloc);
+    bytes.extend_from_slice(front)?;
+    bytes.extend_from_slice(back)?;
+    Ok(bytes)
 }
 
 /// The sample three times.
@@ -81,13 +108,10 @@ fn changed(alloc: Global, place: usize, byte: u8) -> Option<u64> {
 
 #[test]
 fn sample_is_written(rt: HostRuntime) -> Result<(), Fail> {
-    let mut commits = Vec::with_capacity(rt.alloc(), 1)?;
-    commits.push_reserved(Commit::Local(payment(1, Who::Number(1))));
-    let batch = batch_of(rt.alloc(), commits)?;
-    let mut text = Text::new(rt.alloc());
-    write_batch(&mut text, &batch);
-    let bytes = text.bytes().ok_or("memory lasts")?;
-    assert_eq!(rt; bytes, SAMPLE.as_slice());
+    let first = sample_of(rt.alloc(), Edition::First)?;
+    assert_eq!(rt; first.bytes(), Some(SAMPLE.as_slice()));
+    let other = sample_of(rt.alloc(), Edition::Second)?;
+    assert_eq!(rt; other.bytes(), Some(second().as_slice()));
     Ok(())
 }
 
@@ -110,6 +134,9 @@ fn faults_are_named(rt: HostRuntime) -> Result<(), Fail> {
     assert_eq!(rt; changed(rt.alloc(), LENGTH, 0x1d), Some(0));
     assert_eq!(rt; changed(rt.alloc(), LENGTH, 0x1f), None);
     assert_eq!(rt; changed(rt.alloc(), AMOUNT, 99), Some(0));
+    assert_eq!(rt; changed(rt.alloc(), EDITION, 0x32), None);
+    assert_eq!(rt; changed(rt.alloc(), EDITION, 0x33), Some(0));
+    assert_eq!(rt; changed(rt.alloc(), EDITION, 0x30), Some(0));
     assert_eq!(rt; changed(rt.alloc(), END, 0x46), Some(0));
     assert_eq!(rt; fault(rt.alloc(), b"HYB".as_slice()), None);
     assert_eq!(rt; fault(rt.alloc(), b"HX".as_slice()), Some(0));
@@ -120,7 +147,45 @@ fn faults_are_named(rt: HostRuntime) -> Result<(), Fail> {
 }
 
 #[test]
+fn editions_are_read(rt: HostRuntime) -> Result<(), Fail> {
+    let bytes = joined(rt.alloc(), &SAMPLE, &second())?;
+    let batches = read_log(rt.alloc(), &bytes)?;
+    assert_eq!(rt; batches.count(), 2);
+    assert_eq!(rt; batches.bytes(), 86);
+    assert_eq!(rt; batches.batch(0).edition(), Edition::First);
+    assert_eq!(rt; batches.batch(1).edition(), Edition::Second);
+    assert_eq!(rt; batches.batch(0).len(), 2);
+    assert_eq!(rt; batches.batch(1).len(), 2);
+    Ok(())
+}
+
+#[test]
+fn first_behind_second_is_a_fault(rt: HostRuntime) -> Result<(), Fail> {
+    let bytes = joined(rt.alloc(), &second(), &SAMPLE)?;
+    assert_eq!(rt; fault(rt.alloc(), &bytes), Some(43));
+    let cut = joined(rt.alloc(), &second(), &SAMPLE[..20])?;
+    let batches = read_log(rt.alloc(), &cut)?;
+    assert_eq!(rt; batches.count(), 1);
+    assert_eq!(rt; batches.bytes(), 43);
+    assert_eq!(rt; batches.batch(0).edition(), Edition::Second);
+    Ok(())
+}
+
+#[test]
+fn batch_without_commits_keeps_its_edition(rt: HostRuntime) -> Result<(), Fail> {
+    let mut text = Text::new(rt.alloc());
+    let batch = batch_of(rt.alloc(), Edition::Second, Vec::new(rt.alloc()))?;
+    write_batch(&mut text, &batch);
+    let bytes = text.bytes().ok_or("memory lasts")?;
+    let batches = read_log(rt.alloc(), bytes)?;
+    assert_eq!(rt; batches.count(), 1);
+    assert_eq!(rt; batches.batch(0).edition(), Edition::Second);
+    Ok(())
+}
+
+#[test]
 fn commands_are_read_as_they_were_written(rt: HostRuntime) -> Result<(), Fail> {
+    let edition = Edition::Second;
     let name = Name::new(Vec::from_slice(rt.alloc(), b"BARBAROUGHT".as_slice())?);
     let delivery = Delivery {
         warehouse: 1,
@@ -128,12 +193,12 @@ fn commands_are_read_as_they_were_written(rt: HostRuntime) -> Result<(), Fail> {
         at: 2,
     };
     let mut commits = Vec::with_capacity(rt.alloc(), 4)?;
-    commits.push_reserved(Commit::Local(purchase(rt.alloc())?));
-    commits.push_reserved(Commit::Local(payment(1, Who::Last(name))));
-    commits.push_reserved(Commit::Local(Command::Delivery(delivery)));
-    commits.push_reserved(Commit::Cross(1, payment(2, Who::Number(65_535))));
+    commits.push_reserved(Commit::Local(edition, purchase(rt.alloc())?));
+    commits.push_reserved(Commit::Local(edition, payment(1, Who::Last(name))));
+    commits.push_reserved(Commit::Local(edition, Command::Delivery(delivery)));
+    commits.push_reserved(Commit::Cross(edition, 1, payment(2, Who::Number(65_535))));
     let mut text = Text::new(rt.alloc());
-    write_batch(&mut text, &batch_of(rt.alloc(), commits)?);
+    write_batch(&mut text, &batch_of(rt.alloc(), edition, commits)?);
     let bytes = text.bytes().ok_or("memory lasts")?;
     let batches = read_log(rt.alloc(), bytes)?;
     assert_eq!(rt; batches.count(), 1);

@@ -2,17 +2,32 @@
 
 ghost use Rattle.std.specs.Prelude.{◌≡◌, ◌≤◌, length};
 ghost use Rattle.std.specs.List.{flat_map};
-ghost use Rattle.hy_batches.specs.Encoding.{batch_bytes, command_bytes, commit_bytes, content_bytes, delivery_bytes, line_bytes, list_bytes, number_bytes, payment_bytes, purchase_bytes, who_bytes};
+ghost use Rattle.hy_batches.specs.Encoding.{batch_bytes, command_bytes, commit_bytes, content_bytes, delivery_bytes, line_bytes, list_bytes, mark, number_bytes, payment_bytes, purchase_bytes, who_bytes};
 
 use crate::batch::Batch;
 use crate::sink::{Counter, Sink};
-use hy_commands::{Command, Commit, Delivery, Payment, Purchase, PurchaseLine, PurchaseLines, Who};
+use hy_commands::{
+    Command, Commit, Delivery, Edition, Payment, Purchase, PurchaseLine, PurchaseLines, Who,
+};
 
-/// What a batch begins with. The last byte tells the edition.
-pub(crate) const MARK: [u8; 4] = *b"HYB1";
+/// What a batch of the first edition begins with.
+pub(crate) const FIRST_MARK: [u8; 4] = *b"HYB1";
+
+/// What one of the second edition begins with.
+pub(crate) const SECOND_MARK: [u8; 4] = *b"HYB2";
 
 /// What it ends with.
 pub(crate) const END: u8 = b'E';
+
+/// What a batch of an edition begins with.
+pub(crate) fn mark(edition: Edition) -> [u8; 4]
+    ensures { result ≡ mark edition }
+{
+    match edition {
+        Edition::First => FIRST_MARK,
+        Edition::Second => SECOND_MARK,
+    }
+}
 
 /// Writes the lowest `width` bytes of a number, the lowest first.
 fn write_number<S: Sink>(sink: &mut S, width: usize, number: u64)
@@ -118,11 +133,11 @@ fn write_commit<S: Sink>(sink: &mut S, commit: &Commit)
     ensures { S.takes sink.old sink.new (commit_bytes commit.now) }
 {
     match commit {
-        Commit::Local(command) => {
+        Commit::Local(_, command) => {
             sink.put(&[0]);
             write_command(sink, command);
         }
-        Commit::Cross(number, command) => {
+        Commit::Cross(_, number, command) => {
             sink.put(&[1]);
             write_number(sink, 8, *number);
             write_command(sink, command);
@@ -149,7 +164,7 @@ fn write_list<S: Sink>(sink: &mut S, commits: &[Commit])
 
 /// Writes the lists of all warehouses one behind another.
 fn write_lists<S: Sink>(sink: &mut S, batch: &Batch)
-    ensures { S.takes sink.old sink.new (flat_map list_bytes batch.now) }
+    ensures { S.takes sink.old sink.new (flat_map list_bytes batch.now.lists) }
 {
     for place in 0..batch.len() {
         write_list(sink, batch.list(place));
@@ -158,7 +173,7 @@ fn write_lists<S: Sink>(sink: &mut S, batch: &Batch)
 
 /// Writes the content of a batch.
 fn write_content<S: Sink>(sink: &mut S, batch: &Batch)
-    ensures { S.takes sink.old sink.new (content_bytes batch.now) }
+    ensures { S.takes sink.old sink.new (content_bytes batch.now.lists) }
 {
     write_number(sink, 1, batch.len() as u64);
     write_lists(sink, batch);
@@ -166,7 +181,7 @@ fn write_content<S: Sink>(sink: &mut S, batch: &Batch)
 
 /// How many bytes the content of a batch has; of a number that needs more, the lowest 64 bits.
 fn content_length(batch: &Batch) -> u64
-    ensures { number_bytes 8 result ≡ number_bytes 8 (length (content_bytes batch.now)) }
+    ensures { number_bytes 8 result ≡ number_bytes 8 (length (content_bytes batch.now.lists)) }
 {
     let mut counter = Counter { count: 0 };
     write_content(&mut counter, batch);
@@ -177,7 +192,7 @@ fn content_length(batch: &Batch) -> u64
 pub fn write_batch<S: Sink>(sink: &mut S, batch: &Batch)
     ensures { S.takes sink.old sink.new (batch_bytes batch.now) }
 {
-    sink.put(&MARK);
+    sink.put(&mark(batch.edition()));
     write_number(sink, 8, content_length(batch));
     write_content(sink, batch);
     sink.put(&[END]);

@@ -25,6 +25,7 @@ use Rattle.hy_commands.specs.declared.command.Payment.{Payment}
 use Rattle.hy_commands.specs.declared.command.PurchaseLine.{PurchaseLine}
 use Rattle.hy_commands.specs.declared.command.Who.{Who}
 use Rattle.hy_commands.specs.declared.command.Who.TheVariants as who
+use Rattle.hy_commands.specs.declared.edition.Edition.{Edition}
 use Rattle.hy_commands.specs.Customers.{customer_meant, identity_of}
 use Rattle.hy_commands.specs.Deliveries.{delivered}
 use Rattle.hy_commands.specs.Growth.{HasGrownBy, IsCustomerUpTo, IsDistrictUpTo, IsLineUpTo, IsNewOrderUpTo, IsOrderUpTo, IsPaymentUpTo, IsStockUpTo, IsWarehouseUpTo}
@@ -45,38 +46,38 @@ use Rattle.hy_commands.proofs.SoundLoad.{all-by_place, sound-load}
 -- ---- commands
 
 module _ (items : List Item) (fits : ItemsFit items) (number : ℕ) (small : number ≤ 16) where
-  grown-accepted : (command : Command) (tables : Tables) (n : ℕ) → IsAccepted items number command tables
+  grown-accepted : (edition : Edition) (command : Command) (tables : Tables) (n : ℕ) → IsAccepted items number command tables
       → IsSoundWarehouse items number tables → HasGrownBy n tables
-      → HasGrownBy (n + 1) (accepted items number command tables).tables
-  grown-accepted (commands.NewOrder order) tables n passed sound grown =
+      → HasGrownBy (n + 1) (accepted items number edition command tables).tables
+  grown-accepted edition (commands.NewOrder order) tables n passed sound grown =
       let purchase = accepted-purchase items number order tables passed in
       grown-ordered items fits number order tables n purchase.count purchase.in_range purchase.moment passed.known
       (All-weaker (λ (line : PurchaseLine). line.supply_warehouse ≡ number) (λ line. line.supply_warehouse ≤ 16)
       (λ line own. omega (arith, own, small)) order.lines (own-suppliers number order passed.named))
       (sym (found-any (is_customer order.warehouse order.district order.customer) tables.customers) ∙ passed.customer)
       grown
-  grown-accepted (commands.Payment payment) tables n passed sound grown =
+  grown-accepted edition (commands.Payment payment) tables n passed sound grown =
       let paid = accepted-payment items number payment tables passed in
-      grown-paid payment (payer payment tables).id tables n paid.amount paid.moment
+      grown-paid edition payment (payer payment tables).id tables n paid.amount paid.moment
       (payer-small payment tables n (10 * n) grown.customers) grown
-  grown-accepted (commands.OrderStatus status) tables n passed sound grown = grown-later n tables grown
-  grown-accepted (commands.Delivery delivery) tables n passed sound grown =
+  grown-accepted edition (commands.OrderStatus status) tables n passed sound grown = grown-later n tables grown
+  grown-accepted edition (commands.Delivery delivery) tables n passed sound grown =
       let done = accepted-delivery items number delivery tables passed in
       grown-delivered items number delivery done.carrier done.moment (not_0 10 delivery.carrier done.carrier)
       (not_0 1_000_000_000_000_000 delivery.at done.moment) n tables sound grown
-  grown-accepted (commands.StockLevel level) tables n passed sound grown = grown-later n tables grown
+  grown-accepted edition (commands.StockLevel level) tables n passed sound grown = grown-later n tables grown
 
-  grown-outcome : (command : Command) (tables : Tables) (n : ℕ) (refusal : Option Refusal)
+  grown-outcome : (edition : Edition) (command : Command) (tables : Tables) (n : ℕ) (refusal : Option Refusal)
       → refusal_of items number command tables ≡ refusal → IsSoundWarehouse items number tables → HasGrownBy n tables
-      → HasGrownBy (n + 1) (outcome_of refusal items number command tables).tables
-  grown-outcome command tables n (Some refusal) is sound grown = grown-later n tables grown
-  grown-outcome command tables n None is sound grown =
-      grown-accepted command tables n (accepted-not_refused items number command tables is) sound grown
+      → HasGrownBy (n + 1) (outcome_of refusal items number edition command tables).tables
+  grown-outcome edition command tables n (Some refusal) is sound grown = grown-later n tables grown
+  grown-outcome edition command tables n None is sound grown =
+      grown-accepted edition command tables n (accepted-not_refused items number command tables is) sound grown
 
-  pub grown-act : (command : Command) (tables : Tables) (n : ℕ) → IsSoundWarehouse items number tables
-      → HasGrownBy n tables → HasGrownBy (n + 1) (act items number command tables).tables
-  grown-act command tables n sound grown =
-      grown-outcome command tables n (refusal_of items number command tables) refl sound grown
+  pub grown-act : (edition : Edition) (command : Command) (tables : Tables) (n : ℕ) → IsSoundWarehouse items number tables
+      → HasGrownBy n tables → HasGrownBy (n + 1) (act items number edition command tables).tables
+  grown-act edition command tables n sound grown =
+      grown-outcome edition command tables n (refusal_of items number command tables) refl sound grown
 
 -- ---- loads
 
@@ -261,11 +262,11 @@ module _ (load : Lists) (is_load : IsLoad load) where
       known (who.Last name) there = omega arith
 
   module _ (number : ℕ) (has : HasWarehouse load number) where
-    grown-part : (command : Command) (tables : Tables) (n : ℕ)
+    grown-part : (edition : Edition) (command : Command) (tables : Tables) (n : ℕ)
         → map identity_of tables.customers ≡ map identity_of (of_warehouse number all_rows).customers
         → IsAcceptedIn (database_of load) command → IsSoundWarehouse load.items number tables → HasGrownBy n tables
-        → HasGrownBy (n + 1) (part load.items number command tables)
-    grown-part (commands.NewOrder order) tables n same passed sound grown =
+        → HasGrownBy (n + 1) (part load.items number edition command tables)
+    grown-part edition (commands.NewOrder order) tables n same passed sound grown =
         let range = purchase-in_range order.warehouse order refl passed.in_range passed.districts in
         let suppliers = (named-purchase (is_there (database_of load)) order passed.named).1 in
         elim (order.warehouse == number) as (λ b. (order.warehouse == number) ≡ b
@@ -283,12 +284,12 @@ module _ (load : Lists) (is_load : IsLoad load) where
               grown
           | false ↦ λ other. grown-supplied number order tables n range.count range.in_range grown
         ] refl
-    grown-part (commands.Payment payment) tables n same passed sound grown =
+    grown-part edition (commands.Payment payment) tables n same passed sound grown =
         let range = payment-in_range payment.warehouse payment refl passed.in_range passed.districts in
-        grown-paid_where payment (number_in payment.who) tables n range.amount range.moment (named-small payment passed)
+        grown-paid_where edition payment (number_in payment.who) tables n range.amount range.moment (named-small payment passed)
         grown (payment.warehouse == number) (payment.customer_warehouse == number)
-    grown-part (commands.OrderStatus status) tables n same passed sound grown = grown-later n tables grown
-    grown-part (commands.Delivery delivery) tables n same passed sound grown =
+    grown-part edition (commands.OrderStatus status) tables n same passed sound grown = grown-later n tables grown
+    grown-part edition (commands.Delivery delivery) tables n same passed sound grown =
         let range = delivery-in_range delivery.warehouse delivery refl passed.in_range in
         elim (delivery.warehouse == number) as (λ b. HasGrownBy (n + 1) (cond b (delivered delivery tables) tables)) [
           | true ↦ grown-delivered load.items number delivery range.carrier range.moment
@@ -296,16 +297,16 @@ module _ (load : Lists) (is_load : IsLoad load) where
               sound grown
           | false ↦ grown-later n tables grown
         ]
-    grown-part (commands.StockLevel level) tables n same passed sound grown = grown-later n tables grown
+    grown-part edition (commands.StockLevel level) tables n same passed sound grown = grown-later n tables grown
 
-    grown-part_unless : (command : Command) (tables : Tables) (n : ℕ) (refusal : Option Refusal)
+    grown-part_unless : (edition : Edition) (command : Command) (tables : Tables) (n : ℕ) (refusal : Option Refusal)
         → refusal_in (database_of load) command ≡ refusal
         → map identity_of tables.customers ≡ map identity_of (of_warehouse number all_rows).customers
         → IsSoundWarehouse load.items number tables → HasGrownBy n tables
-        → HasGrownBy (n + 1) (part_unless refusal load.items number command tables)
-    grown-part_unless command tables n (Some refusal) is same sound grown = grown-later n tables grown
-    grown-part_unless command tables n None is same sound grown =
-        grown-part command tables n same (accepted-in (database_of load) command is) sound grown
+        → HasGrownBy (n + 1) (part_unless refusal load.items number edition command tables)
+    grown-part_unless edition command tables n (Some refusal) is same sound grown = grown-later n tables grown
+    grown-part_unless edition command tables n None is same sound grown =
+        grown-part edition command tables n same (accepted-in (database_of load) command is) sound grown
 
     -- ---- commits
 
@@ -313,10 +314,10 @@ module _ (load : Lists) (is_load : IsLoad load) where
         → map identity_of tables.customers ≡ map identity_of (of_warehouse number all_rows).customers
         → IsSoundWarehouse load.items number tables → HasGrownBy n tables
         → HasGrownBy (n + 1) (committed load number tables commit)
-    grown-committed tables (commits.Local command) n same sound grown =
-        grown-act load.items items-fit number (number-small number has) command tables n sound grown
-    grown-committed tables (commits.Cross crossing command) n same sound grown =
-        grown-part_unless command tables n (refusal_in (database_of load) command) refl same sound grown
+    grown-committed tables (commits.Local edition command) n same sound grown =
+        grown-act load.items items-fit number (number-small number has) edition command tables n sound grown
+    grown-committed tables (commits.Cross edition crossing command) n same sound grown =
+        grown-part_unless edition command tables n (refusal_in (database_of load) command) refl same sound grown
 
     pub grown-replay : (loaded : Tables) (commits : List Commit) (n : ℕ)
         → map identity_of loaded.customers ≡ map identity_of (of_warehouse number all_rows).customers

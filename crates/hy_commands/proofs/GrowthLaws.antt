@@ -28,6 +28,7 @@ use Rattle.hy_commands.specs.declared.command.Purchase.{Purchase}
 use Rattle.hy_commands.specs.declared.command.PurchaseLine.{PurchaseLine}
 use Rattle.hy_commands.specs.declared.command.Who.{Who}
 use Rattle.hy_commands.specs.declared.command.Who.TheVariants as who
+use Rattle.hy_commands.specs.declared.edition.Edition.{Edition}
 use Rattle.hy_commands.specs.Commands.{is_line_in_range}
 use Rattle.hy_commands.specs.Customers.{customer_meant, is_earlier, is_named}
 use Rattle.hy_commands.specs.Deliveries.{carried, customer_delivered, delivered, delivered_in, delivered_line, oldest, order_cents, with_delivered}
@@ -291,9 +292,9 @@ grown-paid_in payment customer tables n amount moment small grown =
         omega (arith, short, also, length-append (one ++ codes "    ") other, length-append one (codes "    "))
 
 -- at the customer's warehouse
-pub grown-paid_by : (payment : Payment) (customer : ℕ) (tables : Tables) (n : ℕ) → IsBetween 100 500_000 payment.amount
-    → HasGrownBy n tables → HasGrownBy (n + 1) (paid_by payment customer tables)
-grown-paid_by payment customer tables n amount grown =
+pub grown-paid_by : (edition : Edition) (payment : Payment) (customer : ℕ) (tables : Tables) (n : ℕ) → IsBetween 100 500_000 payment.amount
+    → HasGrownBy n tables → HasGrownBy (n + 1) (paid_by edition payment customer tables)
+grown-paid_by edition payment customer tables n amount grown =
     let high = (bounds 100 500_000 payment.amount amount).1 in
     let later = grown-later n tables grown in
     record {
@@ -301,7 +302,7 @@ grown-paid_by payment customer tables n amount grown =
       districts = later.districts;
       customers =
           All-with_changed_to (IsCustomerUpTo n (10 * n)) (IsCustomerUpTo (n + 1) (10 * (n + 1)))
-          (is_customer payment.customer_warehouse payment.customer_district customer) (customer_paid payment.amount)
+          (is_customer payment.customer_warehouse payment.customer_district customer) (customer_paid edition payment)
           (λ row up. record {
             id = up.id;
             balance =
@@ -321,15 +322,15 @@ grown-paid_by payment customer tables n amount grown =
     }
 
 -- both at one warehouse
-pub grown-paid : (payment : Payment) (customer : ℕ) (tables : Tables) (n : ℕ) → IsBetween 100 500_000 payment.amount
+pub grown-paid : (edition : Edition) (payment : Payment) (customer : ℕ) (tables : Tables) (n : ℕ) → IsBetween 100 500_000 payment.amount
     → IsBetween 1 1_000_000_000_000_000 payment.at → customer ≤ 3_000 → HasGrownBy n tables
-    → HasGrownBy (n + 1) (paid_by payment customer (paid_in payment customer tables))
-grown-paid payment customer tables n amount moment small grown =
+    → HasGrownBy (n + 1) (paid_by edition payment customer (paid_in payment customer tables))
+grown-paid edition payment customer tables n amount moment small grown =
     let home = grown-paid_in payment customer tables n amount moment small grown in
     record {
       warehouses = home.warehouses;
       districts = home.districts;
-      customers = (grown-paid_by payment customer tables n amount grown).customers;
+      customers = (grown-paid_by edition payment customer tables n amount grown).customers;
       history = home.history;
       orders = home.orders;
       new_orders = home.new_orders;
@@ -338,18 +339,18 @@ grown-paid payment customer tables n amount moment small grown =
     }
 
 -- at a warehouse that is the home, the customer's, both or neither
-pub grown-paid_where : (payment : Payment) (customer : ℕ) (tables : Tables) (n : ℕ)
+pub grown-paid_where : (edition : Edition) (payment : Payment) (customer : ℕ) (tables : Tables) (n : ℕ)
     → IsBetween 100 500_000 payment.amount → IsBetween 1 1_000_000_000_000_000 payment.at → customer ≤ 3_000
     → HasGrownBy n tables → (home own : Bool)
-    → HasGrownBy (n + 1) (cond own (paid_by payment customer (cond home (paid_in payment customer tables) tables))
+    → HasGrownBy (n + 1) (cond own (paid_by edition payment customer (cond home (paid_in payment customer tables) tables))
     (cond home (paid_in payment customer tables) tables))
-grown-paid_where payment customer tables n amount moment small grown true true =
-    grown-paid payment customer tables n amount moment small grown
-grown-paid_where payment customer tables n amount moment small grown true false =
+grown-paid_where edition payment customer tables n amount moment small grown true true =
+    grown-paid edition payment customer tables n amount moment small grown
+grown-paid_where edition payment customer tables n amount moment small grown true false =
     grown-paid_in payment customer tables n amount moment small grown
-grown-paid_where payment customer tables n amount moment small grown false true =
-    grown-paid_by payment customer tables n amount grown
-grown-paid_where payment customer tables n amount moment small grown false false = grown-later n tables grown
+grown-paid_where edition payment customer tables n amount moment small grown false true =
+    grown-paid_by edition payment customer tables n amount grown
+grown-paid_where edition payment customer tables n amount moment small grown false false = grown-later n tables grown
 
 -- ---- New-Order
 

@@ -12,6 +12,7 @@ use Rattle.hy_commands.specs.declared.command.Command.{Command}
 use Rattle.hy_commands.specs.declared.command.Command.TheVariants as commands
 use Rattle.hy_commands.specs.declared.command.Commit.{Commit}
 use Rattle.hy_commands.specs.declared.command.Commit.TheVariants as commits
+use Rattle.hy_commands.specs.declared.edition.Edition.{Edition}
 use Rattle.hy_commands.specs.Customers.{identity_of}
 use Rattle.hy_commands.specs.Deliveries.{delivered}
 use Rattle.hy_commands.specs.Invariant.{IsSoundWarehouse}
@@ -36,35 +37,35 @@ not_0 high number between =
     ne_eqb number 0 (λ same. omega (arith, same, ends.0))
 
 -- an accepted command
-sound-accepted : (items : List Item) (number : ℕ) (command : Command) (tables : Tables)
+sound-accepted : (items : List Item) (number : ℕ) (edition : Edition) (command : Command) (tables : Tables)
     → IsAccepted items number command tables → IsSoundWarehouse items number tables
-    → IsSoundWarehouse items number (accepted items number command tables).tables
-sound-accepted items number (commands.NewOrder order) tables passed sound =
+    → IsSoundWarehouse items number (accepted items number edition command tables).tables
+sound-accepted items number edition (commands.NewOrder order) tables passed sound =
     sound-purchase items number order tables (accepted-purchase items number order tables passed)
     (sym (found-any (is_customer order.warehouse order.district order.customer) tables.customers) ∙ passed.customer)
     passed.known sound
-sound-accepted items number (commands.Payment payment) tables passed sound =
-    sound-paid items number payment (payer payment tables).id tables (accepted-payment items number payment tables
+sound-accepted items number edition (commands.Payment payment) tables passed sound =
+    sound-paid items number edition payment (payer payment tables).id tables (accepted-payment items number payment tables
     passed) sound
-sound-accepted items number (commands.OrderStatus status) tables passed sound = sound
-sound-accepted items number (commands.Delivery delivery) tables passed sound =
+sound-accepted items number edition (commands.OrderStatus status) tables passed sound = sound
+sound-accepted items number edition (commands.Delivery delivery) tables passed sound =
     let delivered = accepted-delivery items number delivery tables passed in
     sound-delivered items number delivery (not_0 10 delivery.carrier delivered.carrier)
     (not_0 1_000_000_000_000_000 delivery.at delivered.moment) tables sound
-sound-accepted items number (commands.StockLevel level) tables passed sound = sound
+sound-accepted items number edition (commands.StockLevel level) tables passed sound = sound
 
 -- one that is refused changes nothing
-sound-outcome : (items : List Item) (number : ℕ) (command : Command) (tables : Tables) (refusal : Option Refusal)
+sound-outcome : (items : List Item) (number : ℕ) (edition : Edition) (command : Command) (tables : Tables) (refusal : Option Refusal)
     → refusal_of items number command tables ≡ refusal → IsSoundWarehouse items number tables
-    → IsSoundWarehouse items number (outcome_of refusal items number command tables).tables
-sound-outcome items number command tables (Some refusal) is sound = sound
-sound-outcome items number command tables None is sound =
-    sound-accepted items number command tables (accepted-not_refused items number command tables is) sound
+    → IsSoundWarehouse items number (outcome_of refusal items number edition command tables).tables
+sound-outcome items number edition command tables (Some refusal) is sound = sound
+sound-outcome items number edition command tables None is sound =
+    sound-accepted items number edition command tables (accepted-not_refused items number command tables is) sound
 
-pub sound-act : (items : List Item) (number : ℕ) (command : Command) (tables : Tables)
-    → IsSoundWarehouse items number tables → IsSoundWarehouse items number (act items number command tables).tables
-sound-act items number command tables sound =
-    sound-outcome items number command tables (refusal_of items number command tables) refl sound
+pub sound-act : (items : List Item) (number : ℕ) (edition : Edition) (command : Command) (tables : Tables)
+    → IsSoundWarehouse items number tables → IsSoundWarehouse items number (act items number edition command tables).tables
+sound-act items number edition command tables sound =
+    sound-outcome items number edition command tables (refusal_of items number command tables) refl sound
 
 -- ---- parts of commands
 
@@ -80,11 +81,11 @@ customer-now lists number command tables has home same passed =
     ∙ sym (ap (has_customer command) loaded) ∙ passed.customer
 
 -- what a command that the database doesn't refuse does to a warehouse
-pub sound-part : (lists : Lists) (number : ℕ) (command : Command) (tables : Tables) → HasWarehouse lists number
+pub sound-part : (lists : Lists) (number : ℕ) (edition : Edition) (command : Command) (tables : Tables) → HasWarehouse lists number
     → map identity_of tables.customers ≡ map identity_of (of_warehouse number lists.tables).customers
     → IsAcceptedIn (database_of lists) command → IsSoundWarehouse lists.items number tables
-    → IsSoundWarehouse lists.items number (part lists.items number command tables)
-sound-part lists number (commands.NewOrder order) tables has same passed sound =
+    → IsSoundWarehouse lists.items number (part lists.items number edition command tables)
+sound-part lists number edition (commands.NewOrder order) tables has same passed sound =
     sound-supplied lists.items number order
     (cond (order.warehouse == number) (ordered lists.items order tables) tables)
     (elim (order.warehouse == number) as (λ b. (order.warehouse == number) ≡ b
@@ -98,7 +99,7 @@ sound-part lists number (commands.NewOrder order) tables has same passed sound =
           passed.known sound
       | false ↦ λ other. sound
     ] refl)
-sound-part lists number (commands.Payment payment) tables has same passed sound =
+sound-part lists number edition (commands.Payment payment) tables has same passed sound =
     let customer : ℕ = number_in payment.who in
     let after : Tables = cond (payment.warehouse == number) (paid_in payment customer tables) tables in
     let home : IsSoundWarehouse lists.items number after =
@@ -110,12 +111,12 @@ sound-part lists number (commands.Payment payment) tables has same passed sound 
       | false ↦ λ other. sound
     ] refl in
     elim (payment.customer_warehouse == number) as (λ b.
-    IsSoundWarehouse lists.items number (cond b (paid_by payment customer after) after)) [
-      | true ↦ sound-paid_by lists.items number payment customer after home
+    IsSoundWarehouse lists.items number (cond b (paid_by edition payment customer after) after)) [
+      | true ↦ sound-paid_by lists.items number edition payment customer after home
       | false ↦ home
     ]
-sound-part lists number (commands.OrderStatus status) tables has same passed sound = sound
-sound-part lists number (commands.Delivery delivery) tables has same passed sound =
+sound-part lists number edition (commands.OrderStatus status) tables has same passed sound = sound
+sound-part lists number edition (commands.Delivery delivery) tables has same passed sound =
     elim (delivery.warehouse == number) as (λ b. (delivery.warehouse == number) ≡ b
     → IsSoundWarehouse lists.items number (cond b (delivered delivery tables) tables)) [
       | true ↦ λ own.
@@ -124,16 +125,16 @@ sound-part lists number (commands.Delivery delivery) tables has same passed soun
           (not_0 1_000_000_000_000_000 delivery.at range.moment) tables sound
       | false ↦ λ other. sound
     ] refl
-sound-part lists number (commands.StockLevel level) tables has same passed sound = sound
+sound-part lists number edition (commands.StockLevel level) tables has same passed sound = sound
 
-sound-part_unless : (lists : Lists) (number : ℕ) (command : Command) (tables : Tables) (refusal : Option Refusal)
+sound-part_unless : (lists : Lists) (number : ℕ) (edition : Edition) (command : Command) (tables : Tables) (refusal : Option Refusal)
     → refusal_in (database_of lists) command ≡ refusal → HasWarehouse lists number
     → map identity_of tables.customers ≡ map identity_of (of_warehouse number lists.tables).customers
     → IsSoundWarehouse lists.items number tables
-    → IsSoundWarehouse lists.items number (part_unless refusal lists.items number command tables)
-sound-part_unless lists number command tables (Some refusal) is has same sound = sound
-sound-part_unless lists number command tables None is has same sound =
-    sound-part lists number command tables has same (accepted-in (database_of lists) command is) sound
+    → IsSoundWarehouse lists.items number (part_unless refusal lists.items number edition command tables)
+sound-part_unless lists number edition command tables (Some refusal) is has same sound = sound
+sound-part_unless lists number edition command tables None is has same sound =
+    sound-part lists number edition command tables has same (accepted-in (database_of lists) command is) sound
 
 -- ---- commits
 
@@ -142,9 +143,9 @@ module _ (lists : Lists) (number : ℕ) (has : HasWarehouse lists number) where
       → map identity_of tables.customers ≡ map identity_of (of_warehouse number lists.tables).customers
       → IsSoundWarehouse lists.items number tables
       → IsSoundWarehouse lists.items number (committed lists number tables commit)
-  sound-committed tables (commits.Local command) same sound = sound-act lists.items number command tables sound
-  sound-committed tables (commits.Cross crossing command) same sound =
-      sound-part_unless lists number command tables (refusal_in (database_of lists) command) refl has same sound
+  sound-committed tables (commits.Local edition command) same sound = sound-act lists.items number edition command tables sound
+  sound-committed tables (commits.Cross edition crossing command) same sound =
+      sound-part_unless lists number edition command tables (refusal_in (database_of lists) command) refl has same sound
 
   pub sound-replay : (loaded : Tables) (commits : List Commit)
       → map identity_of loaded.customers ≡ map identity_of (of_warehouse number lists.tables).customers

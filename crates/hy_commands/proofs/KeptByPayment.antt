@@ -20,6 +20,7 @@ use Rattle.hy_schema.proofs.ChangedLists.{All-with_changed, column_sum-changed, 
 use Rattle.hy_schema.proofs.KeptConditionLaws.{finds-district}
 use Rattle.hy_schema.proofs.KeyLaws.{HasUniqueKeys-one_warehouse}
 use Rattle.hy_commands.specs.declared.command.Payment.{Payment}
+use Rattle.hy_commands.specs.declared.edition.Edition.{Edition}
 use Rattle.hy_commands.specs.Invariant.{HasOwnOrders, IsOwnOrder, IsSoundWarehouse}
 use Rattle.hy_commands.specs.Payments.{customer_paid, district_paid, history_row, paid_by, paid_in, warehouse_paid}
 use Rattle.hy_commands.proofs.AcceptedLaws.{IsAcceptedPayment}
@@ -177,23 +178,23 @@ module _ (items : List Item) (number : ℕ) (payment : Payment) (customer : ℕ)
 
 -- ---- at the customer's warehouse
 
-module _ (items : List Item) (number : ℕ) (payment : Payment) (customer : ℕ) (tables : Tables)
+module _ (items : List Item) (number : ℕ) (edition : Edition) (payment : Payment) (customer : ℕ) (tables : Tables)
     (sound : IsSoundWarehouse items number tables) where
   abbrev with_paid_by : Tables
-  with_paid_by = paid_by payment customer tables
+  with_paid_by = paid_by edition payment customer tables
 
   abbrev is_payer : Customer → Bool
   is_payer = is_customer payment.customer_warehouse payment.customer_district customer
 
   paid_by-rows : IsOneWarehouse number with_paid_by
   paid_by-rows =
-      let same_keys = map-with_changed customer_key is_payer (customer_paid payment.amount) (λ row. refl)
+      let same_keys = map-with_changed customer_key is_payer (customer_paid edition payment) (λ row. refl)
       tables.customers in
       record {
         warehouse = sound.rows.warehouse;
         districts = sound.rows.districts;
         customers =
-            All-with_changed (λ (row : Customer). row.warehouse ≡ number) is_payer (customer_paid payment.amount)
+            All-with_changed (λ (row : Customer). row.warehouse ≡ number) is_payer (customer_paid edition payment)
             (λ row own. own) tables.customers sound.rows.customers;
         unique = subst AreUnique (sym same_keys) sound.rows.unique;
       }
@@ -212,7 +213,7 @@ module _ (items : List Item) (number : ℕ) (payment : Payment) (customer : ℕ)
           positive = own.positive;
           customer =
               list_any-with_changed (is_customer row.warehouse row.district row.customer) is_payer
-              (customer_paid payment.amount) (λ row. refl) tables.customers ∙ own.customer;
+              (customer_paid edition payment) (λ row. refl) tables.customers ∙ own.customer;
         }) tables.orders sound.orders.orders;
     new_orders = sound.orders.new_orders;
     order_lines = sound.orders.order_lines;
@@ -238,15 +239,15 @@ module _ (items : List Item) (number : ℕ) (payment : Payment) (customer : ℕ)
         paid = meets.paid;
         district_paid = meets.district_paid;
         balances =
-            All-with_changed (IsBalanced tables.orders tables.order_lines) is_payer (customer_paid payment.amount)
+            All-with_changed (IsBalanced tables.orders tables.order_lines) is_payer (customer_paid edition payment)
             (λ row settled. omega (arith, ints, settled)) tables.customers meets.balances;
       }
 
 -- ---- both at one warehouse
 
-pub sound-paid : (items : List Item) (number : ℕ) (payment : Payment) (customer : ℕ) (tables : Tables)
+pub sound-paid : (items : List Item) (number : ℕ) (edition : Edition) (payment : Payment) (customer : ℕ) (tables : Tables)
     → IsAcceptedPayment number payment → IsSoundWarehouse items number tables
-    → IsSoundWarehouse items number (paid_by payment customer (paid_in payment customer tables))
-sound-paid items number payment customer tables accepted sound =
-    sound-paid_by items number payment customer (paid_in payment customer tables)
+    → IsSoundWarehouse items number (paid_by edition payment customer (paid_in payment customer tables))
+sound-paid items number edition payment customer tables accepted sound =
+    sound-paid_by items number edition payment customer (paid_in payment customer tables)
     (sound-paid_in items number payment customer tables accepted sound)

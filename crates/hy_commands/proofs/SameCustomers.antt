@@ -21,6 +21,7 @@ use Rattle.hy_commands.specs.declared.command.Delivery.{Delivery}
 use Rattle.hy_commands.specs.declared.command.Payment.{Payment}
 use Rattle.hy_commands.specs.declared.command.Who.{Who}
 use Rattle.hy_commands.specs.declared.command.Who.TheVariants as who
+use Rattle.hy_commands.specs.declared.edition.Edition.{Edition}
 use Rattle.hy_commands.specs.Customers.{customer_meant, identity_of, is_earlier, is_named}
 use Rattle.hy_commands.specs.Deliveries.{customer_delivered, delivered, delivered_in, oldest, order_cents, with_delivered}
 use Rattle.hy_commands.specs.NewOrders.{ordered}
@@ -105,21 +106,21 @@ payer_number-same (commands.StockLevel level) one other same = refl
 
 -- ---- what commits leave
 
-same-paid_by : (payment : Payment) (customer : ℕ) (tables : Tables)
-    → map identity_of (paid_by payment customer tables).customers ≡ map identity_of tables.customers
-same-paid_by payment customer tables =
+same-paid_by : (edition : Edition) (payment : Payment) (customer : ℕ) (tables : Tables)
+    → map identity_of (paid_by edition payment customer tables).customers ≡ map identity_of tables.customers
+same-paid_by edition payment customer tables =
     map-with_changed identity_of (is_customer payment.customer_warehouse payment.customer_district customer)
-    (customer_paid payment.amount) (λ row. refl) tables.customers
+    (customer_paid edition payment) (λ row. refl) tables.customers
 
 -- at home or not, and at the customer's warehouse or not
-same-paid : (payment : Payment) (customer : ℕ) (tables : Tables) (home own : Bool)
-    → map identity_of (cond own (paid_by payment customer (cond home (paid_in payment customer tables) tables))
+same-paid : (edition : Edition) (payment : Payment) (customer : ℕ) (tables : Tables) (home own : Bool)
+    → map identity_of (cond own (paid_by edition payment customer (cond home (paid_in payment customer tables) tables))
     (cond home (paid_in payment customer tables) tables)).customers
     ≡ map identity_of tables.customers
-same-paid payment customer tables true true = same-paid_by payment customer (paid_in payment customer tables)
-same-paid payment customer tables true false = refl
-same-paid payment customer tables false true = same-paid_by payment customer tables
-same-paid payment customer tables false false = refl
+same-paid edition payment customer tables true true = same-paid_by edition payment customer (paid_in payment customer tables)
+same-paid edition payment customer tables true false = refl
+same-paid edition payment customer tables false true = same-paid_by edition payment customer tables
+same-paid edition payment customer tables false false = refl
 
 pub same-delivered_in : (delivery : Delivery) (tables : Tables) (district : ℕ)
     → map identity_of (delivered_in delivery tables district).customers ≡ map identity_of tables.customers
@@ -140,49 +141,49 @@ same-districts delivery (district ∷ districts) tables =
     same-districts delivery districts (delivered_in delivery tables district)
     ∙ same-delivered_in delivery tables district
 
-same-outcome : (items : List Item) (number : ℕ) (command : Command) (tables : Tables) (refusal : Option Refusal)
-    → map identity_of (outcome_of refusal items number command tables).tables.customers
+same-outcome : (items : List Item) (number : ℕ) (edition : Edition) (command : Command) (tables : Tables) (refusal : Option Refusal)
+    → map identity_of (outcome_of refusal items number edition command tables).tables.customers
     ≡ map identity_of tables.customers
-same-outcome items number command tables (Some refusal) = refl
-same-outcome items number (commands.NewOrder order) tables None = refl
-same-outcome items number (commands.Payment payment) tables None =
-    same-paid_by payment (payer payment tables).id (paid_in payment (payer payment tables).id tables)
-same-outcome items number (commands.OrderStatus status) tables None = refl
-same-outcome items number (commands.Delivery delivery) tables None = same-districts delivery district_numbers tables
-same-outcome items number (commands.StockLevel level) tables None = refl
+same-outcome items number edition command tables (Some refusal) = refl
+same-outcome items number edition (commands.NewOrder order) tables None = refl
+same-outcome items number edition (commands.Payment payment) tables None =
+    same-paid_by edition payment (payer payment tables).id (paid_in payment (payer payment tables).id tables)
+same-outcome items number edition (commands.OrderStatus status) tables None = refl
+same-outcome items number edition (commands.Delivery delivery) tables None = same-districts delivery district_numbers tables
+same-outcome items number edition (commands.StockLevel level) tables None = refl
 
 -- the part of a command
-pub same-part : (items : List Item) (number : ℕ) (command : Command) (tables : Tables)
-    → map identity_of (part items number command tables).customers ≡ map identity_of tables.customers
-same-part items number (commands.NewOrder order) tables =
+pub same-part : (items : List Item) (number : ℕ) (edition : Edition) (command : Command) (tables : Tables)
+    → map identity_of (part items number edition command tables).customers ≡ map identity_of tables.customers
+same-part items number edition (commands.NewOrder order) tables =
     elim (order.warehouse == number) as (λ b. map identity_of (cond b (ordered items order tables) tables).customers
     ≡ map identity_of tables.customers) [
       | true ↦ refl
       | false ↦ refl
     ]
-same-part items number (commands.Payment payment) tables =
-    same-paid payment (number_in payment.who) tables (payment.warehouse == number)
+same-part items number edition (commands.Payment payment) tables =
+    same-paid edition payment (number_in payment.who) tables (payment.warehouse == number)
     (payment.customer_warehouse == number)
-same-part items number (commands.OrderStatus status) tables = refl
-same-part items number (commands.Delivery delivery) tables =
+same-part items number edition (commands.OrderStatus status) tables = refl
+same-part items number edition (commands.Delivery delivery) tables =
     elim (delivery.warehouse == number) as (λ b. map identity_of (cond b (delivered delivery tables) tables).customers
     ≡ map identity_of tables.customers) [
       | true ↦ same-districts delivery district_numbers tables
       | false ↦ refl
     ]
-same-part items number (commands.StockLevel level) tables = refl
+same-part items number edition (commands.StockLevel level) tables = refl
 
-same-part_unless : (items : List Item) (number : ℕ) (command : Command) (tables : Tables) (refusal : Option Refusal)
-    → map identity_of (part_unless refusal items number command tables).customers ≡ map identity_of tables.customers
-same-part_unless items number command tables (Some refusal) = refl
-same-part_unless items number command tables None = same-part items number command tables
+same-part_unless : (items : List Item) (number : ℕ) (edition : Edition) (command : Command) (tables : Tables) (refusal : Option Refusal)
+    → map identity_of (part_unless refusal items number edition command tables).customers ≡ map identity_of tables.customers
+same-part_unless items number edition command tables (Some refusal) = refl
+same-part_unless items number edition command tables None = same-part items number edition command tables
 
 pub same-committed : (lists : Lists) (number : ℕ) (tables : Tables) (commit : Commit)
     → map identity_of (committed lists number tables commit).customers ≡ map identity_of tables.customers
-same-committed lists number tables (commits.Local command) =
-    same-outcome lists.items number command tables (refusal_of lists.items number command tables)
-same-committed lists number tables (commits.Cross crossing command) =
-    same-part_unless lists.items number command tables (refusal_in (database_of lists) command)
+same-committed lists number tables (commits.Local edition command) =
+    same-outcome lists.items number edition command tables (refusal_of lists.items number command tables)
+same-committed lists number tables (commits.Cross edition crossing command) =
+    same-part_unless lists.items number edition command tables (refusal_in (database_of lists) command)
 
 pub same-replay : (lists : Lists) (number : ℕ) (loaded : Tables) (commits : List Commit)
     → map identity_of (replay lists number loaded commits).customers ≡ map identity_of loaded.customers

@@ -10,6 +10,7 @@ use Rattle.hy_commands.specs.declared.command.Commit.TheVariants as commits
 use Rattle.hy_commands.specs.declared.command.PurchaseLine.{PurchaseLine}
 use Rattle.hy_commands.specs.declared.command.Who.{Who}
 use Rattle.hy_commands.specs.declared.command.Who.TheVariants as who
+use Rattle.hy_commands.specs.declared.edition.Edition.{Edition}
 
 -- ---- ranges
 
@@ -72,8 +73,13 @@ warehouses_of command = home_of command ∷ []
 
 -- the command of a commit
 abbrev pub command_of : Commit → Command
-command_of (commits.Local command) = command
-command_of (commits.Cross number command) = command
+command_of (commits.Local edition command) = command
+command_of (commits.Cross edition number command) = command
+
+-- the edition of the transactions by which it was done
+abbrev pub edition_of : Commit → Edition
+edition_of (commits.Local edition command) = edition
+edition_of (commits.Cross edition number command) = edition
 
 -- the warehouses that a commit names
 abbrev pub warehouses_of_commit : Commit → List ℕ
@@ -81,8 +87,8 @@ warehouses_of_commit commit = warehouses_of (command_of commit)
 
 -- the number of a commit among those of several warehouses
 abbrev pub number_of : Commit → Option ℕ
-number_of (commits.Local command) = None
-number_of (commits.Cross number command) = Some number
+number_of (commits.Local edition command) = None
+number_of (commits.Cross edition number command) = Some number
 
 -- whether a command only reads
 abbrev pub is_reader : Command → Bool
@@ -91,5 +97,5 @@ is_reader (commands.StockLevel level) = true
 is_reader command = false
 
 -- what an accepted command of one warehouse adds to the kept list: one that only reads adds nothing
-abbrev pub kept_of : Command → List Commit
-kept_of command = if is_reader command then [] else commits.Local command ∷ []
+abbrev pub kept_of : Edition → Command → List Commit
+kept_of edition command = if is_reader command then [] else commits.Local edition command ∷ []

@@ -1,5 +1,5 @@
 -- Which customer is meant.
-use Rattle.std.specs.Prelude.{ℕ, pos, ◌+◌, ◌-◌, ◌/◌, ◌==◌, ◌&&◌, Bool, Option, List, find, filter, length, slice_get}
+use Rattle.std.specs.Prelude.{ℕ, pos, ◌+◌, ◌-◌, ◌/◌, ◌==◌, ◌&&◌, Bool, Option, List, [], find, filter, length, slice_get}
 use Rattle.std.specs.Ordering.{is_lt, nat_cmp, ordering_then}
 use Rattle.std.specs.Cmp.Lexicographic.{slice_cmp}
 use Rattle.std.specs.Str.{bytes_eq}
@@ -24,7 +24,13 @@ middle_of rows = slice_get rows ((length rows + 1) / 2 - 1)
 
 -- the columns of a customer that no transaction changes
 abbrev pub identity_of : Customer → Customer
-identity_of row = record row { balance = pos 0; ytd_payment = pos 0; payment_count = 0; delivery_count = 0 }
+identity_of row = record row {
+  balance = pos 0;
+  ytd_payment = pos 0;
+  payment_count = 0;
+  delivery_count = 0;
+  information = [];
+}
 
 -- the customer of a district that is meant, where there is one
 abbrev pub customer_meant : ℕ → ℕ → Who → List Customer → Option Customer

@@ -16,4 +16,5 @@ pub mod WorkedRanges
 pub mod WorkedTransactions
 pub mod WorkedDeliveries
 pub mod WorkedParts
+pub mod WorkedNotes
 pub mod inside

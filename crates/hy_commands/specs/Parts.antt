@@ -13,6 +13,7 @@ use Rattle.hy_commands.specs.declared.command.Payment.{Payment}
 use Rattle.hy_commands.specs.declared.command.Purchase.{Purchase}
 use Rattle.hy_commands.specs.declared.command.Who.{Who}
 use Rattle.hy_commands.specs.declared.command.Who.TheVariants as who
+use Rattle.hy_commands.specs.declared.edition.Edition.{Edition}
 use Rattle.hy_commands.specs.Commands.{home_of, is_in_range, warehouses_of}
 use Rattle.hy_commands.specs.Deliveries.{delivered}
 use Rattle.hy_commands.specs.NewOrders.{ordered, supplied}
@@ -94,22 +95,22 @@ purchase_part items warehouse order tables =
     supplied warehouse order (if order.warehouse == warehouse then ordered items order tables else tables)
 
 -- what a payment does to one: the home warehouse has the amount and the history, the other the customer
-abbrev pub payment_part : ℕ → Payment → Tables → Tables
-payment_part warehouse payment tables =
+abbrev pub payment_part : ℕ → Edition → Payment → Tables → Tables
+payment_part warehouse edition payment tables =
     let customer : ℕ = number_in payment.who in
     let home : Tables = if payment.warehouse == warehouse then paid_in payment customer tables else tables in
-    if payment.customer_warehouse == warehouse then paid_by payment customer home else home
+    if payment.customer_warehouse == warehouse then paid_by edition payment customer home else home
 
 -- what a command does to a warehouse that it names, where the database doesn't refuse it. A payment names its customer
 -- by number
-abbrev pub part : List Item → ℕ → Command → Tables → Tables
-part items warehouse (commands.NewOrder order) tables = purchase_part items warehouse order tables
-part items warehouse (commands.Payment payment) tables = payment_part warehouse payment tables
-part items warehouse (commands.Delivery delivery) tables =
+abbrev pub part : List Item → ℕ → Edition → Command → Tables → Tables
+part items warehouse edition (commands.NewOrder order) tables = purchase_part items warehouse order tables
+part items warehouse edition (commands.Payment payment) tables = payment_part warehouse edition payment tables
+part items warehouse edition (commands.Delivery delivery) tables =
     if delivery.warehouse == warehouse then delivered delivery tables else tables
-part items warehouse command tables = tables
+part items warehouse edition command tables = tables
 
 -- the same, or nothing where the database refuses the command
-abbrev pub part_unless : Option Refusal → List Item → ℕ → Command → Tables → Tables
-part_unless (Some refusal) items warehouse command tables = tables
-part_unless None items warehouse command tables = part items warehouse command tables
+abbrev pub part_unless : Option Refusal → List Item → ℕ → Edition → Command → Tables → Tables
+part_unless (Some refusal) items warehouse edition command tables = tables
+part_unless None items warehouse edition command tables = part items warehouse edition command tables

@@ -11,9 +11,10 @@ use Rattle.hy_commands.specs.Transactions.{act}
 -- database refuses it: whether it does is known from the load, since no warehouse, district, customer or item ever
 -- comes or goes
 abbrev pub committed : Lists → ℕ → Tables → Commit → Tables
-committed lists warehouse tables (commits.Local command) = (act lists.items warehouse command tables).tables
-committed lists warehouse tables (commits.Cross number command) =
-    part_unless (refusal_in (database_of lists) command) lists.items warehouse command tables
+committed lists warehouse tables (commits.Local edition command) =
+    (act lists.items warehouse edition command tables).tables
+committed lists warehouse tables (commits.Cross edition number command) =
+    part_unless (refusal_in (database_of lists) command) lists.items warehouse edition command tables
 
 -- the rows of a warehouse after the commits, from some rows on
 abbrev pub replay : Lists → ℕ → Tables → List Commit → Tables

@@ -16,6 +16,7 @@ use Rattle.hy_commands.specs.declared.command.Command.{Command}
 use Rattle.hy_commands.specs.declared.command.Command.TheVariants as commands
 use Rattle.hy_commands.specs.declared.command.OrderStatus.{OrderStatus}
 use Rattle.hy_commands.specs.declared.command.Payment.{Payment}
+use Rattle.hy_commands.specs.declared.edition.Edition.{Edition}
 use Rattle.hy_commands.specs.declared.reply.Reply.{Reply}
 use Rattle.hy_commands.specs.declared.reply.Reply.TheVariants as replies
 use Rattle.hy_commands.specs.Commands.{is_in_range, warehouses_of}
@@ -92,31 +93,31 @@ abbrev pub status_reply : Customer → Tables → Reply
 status_reply row tables =
     replies.OrderStatus row.id row.first row.middle row.last row.balance (last_placed row tables)
 
-abbrev pub accepted : List Item → ℕ → Command → Tables → Outcome
-accepted items warehouse (commands.NewOrder order) tables = record {
+abbrev pub accepted : List Item → ℕ → Edition → Command → Tables → Outcome
+accepted items warehouse edition (commands.NewOrder order) tables = record {
   tables = supplied warehouse order (ordered items order tables);
   reply = replies.NewOrder (order_number order tables) (purchase_total items order tables);
 }
-accepted items warehouse (commands.Payment payment) tables =
+accepted items warehouse edition (commands.Payment payment) tables =
     let row : Customer = payer payment tables in
     record {
-      tables = paid_by payment row.id (paid_in payment row.id tables);
-      reply = replies.Payment row.id (customer_paid payment.amount row).balance;
+      tables = paid_by edition payment row.id (paid_in payment row.id tables);
+      reply = replies.Payment row.id (customer_paid edition payment row).balance;
     }
-accepted items warehouse (commands.OrderStatus status) tables =
+accepted items warehouse edition (commands.OrderStatus status) tables =
     record { tables = tables; reply = status_reply (asker status tables) tables }
-accepted items warehouse (commands.Delivery delivery) tables =
+accepted items warehouse edition (commands.Delivery delivery) tables =
     record { tables = delivered delivery tables; reply = replies.Delivery (deliveries delivery tables) }
-accepted items warehouse (commands.StockLevel level) tables =
+accepted items warehouse edition (commands.StockLevel level) tables =
     record { tables = tables; reply = replies.StockLevel (low_items level tables) }
 
 -- a refused command changes nothing
-abbrev pub outcome_of : Option Refusal → List Item → ℕ → Command → Tables → Outcome
-outcome_of (Some refusal) items warehouse command tables =
+abbrev pub outcome_of : Option Refusal → List Item → ℕ → Edition → Command → Tables → Outcome
+outcome_of (Some refusal) items warehouse edition command tables =
     record { tables = tables; reply = replies.Refused refusal }
-outcome_of None items warehouse command tables = accepted items warehouse command tables
+outcome_of None items warehouse edition command tables = accepted items warehouse edition command tables
 
 -- what a command does to a warehouse with this number and these rows
-abbrev pub act : List Item → ℕ → Command → Tables → Outcome
-act items warehouse command tables =
-    outcome_of (refusal_of items warehouse command tables) items warehouse command tables
+abbrev pub act : List Item → ℕ → Edition → Command → Tables → Outcome
+act items warehouse edition command tables =
+    outcome_of (refusal_of items warehouse command tables) items warehouse edition command tables

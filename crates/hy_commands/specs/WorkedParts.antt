@@ -20,6 +20,7 @@ use Rattle.hy_commands.specs.declared.command.Command.TheVariants as commands
 use Rattle.hy_commands.specs.declared.command.Commit.TheVariants as commits
 use Rattle.hy_commands.specs.declared.command.Who.{Who}
 use Rattle.hy_commands.specs.declared.command.Who.TheVariants as who
+use Rattle.hy_commands.specs.declared.edition.Edition.TheVariants as editions
 use Rattle.hy_commands.specs.NewOrders.{is_stock}
 use Rattle.hy_commands.specs.Parts.{by_number, database_of, is_by_number, part, payer_number, refusal_in}
 use Rattle.hy_commands.specs.Replay.{committed, rows_after}
@@ -56,7 +57,7 @@ abbrev stock_in : ℕ → ℕ → Stock
 stock_in warehouse number =
     record (stock number) { warehouse = warehouse; quantity = 10 + (7 * number + warehouse) % 91 }
 
-abbrev load : Lists
+abbrev pub load : Lists
 load = record {
   items = items;
   tables = record no_rows {
@@ -97,7 +98,7 @@ stock_columns_in warehouse tables item =
 
 -- at the supplier: 19 falls by 5, and the line is a remote one; nothing else changes
 abbrev supplier : Tables
-supplier = part items 2 crossing_purchase (loaded 2)
+supplier = part items 2 editions.Second crossing_purchase (loaded 2)
 
 abbrev supplier_before : stock_columns_in 2 (loaded 2) 1 ≡ 19 ∷ 0 ∷ 0 ∷ 0 ∷ []
 supplier_before = refl
@@ -114,7 +115,7 @@ supplier_keeps_other_tables = refl
 
 -- at home: item 1 stays, and the others' lines aren't remote ones
 abbrev buying : Tables
-buying = part items 1 crossing_purchase (loaded 1)
+buying = part items 1 editions.Second crossing_purchase (loaded 1)
 
 abbrev buying_sold : map (stock_columns_in 1 buying) (up_to 6)
     ≡ (18 ∷ 0 ∷ 0 ∷ 0 ∷ []) ∷ (20 ∷ 5 ∷ 1 ∷ 0 ∷ []) ∷ (27 ∷ 5 ∷ 1 ∷ 0 ∷ [])
@@ -186,7 +187,7 @@ crossing_payment = payment_of 100 2 4 (who.Number 3)
 
 -- at home: the cents are in W_YTD and D_YTD, and a row is behind those of HISTORY; no customer changes
 abbrev paying : Tables
-paying = part items 1 crossing_payment (loaded 1)
+paying = part items 1 editions.Second crossing_payment (loaded 1)
 
 abbrev paying_warehouse : map (λ (row : Warehouse). row.ytd) paying.warehouses ≡ pos 30_100 ∷ []
 paying_warehouse = refl
@@ -220,7 +221,7 @@ paying_is_consistent = refl
 
 -- at the customer's warehouse: that customer has paid, and nothing else changes
 abbrev paid : Tables
-paid = part items 2 crossing_payment (loaded 2)
+paid = part items 2 editions.Second crossing_payment (loaded 2)
 
 abbrev payer_columns : Customer → ℤ × ℤ × ℕ × ℕ
 payer_columns row = (row.balance, row.ytd_payment, row.payment_count, row.delivery_count)
@@ -243,28 +244,28 @@ paid_alone_breaks_condition_10 = refl
 -- ---- the other warehouses, and the other commands
 
 -- a warehouse that isn't named changes nothing
-abbrev third_keeps_purchase : part items 3 crossing_purchase (loaded 3) ≡ loaded 3
+abbrev third_keeps_purchase : part items 3 editions.Second crossing_purchase (loaded 3) ≡ loaded 3
 third_keeps_purchase = refl
 
-abbrev third_keeps_payment : part items 3 crossing_payment (loaded 3) ≡ loaded 3
+abbrev third_keeps_payment : part items 3 editions.Second crossing_payment (loaded 3) ≡ loaded 3
 third_keeps_payment = refl
 
 -- where a command names one warehouse, and its customer by number, its part there is what it does
-abbrev whole_purchase : part items 1 (five_of_each 3) sample ≡ (act items 1 (five_of_each 3) sample).tables
+abbrev whole_purchase : part items 1 editions.Second (five_of_each 3) sample ≡ (act items 1 editions.Second (five_of_each 3) sample).tables
 whole_purchase = refl
 
-abbrev whole_payment : part items 1 (payment (who.Number 3) 100) sample
-    ≡ (act items 1 (payment (who.Number 3) 100) sample).tables
+abbrev whole_payment : part items 1 editions.Second (payment (who.Number 3) 100) sample
+    ≡ (act items 1 editions.Second (payment (who.Number 3) 100) sample).tables
 whole_payment = refl
 
-abbrev whole_delivery : part items 1 delivery (after (five_of_each 1 ∷ []))
-    ≡ (act items 1 delivery (after (five_of_each 1 ∷ []))).tables
+abbrev whole_delivery : part items 1 editions.Second delivery (after (five_of_each 1 ∷ []))
+    ≡ (act items 1 editions.Second delivery (after (five_of_each 1 ∷ []))).tables
 whole_delivery = refl
 
-abbrev whole_status : part items 1 (status 1) buying ≡ buying
+abbrev whole_status : part items 1 editions.Second (status 1) buying ≡ buying
 whole_status = refl
 
-abbrev whole_level : part items 1 level buying ≡ buying
+abbrev whole_level : part items 1 editions.Second level buying ≡ buying
 whole_level = refl
 
 -- ---- a payment by last name
@@ -295,7 +296,7 @@ abbrev purchase_is_by_number : is_by_number crossing_purchase ≡ true
 purchase_is_by_number = refl
 
 -- a name alone is no customer's number
-abbrev named_pays_nobody : part items 2 named_payment (loaded 2) ≡ loaded 2
+abbrev named_pays_nobody : part items 2 editions.Second named_payment (loaded 2) ≡ loaded 2
 named_pays_nobody = refl
 
 -- ---- refusals, the first that holds
@@ -354,39 +355,39 @@ named_not_refused = refl
 
 -- ---- commits
 
-abbrev commits_purchase : committed load 1 (loaded 1) (commits.Cross 1 crossing_purchase) ≡ buying
+abbrev commits_purchase : committed load 1 (loaded 1) (commits.Cross editions.Second 1 crossing_purchase) ≡ buying
 commits_purchase = refl
 
-abbrev commits_purchase_there : committed load 2 (loaded 2) (commits.Cross 1 crossing_purchase) ≡ supplier
+abbrev commits_purchase_there : committed load 2 (loaded 2) (commits.Cross editions.Second 1 crossing_purchase) ≡ supplier
 commits_purchase_there = refl
 
 -- one that the database refuses changes nothing at either side
 abbrev refused_purchase : Command
 refused_purchase = purchase_of 5 2 3 2 21
 
-abbrev refused_purchase_at_home : committed load 1 (loaded 1) (commits.Cross 1 refused_purchase) ≡ loaded 1
+abbrev refused_purchase_at_home : committed load 1 (loaded 1) (commits.Cross editions.Second 1 refused_purchase) ≡ loaded 1
 refused_purchase_at_home = refl
 
-abbrev refused_purchase_there : committed load 2 (loaded 2) (commits.Cross 1 refused_purchase) ≡ loaded 2
+abbrev refused_purchase_there : committed load 2 (loaded 2) (commits.Cross editions.Second 1 refused_purchase) ≡ loaded 2
 refused_purchase_there = refl
 
 abbrev refused_payment : Command
 refused_payment = payment_of 100 2 4 (who.Number 4)
 
-abbrev refused_payment_at_home : committed load 1 (loaded 1) (commits.Cross 1 refused_payment) ≡ loaded 1
+abbrev refused_payment_at_home : committed load 1 (loaded 1) (commits.Cross editions.Second 1 refused_payment) ≡ loaded 1
 refused_payment_at_home = refl
 
-abbrev refused_payment_there : committed load 2 (loaded 2) (commits.Cross 1 refused_payment) ≡ loaded 2
+abbrev refused_payment_there : committed load 2 (loaded 2) (commits.Cross editions.Second 1 refused_payment) ≡ loaded 2
 refused_payment_there = refl
 
 -- commits of one warehouse and of several, one after the other
 abbrev numbers_in_turn : map {A = Order} {B = ℕ × ℕ} (λ row. (row.id, row.all_local))
-    (rows_after load 1 (commits.Cross 1 crossing_purchase ∷ commits.Local (five_of_each 3)
-    ∷ commits.Cross 2 crossing_purchase ∷ [])).orders
+    (rows_after load 1 (commits.Cross editions.Second 1 crossing_purchase ∷ commits.Local editions.Second (five_of_each 3)
+    ∷ commits.Cross editions.Second 2 crossing_purchase ∷ [])).orders
     ≡ (1, 0) ∷ (2, 1) ∷ (3, 0) ∷ []
 numbers_in_turn = refl
 
 abbrev stock_in_turn : stock_columns_in 2
-    (rows_after load 2 (commits.Cross 1 crossing_purchase ∷ commits.Cross 2 crossing_purchase ∷ [])) 1
+    (rows_after load 2 (commits.Cross editions.Second 1 crossing_purchase ∷ commits.Cross editions.Second 2 crossing_purchase ∷ [])) 1
     ≡ 100 ∷ 10 ∷ 2 ∷ 2 ∷ []
 stock_in_turn = refl

@@ -5,6 +5,7 @@ use Rattle.hy_commands.specs.declared.command.Command.{Command}
 use Rattle.hy_commands.specs.declared.command.Command.TheVariants as commands
 use Rattle.hy_commands.specs.declared.command.Commit.TheVariants as commits
 use Rattle.hy_commands.specs.declared.command.Who.TheVariants as who
+use Rattle.hy_commands.specs.declared.edition.Edition.TheVariants as editions
 use Rattle.hy_commands.specs.Commands.{is_in_range, is_line_in_range, is_moment, is_name, kept_of, number_of, warehouses_of, warehouses_of_commit}
 use Rattle.hy_commands.specs.WorkedSample.{bought, level, payment, purchase}
 
@@ -73,17 +74,17 @@ remote_purchase = commands.NewOrder record {
 abbrev named_warehouses : warehouses_of remote_purchase ≡ 3 ∷ 2 ∷ 1 ∷ []
 named_warehouses = refl
 
-abbrev kept_payment : kept_of (payment (who.Number 1) 100) ≡ commits.Local (payment (who.Number 1) 100) ∷ []
+abbrev kept_payment : kept_of editions.Second (payment (who.Number 1) 100) ≡ commits.Local editions.Second (payment (who.Number 1) 100) ∷ []
 kept_payment = refl
 
-abbrev kept_reader : kept_of level ≡ []
+abbrev kept_reader : kept_of editions.Second level ≡ []
 kept_reader = refl
 
 -- a commit of one warehouse, and the seventh of several
-abbrev named_by_commits : map warehouses_of_commit (commits.Local level ∷ commits.Cross 7 remote_purchase ∷ [])
+abbrev named_by_commits : map warehouses_of_commit (commits.Local editions.Second level ∷ commits.Cross editions.Second 7 remote_purchase ∷ [])
     ≡ (1 ∷ []) ∷ (3 ∷ 2 ∷ 1 ∷ []) ∷ []
 named_by_commits = refl
 
-abbrev numbers_of_commits : map number_of (commits.Local level ∷ commits.Cross 7 remote_purchase ∷ [])
+abbrev numbers_of_commits : map number_of (commits.Local editions.Second level ∷ commits.Cross editions.Second 7 remote_purchase ∷ [])
     ≡ None ∷ Some 7 ∷ []
 numbers_of_commits = refl

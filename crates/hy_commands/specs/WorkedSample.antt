@@ -18,6 +18,7 @@ use Rattle.hy_commands.specs.declared.command.PurchaseLine.{PurchaseLine}
 use Rattle.hy_commands.specs.declared.command.Who.{Who}
 use Rattle.hy_commands.specs.declared.command.Who.TheVariants as who
 use Rattle.hy_commands.specs.declared.reply.Reply.{Reply}
+use Rattle.hy_commands.specs.declared.edition.Edition.TheVariants as editions
 use Rattle.hy_commands.specs.NewOrders.{is_stock}
 use Rattle.hy_commands.specs.Replay.{replay}
 use Rattle.hy_commands.specs.Transactions.{act}
@@ -139,10 +140,10 @@ level = commands.StockLevel record { warehouse = 1; district = 1; threshold = 11
 
 -- the rows and the reply after one command behind some others
 abbrev pub after : List Command → Tables
-after done = replay (record { items = items; tables = sample }) 1 sample (map commits.Local done)
+after done = replay (record { items = items; tables = sample }) 1 sample (map (commits.Local editions.Second) done)
 
 abbrev pub reply_after : List Command → Command → Reply
-reply_after done command = (act items 1 command (after done)).reply
+reply_after done command = (act items 1 editions.Second command (after done)).reply
 
 abbrev pub stock_of_item : ℕ → Tables → Stock
 stock_of_item number tables = first_or (stock_of []) (is_stock 1 number) tables.stock

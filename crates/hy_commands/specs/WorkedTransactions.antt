@@ -16,6 +16,7 @@ use Rattle.hy_commands.specs.declared.command.Who.{Who}
 use Rattle.hy_commands.specs.declared.command.Who.TheVariants as who
 use Rattle.hy_commands.specs.declared.reply.Reply.{Reply}
 use Rattle.hy_commands.specs.declared.reply.Reply.TheVariants as replies
+use Rattle.hy_commands.specs.declared.edition.Edition.TheVariants as editions
 use Rattle.hy_commands.specs.NewOrders.{line_rows, order_row, supplied, total_of}
 use Rattle.hy_commands.specs.Payments.{history_row}
 use Rattle.hy_commands.specs.Transactions.{act}
@@ -112,7 +113,7 @@ half_off_in_district_2 = record sample {
   customers = customers 1 ++ record (customer 2 1 (codes "ONE") (codes "A")) { discount = 5_000 } ∷ [];
 }
 
-abbrev order_with_half_off : (act items 1 (five_of_each 2) half_off_in_district_2).reply ≡ replies.NewOrder 1 2_822
+abbrev order_with_half_off : (act items 1 editions.Second (five_of_each 2) half_off_in_district_2).reply ≡ replies.NewOrder 1 2_822
 order_with_half_off = refl
 
 -- half a cent is a cent, and less is none
@@ -130,7 +131,7 @@ stock_of_one_twice = refl
 abbrev order_of_unknown : Command
 order_of_unknown = purchase 1 (bought 1 5 ∷ bought 2 5 ∷ bought 3 5 ∷ bought 4 5 ∷ bought 21 5 ∷ [])
 
-abbrev unknown_item : act items 1 order_of_unknown sample
+abbrev unknown_item : act items 1 editions.Second order_of_unknown sample
     ≡ record { tables = sample; reply = replies.Refused refusals.NoSuchItem }
 unknown_item = refl
 
@@ -161,11 +162,11 @@ customer_after_payments = refl
 abbrev payments_are_consistent : first_broken (after payments) ≡ None
 payments_are_consistent = refl
 
-abbrev payment_of_99 : act items 1 (payment (who.Number 1) 99) sample
+abbrev payment_of_99 : act items 1 editions.Second (payment (who.Number 1) 99) sample
     ≡ record { tables = sample; reply = replies.Refused refusals.OutOfRange }
 payment_of_99 = refl
 
-abbrev payment_of_500001 : act items 1 (payment (who.Number 1) 500_001) sample
+abbrev payment_of_500001 : act items 1 editions.Second (payment (who.Number 1) 500_001) sample
     ≡ record { tables = sample; reply = replies.Refused refusals.OutOfRange }
 payment_of_500001 = refl
 
@@ -194,13 +195,13 @@ named = record no_rows {
 }
 
 abbrev payment_of : List ℕ → Reply
-payment_of name = (act items 1 (payment (who.Last name) 100) named).reply
+payment_of name = (act items 1 editions.Second (payment (who.Last name) 100) named).reply
 
 -- a name is looked for in the customer's district alone
 abbrev named_elsewhere : Tables
 named_elsewhere = record named { customers = customer 2 9 (codes "ONE") (codes "0") ∷ named.customers }
 
-abbrev payment_of_one_in_district_1 : (act items 1 (payment (who.Last (codes "ONE")) 100) named_elsewhere).reply
+abbrev payment_of_one_in_district_1 : (act items 1 editions.Second (payment (who.Last (codes "ONE")) 100) named_elsewhere).reply
     ≡ replies.Payment 1 (negsuc 1_099)
 payment_of_one_in_district_1 = refl
 
@@ -222,7 +223,7 @@ payment_of_four = refl
 abbrev refused : ℕ → ℕ → ℕ → PurchaseLine → Reply
 refused supplier district customer last =
     let remote : PurchaseLine = record { item = 1; supply_warehouse = supplier; quantity = 1 } in (
-    act items 1
+    act items 1 editions.Second
     (commands.NewOrder record {
       warehouse = 1;
       district = district;
@@ -254,7 +255,7 @@ not_refused = refl
 -- a payment in district 1 for a customer
 abbrev refused_payment : ℕ → ℕ → Who → Reply
 refused_payment customer_warehouse customer_district who = (
-    act items 1
+    act items 1 editions.Second
     (commands.Payment record {
       warehouse = 1;
       district = 1;

@@ -4,10 +4,10 @@ ghost use Rattle.std.specs.Prelude.{◌≡◌, ◌==◌, ◌↔◌, IsTrue, IsOk
 ghost use Rattle.std.specs.List.{list_all, list_any};
 ghost use Rattle.hy_rows.specs.Ranges.{is_between};
 ghost use Rattle.hy_commands.specs.declared.command.Command.TheVariants as commands;
-ghost use Rattle.hy_commands.specs.Commands.{command_of, home_of, is_in_range, is_line_in_range, is_moment, is_name, is_reader, is_who, number_of, warehouses_of, warehouses_of_commit};
+ghost use Rattle.hy_commands.specs.Commands.{command_of, home_of, is_in_range, is_line_in_range, is_moment, is_name, is_reader, is_who, edition_of, number_of, warehouses_of, warehouses_of_commit};
 ghost use Rattle.hy_commands.specs.Parts.{customer_home_of, with_number};
 
-use crate::PurchaseLines;
+use crate::{Edition, PurchaseLines};
 use hy_rows::MAX_MOMENT;
 use hy_schema::Refusal;
 use std::alloc::AllocError;
@@ -186,9 +186,9 @@ pub enum Command {
 #[derive(Debug, Drop)]
 pub enum Commit {
     /// A command that names one warehouse.
-    Local(Command),
+    Local(Edition, Command),
     /// A command that names several warehouses, with its number among those commits, from 1.
-    Cross(u64, Command),
+    Cross(Edition, u64, Command),
 }
 
 /// Whether a byte is a printable character.
@@ -477,7 +477,16 @@ impl Commit {
         ensures { result.now ≡ command_of self.now }
     {
         match self {
-            Commit::Local(command) | Commit::Cross(_, command) => command,
+            Commit::Local(_, command) | Commit::Cross(_, _, command) => command,
+        }
+    }
+
+    /// The edition of the transactions by which it was done.
+    pub fn edition(&self) -> Edition
+        ensures { result ≡ edition_of self.now }
+    {
+        match self {
+            Commit::Local(edition, _) | Commit::Cross(edition, _, _) => *edition,
         }
     }
 
@@ -493,8 +502,8 @@ impl Commit {
         ensures { result ≡ number_of self.now }
     {
         match self {
-            Commit::Local(_) => None,
-            Commit::Cross(number, _) => Some(*number),
+            Commit::Local(_, _) => None,
+            Commit::Cross(_, number, _) => Some(*number),
         }
     }
 
@@ -503,8 +512,10 @@ impl Commit {
         ensures { IfOk result (λ copy. copy ≡ self.now) }
     {
         match self {
-            Commit::Local(command) => Ok(Commit::Local(command.copy()?)),
-            Commit::Cross(number, command) => Ok(Commit::Cross(*number, command.copy()?)),
+            Commit::Local(edition, command) => Ok(Commit::Local(*edition, command.copy()?)),
+            Commit::Cross(edition, number, command) => {
+                Ok(Commit::Cross(*edition, *number, command.copy()?))
+            }
         }
     }
 }

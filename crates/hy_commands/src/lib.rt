@@ -3,6 +3,7 @@
 
 mod command;
 mod commits;
+mod edition;
 mod lines;
 mod named;
 mod reply;
@@ -13,6 +14,7 @@ pub use command::{
     MAX_PURCHASE_LINES, MAX_THRESHOLD, MIN_PAYMENT, MIN_PURCHASE_LINES, MIN_THRESHOLD, Name,
     OrderStatus, Payment, Purchase, PurchaseLine, StockLevel, Who,
 };
+pub use edition::Edition;
 pub use lines::PurchaseLines;
 pub use named::Warehouses;
 pub use reply::{PlacedOrder, Reply, StatusLines};

@@ -13,6 +13,7 @@ use Rattle.hy_rows.specs.declared.item.Item.{Item}
 use Rattle.hy_commands.specs.declared.command.Command.{Command}
 use Rattle.hy_commands.specs.declared.command.Commit.{Commit}
 use Rattle.hy_commands.specs.declared.command.Commit.TheVariants as commits
+use Rattle.hy_commands.specs.declared.edition.Edition.{Edition}
 use Rattle.hy_commands.specs.declared.reply.Reply.{Reply}
 use Rattle.hy_commands.specs.Commands.{home_of, warehouses_of_commit}
 use Rattle.hy_commands.specs.Parts.{customer_home_of, with_number}
@@ -117,7 +118,7 @@ keeps-keeps command commit log number old new keeps none = elim keeps [
 
 -- ---- parts that are done, and kept
 
-module _ (command numbered : Command) (same : IsNumbered command numbered) where
+module _ (edition : Edition) (command numbered : Command) (same : IsNumbered command numbered) where
   entered-same : (warehouse : ℕ) (book : BookState)
       → with_part_entered warehouse book numbered ≡ with_part_entered warehouse book command
   entered-same warehouse book =
@@ -125,8 +126,8 @@ module _ (command numbered : Command) (same : IsNumbered command numbered) where
       ∙ ap (λ entered. cond (home_of command == warehouse) entered book) (same.entered book)
 
   keeps-here : (crossing : ℕ) (log : Log) (number : ℕ) (old middle new : PartitionState)
-      → DoesIfNamed numbered number old middle → KeepsPartIfNamed numbered crossing log number middle new
-      → KeepsIfNamed command (commits.Cross crossing numbered) log number old new
+      → DoesIfNamed edition numbered number old middle → KeepsPartIfNamed edition numbered crossing log number middle new
+      → KeepsIfNamed command (commits.Cross edition crossing numbered) log number old new
   keeps-here crossing log number old middle new does keeps =
       let is = same-named command numbered same number in
       elim does.1 [
@@ -142,7 +143,7 @@ module _ (command numbered : Command) (same : IsNumbered command numbered) where
                   undo = k.undo;
                   seen = k.seen;
                   kept = k.kept
-                      ∙ ap (λ (kept : List Commit). kept ++ commits.Cross crossing numbered ∷ []) d.nothing.kept;
+                      ∙ ap (λ (kept : List Commit). kept ++ commits.Cross edition crossing numbered ∷ []) d.nothing.kept;
                   book = k.book ∙ ap (λ w. with_part_entered w middle.book numbered) warehouse
                       ∙ ap (λ (book : BookState). with_part_entered old.warehouse book numbered) d.nothing.book
                       ∙ entered-same old.warehouse old.book;
@@ -158,23 +159,23 @@ module _ (command numbered : Command) (same : IsNumbered command numbered) where
       ]
 
   pub keeps-all : (crossing : ℕ) (log : Log) (olds middles news : List PartitionState)
-      → Pairwise (DoesIfNamed numbered) 1 olds middles
-      → Pairwise (KeepsPartIfNamed numbered crossing log) 1 middles news
-      → Pairwise (KeepsIfNamed command (commits.Cross crossing numbered) log) 1 olds news
+      → Pairwise (DoesIfNamed edition numbered) 1 olds middles
+      → Pairwise (KeepsPartIfNamed edition numbered crossing log) 1 middles news
+      → Pairwise (KeepsIfNamed command (commits.Cross edition crossing numbered) log) 1 olds news
   keeps-all crossing log olds middles news does keeps =
-      pairs-then (DoesIfNamed numbered) (KeepsPartIfNamed numbered crossing log)
-      (KeepsIfNamed command (commits.Cross crossing numbered) log) (keeps-here crossing log) 1 olds middles news does keeps
+      pairs-then (DoesIfNamed edition numbered) (KeepsPartIfNamed edition numbered crossing log)
+      (KeepsIfNamed command (commits.Cross edition crossing numbered) log) (keeps-here crossing log) 1 olds middles news does keeps
 
   -- what `keep_all` asks of partitions whose parts are done
   module _ (lists : Lists) (log : Log) (olds news : List PartitionState) (informed : AreInformed lists command log olds)
-      (can : CanDoParts numbered olds) (does : Pairwise (DoesIfNamed numbered) 1 olds news) where
+      (can : CanDoParts numbered olds) (does : Pairwise (DoesIfNamed edition numbered) 1 olds news) where
     abbrev One : ℕ → PartitionState → Type 0
     One number p = IsInformed lists command log number p × CanDoIfNamed numbered number p
 
     abbrev Other : ℕ → PartitionState → Type 0
-    Other number p = IsPartition lists number p × IsDoneIfNamed numbered log number p
+    Other number p = IsPartition lists number p × IsDoneIfNamed edition numbered log number p
 
-    done-here : (number : ℕ) (old new : PartitionState) → DoesIfNamed numbered number old new → One number old
+    done-here : (number : ℕ) (old new : PartitionState) → DoesIfNamed edition numbered number old new → One number old
         → Other number new
     done-here number old new does was = elim does.1 [
       | inl done ↦
@@ -192,18 +193,18 @@ module _ (command numbered : Command) (same : IsNumbered command numbered) where
     ]
 
     all-done : (place : ℕ) → IfSome (slice_get news place) (Other (suc place))
-    all-done = each-then (DoesIfNamed numbered) One Other done-here olds news does
+    all-done = each-then (DoesIfNamed edition numbered) One Other done-here olds news does
         (λ place. some-two (slice_get olds place) (IsInformed lists command log (suc place))
         (CanDoIfNamed numbered (suc place)) (One (suc place)) (informed.each place) (can place) (λ p a b. (a, b)))
 
-    pub are-done : AreDone numbered log news
+    pub are-done : AreDone edition numbered log news
     are-done place =
-        some-then (slice_get news place) (Other (suc place)) (IsDoneIfNamed numbered log (suc place)) (all-done place)
+        some-then (slice_get news place) (Other (suc place)) (IsDoneIfNamed edition numbered log (suc place)) (all-done place)
         (λ p both. both.1)
 
     pub partitions-done : ArePartitions lists news
     partitions-done = record {
-      count = pairs-count (DoesIfNamed numbered) 1 olds news does ∙ informed.count;
+      count = pairs-count (DoesIfNamed edition numbered) 1 olds news does ∙ informed.count;
       each = λ place. some-then (slice_get news place) (Other (suc place)) (IsPartition lists (suc place))
           (all-done place) (λ p both. both.0);
     }
@@ -257,31 +258,31 @@ module _ (lists : Lists) (log : Log) (command : Command) (parts : List Partition
   some-is : (one other : Reply) → Some one ≡ Some other → one ≡ other
   some-is one other same = cc
 
-  pub reply-is : (reply : Reply) → RepliesFrom (with_number number command) parts (Some reply)
-      → reply ≡ (act_on_all command (database_behind lists log)).reply
+  pub reply-is : (edition : Edition) (reply : Reply) → RepliesFrom edition (with_number number command) parts (Some reply)
+      → reply ≡ (act_on_all edition command (database_behind lists log)).reply
   unfolding here
-  reply-is reply replies =
+  reply-is edition reply replies =
       let numbered : Command = with_number number command in
       let same = is_numbered number command in
       let p = here.0 in
-      let from : Some reply ≡ reply_of_part (layout_of p) numbered (rows_now p) =
+      let from : Some reply ≡ reply_of_part (layout_of p) edition numbered (rows_now p) =
       subst (λ (row : Option PartitionState). IfSome row
-      (λ p. Some reply ≡ reply_of_part (layout_of p) numbered (rows_now p))) here.1
-      (subst (λ n. IfSome (slice_get parts (n - 1)) (λ p. Some reply ≡ reply_of_part (layout_of p) numbered (rows_now p)))
+      (λ p. Some reply ≡ reply_of_part (layout_of p) edition numbered (rows_now p))) here.1
+      (subst (λ n. IfSome (slice_get parts (n - 1)) (λ p. Some reply ≡ reply_of_part (layout_of p) edition numbered (rows_now p)))
       same.customer_home replies) in
-      let gives : reply_of_part (layout_of p) numbered (rows_now p)
-      ≡ Some (accepted p.load.items p.warehouse numbered (rows_now p)).reply =
-      ap (λ b. cond b (Some (accepted p.load.items p.warehouse numbered (rows_now p)).reply) None)
+      let gives : reply_of_part (layout_of p) edition numbered (rows_now p)
+      ≡ Some (accepted p.load.items p.warehouse edition numbered (rows_now p)).reply =
+      ap (λ b. cond b (Some (accepted p.load.items p.warehouse edition numbered (rows_now p)).reply) None)
       (eq-eqb (customer_home_of numbered) p.warehouse (same.customer_home ∙ sym is.partition.1)) in
       let items : p.load.items ≡ (database_behind lists log).items =
       ap (λ (l : Lists). l.items) is.partition.0 ∙ sym (replay-after lists (commits_in log)).items in
-      some-is reply (accepted p.load.items p.warehouse numbered (rows_now p)).reply (from ∙ gives)
-      ∙ ap (λ (items : List Item). (accepted items p.warehouse numbered (rows_now p)).reply) items
-      ∙ ap (λ w. (accepted (database_behind lists log).items w numbered (rows_now p)).reply) is.partition.1
-      ∙ ap (λ (tables : Tables). (accepted (database_behind lists log).items home numbered tables).reply)
+      some-is reply (accepted p.load.items p.warehouse edition numbered (rows_now p)).reply (from ∙ gives)
+      ∙ ap (λ (items : List Item). (accepted items p.warehouse edition numbered (rows_now p)).reply) items
+      ∙ ap (λ w. (accepted (database_behind lists log).items w edition numbered (rows_now p)).reply) is.partition.1
+      ∙ ap (λ (tables : Tables). (accepted (database_behind lists log).items home edition numbered tables).reply)
       (rows-behind lists log command parts informed accepts home named)
-      ∙ ap (λ (c : Command). (accepted (database_behind lists log).items home c rows).reply)
+      ∙ ap (λ (c : Command). (accepted (database_behind lists log).items home edition c rows).reply)
       (kept-is lists log command parts informed accepts number payer)
-      ∙ same-reply (database_behind lists log).items home command rows unique known_payer
-      ∙ sym (ap (λ (why : Option Refusal). (whole_outcome why command (database_behind lists log)).reply)
+      ∙ same-reply (database_behind lists log).items home edition command rows unique known_payer
+      ∙ sym (ap (λ (why : Option Refusal). (whole_outcome why edition command (database_behind lists log)).reply)
       (behind lists log command parts informed accepts))

@@ -1,6 +1,6 @@
 -- A part that isn't done leaves the partition as it was.
 use Rattle.std.proofs.Common.{◌≡◌, ℕ, None, Ok, Err, refl, sym, ap, ◌∙◌, subst}
-use Rattle.std.specs.Prelude.{IfErr, IsErrAnd, OnErr, Result}
+use Rattle.std.specs.Prelude.{IfErr, IfOk, IsErrAnd, OnErr, Result}
 use Rattle.hy_space.specs.Space.{owner_bytes}
 use Rattle.hy_undo.specs.UndoLog.{UndoLog, empty_log, undone}
 use Rattle.hy_undo.proofs.RollBackLaws.{undone-empty_log}
@@ -20,6 +20,12 @@ pub err-both : {T E : Type 0} (A : Type 0) (B C : E → Type 0) (result : Result
     → ((error : E) → A → B error → C error) → IfErr result C
 err-both A B C (Ok x) one other joins = tt
 err-both A B C (Err error) one other joins = joins error one other
+
+-- what follows from what is said of a value
+pub ok-leads : {T E : Type 0} (A B : T → Type 0) (result : Result T E) → IfOk result A
+    → ((value : T) → A value → B value) → IfOk result B
+ok-leads A B (Ok value) one leads = leads value one
+ok-leads A B (Err error) one leads = tt
 
 -- where nothing was to be undone
 module _ (n : ℕ) (p : PartitionState) (headline : Headline n p) (idle : (p.running ≡ None) × (p.part ≡ None)) where

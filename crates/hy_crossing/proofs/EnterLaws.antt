@@ -9,6 +9,7 @@ use Rattle.hy_rows.proofs.BetweenLaws.{bounds}
 use Rattle.hy_commands.specs.declared.command.Command.{Command}
 use Rattle.hy_commands.specs.declared.command.Commit.{Commit}
 use Rattle.hy_commands.specs.declared.command.Commit.TheVariants as commits
+use Rattle.hy_commands.specs.declared.edition.Edition.{Edition}
 use Rattle.hy_commands.specs.Commands.{warehouses_of, warehouses_of_commit}
 use Rattle.hy_commands.proofs.NamedLaws.{first-named}
 use Rattle.hy_passes.specs.declared.entry.Entry.{Entry}
@@ -78,10 +79,10 @@ module _ (lists : Lists) (command : Command) (parts : List PartitionState) (are 
     within : number ≤ partitions
     within = omega (arith, known_here.range.1, number_is)
 
-    pub few-kept : (log : Log) → AreDone command log parts
+    pub few-kept : (edition : Edition) (log : Log) → AreDone edition command log parts
         → length (kept_of warehouses_of_commit number log) < max_commits
-    few-kept log done =
-        let done_here = subst (λ (row : Option PartitionState). IfSome row (IsDoneIfNamed command log (suc (number - 1))))
+    few-kept edition log done =
+        let done_here = subst (λ (row : Option PartitionState). IfSome row (IsDoneIfNamed edition command log (suc (number - 1))))
         found.1 (done (number - 1)) named_next in
         let kept : found.0.kept ≡ kept_of warehouses_of_commit number log =
         known_here.kept ∙ ap (λ (seen : Log). projection_of found.0.warehouse seen) done_here.1
@@ -96,19 +97,19 @@ module _ (lists : Lists) (command : Command) (parts : List PartitionState) (are 
       and_from (nat_le 1 number) (nat_le number partitions) (le-leb 1 number (ends number named).0)
       (le-leb number partitions (within number named))))
 
-  pub ready : (log : Log) (crossing stamp : ℕ) → AreDone command log parts
-      → AreReady command crossing (log ++ record { commit = commits.Cross crossing command; stamp = stamp } ∷ []) parts
-  ready log crossing stamp done place =
+  pub ready : (edition : Edition) (log : Log) (crossing stamp : ℕ) → AreDone edition command log parts
+      → AreReady edition command crossing (log ++ record { commit = commits.Cross edition crossing command; stamp = stamp } ∷ []) parts
+  ready edition log crossing stamp done place =
       some-three (slice_get parts place) (IsPartition lists (suc place)) (IsKnownIfNamed command partitions (suc place))
-      (IsDoneIfNamed command log (suc place)) (IsReadyIfNamed command crossing (log ++ entry ∷ []) (suc place))
+      (IsDoneIfNamed edition command log (suc place)) (IsReadyIfNamed edition command crossing (log ++ entry ∷ []) (suc place))
       (are.each place) (known place) (done place) (λ p is is_known is_done named.
       let kept : kept_of warehouses_of_commit p.warehouse log ≡ p.kept =
       sym ((is_known named).kept ∙ ap (λ (seen : Log). projection_of p.warehouse seen) (is_done named).1) in
       let here : is_named command p.warehouse ≡ true = subst (λ n. is_named command n ≡ true) (sym is.1) named in (
         (is_done named).0,
         kept-adds warehouses_of_commit p.warehouse log entry here
-            ∙ ap (λ (kept : List Commit). kept ++ commits.Cross crossing command ∷ []) kept,
+            ∙ ap (λ (kept : List Commit). kept ++ commits.Cross edition crossing command ∷ []) kept,
       ))
     where
       entry : Entry Commit
-      entry = record { commit = commits.Cross crossing command; stamp = stamp }
+      entry = record { commit = commits.Cross edition crossing command; stamp = stamp }

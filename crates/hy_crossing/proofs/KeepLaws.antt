@@ -8,6 +8,7 @@ use Rattle.hy_rows.specs.Ranges.{IsBetween, is_between}
 use Rattle.hy_rows.specs.Tables.{Lists}
 use Rattle.hy_ledger.specs.declared.view.ShareState.{ShareState}
 use Rattle.hy_commands.specs.declared.command.Command.{Command}
+use Rattle.hy_commands.specs.declared.edition.Edition.{Edition}
 use Rattle.hy_commands.specs.Commands.{home_of, warehouses_of}
 use Rattle.hy_database.proofs.PartLaws.{named-home}
 use Rattle.hy_partition.specs.Jobs.{Log, share_of}
@@ -34,10 +35,10 @@ or-none : (share : Option ShareState) → option_or share None ≡ share
 or-none None = refl
 or-none (Some share) = refl
 
-module _ (command : Command) (crossing : ℕ) (log : Log) (place : ℕ) (olds middles : List PartitionState)
-    (done : IsDoneUpTo (KeepsPartIfNamed command crossing log) place olds middles) (within : place < length olds)
+module _ (edition : Edition) (command : Command) (crossing : ℕ) (log : Log) (place : ℕ) (olds middles : List PartitionState)
+    (done : IsDoneUpTo (KeepsPartIfNamed edition command crossing log) place olds middles) (within : place < length olds)
     (given : Option ShareState) (news : List PartitionState)
-    (changes : ChangesAt (λ old new. KeepsHere command crossing log (place + 1) old new given) (place + 1 - 1) middles
+    (changes : ChangesAt (λ old new. KeepsHere edition command crossing log (place + 1) old new given) (place + 1 - 1) middles
     news) where
   within_middles : place < length middles
   within_middles = omega (arith, within, done.count)
@@ -48,16 +49,16 @@ module _ (command : Command) (crossing : ℕ) (log : Log) (place : ℕ) (olds mi
   here : changes.0 ≡ slice_index_or middles place changes.0
   here = subst (λ n. changes.0 ≡ slice_index_or middles n changes.0) back changes.2
 
-  pub keep-step : IsDoneUpTo (KeepsPartIfNamed command crossing log) (place + 1) olds news
+  pub keep-step : IsDoneUpTo (KeepsPartIfNamed edition command crossing log) (place + 1) olds news
   keep-step =
-      subst (λ (rows : List PartitionState). IsDoneUpTo (KeepsPartIfNamed command crossing log) (place + 1) olds rows)
+      subst (λ (rows : List PartitionState). IsDoneUpTo (KeepsPartIfNamed edition command crossing log) (place + 1) olds rows)
       (sym (subst (λ n. news ≡ slice_set middles n changes.1) back changes.3))
-      (done-more (KeepsPartIfNamed command crossing log) place olds middles done within_middles changes.0 changes.1
+      (done-more (KeepsPartIfNamed edition command crossing log) place olds middles done within_middles changes.0 changes.1
       (sym here) (given, changes.4))
 
   module _ (lists : Lists) (are : ArePartitions lists olds) (share : Option ShareState) where
     is_old : changes.0 ≡ slice_index_or olds place changes.0
-    is_old = done-here (KeepsPartIfNamed command crossing log) place olds middles done within_middles changes.0 here
+    is_old = done-here (KeepsPartIfNamed edition command crossing log) place olds middles done within_middles changes.0 here
 
     number_is : changes.0.warehouse ≡ place + 1
     number_is =

@@ -6,6 +6,7 @@ use Rattle.hy_rows.specs.Ranges.{IsBetween}
 use Rattle.hy_rows.specs.Tables.{Lists, Tables}
 use Rattle.hy_rows.proofs.BetweenLaws.{bounds}
 use Rattle.hy_commands.specs.declared.command.Command.{Command}
+use Rattle.hy_commands.specs.declared.edition.Edition.{Edition}
 use Rattle.hy_commands.specs.declared.reply.Reply.{Reply}
 use Rattle.hy_commands.specs.Parts.{customer_home_of}
 use Rattle.hy_commands.specs.Transactions.{accepted}
@@ -17,45 +18,45 @@ use Rattle.hy_crossing.proofs.PlaceLaws.{customer_home-named, get-some}
 
 -- ---- the reply
 
-replies-elsewhere : (layout : LayoutState) (command : Command) (tables : Tables)
-    → customer_home_of command ≢ layout.warehouse → reply_of_part layout command tables ≡ None
-replies-elsewhere layout command tables other =
-    ap (λ (here : Bool). cond here (Some (accepted layout.load.items layout.warehouse command tables).reply) None)
+replies-elsewhere : (layout : LayoutState) (edition : Edition) (command : Command) (tables : Tables)
+    → customer_home_of command ≢ layout.warehouse → reply_of_part layout edition command tables ≡ None
+replies-elsewhere layout edition command tables other =
+    ap (λ (here : Bool). cond here (Some (accepted layout.load.items layout.warehouse edition command tables).reply) None)
     (ne_eqb (customer_home_of command) layout.warehouse other)
 
-pub replies-here : (layout : LayoutState) (command : Command) (tables : Tables)
-    → customer_home_of command ≡ layout.warehouse → (reply : Reply) × (reply_of_part layout command tables ≡ Some reply)
-replies-here layout command tables same = (
-  (accepted layout.load.items layout.warehouse command tables).reply,
-  ap (λ (here : Bool). cond here (Some (accepted layout.load.items layout.warehouse command tables).reply) None)
+pub replies-here : (layout : LayoutState) (edition : Edition) (command : Command) (tables : Tables)
+    → customer_home_of command ≡ layout.warehouse → (reply : Reply) × (reply_of_part layout edition command tables ≡ Some reply)
+replies-here layout edition command tables same = (
+  (accepted layout.load.items layout.warehouse edition command tables).reply,
+  ap (λ (here : Bool). cond here (Some (accepted layout.load.items layout.warehouse edition command tables).reply) None)
       (eq-eqb (customer_home_of command) layout.warehouse same),
 )
 
 -- a part elsewhere has no reply
-pub no-reply : (command : Command) (number : ℕ) (old new : PartitionState) (reply : Option Reply)
-    → old.warehouse ≡ number → DoesHere command number old new reply → customer_home_of command ≢ number
+pub no-reply : (edition : Edition) (command : Command) (number : ℕ) (old new : PartitionState) (reply : Option Reply)
+    → old.warehouse ≡ number → DoesHere edition command number old new reply → customer_home_of command ≢ number
     → reply ≡ None
-no-reply command number old new reply is does other = elim does [
+no-reply edition command number old new reply is does other = elim does [
   | inl named ↦
       named.1.reply_is
-      ∙ replies-elsewhere (layout_of old) command (rows_now old) (λ same. other (same ∙ is))
+      ∙ replies-elsewhere (layout_of old) edition command (rows_now old) (λ same. other (same ∙ is))
   | inr unnamed ↦ unnamed.1.1
 ]
 
 -- that of the customer's warehouse has one
-pub reply-home : (command : Command) (number : ℕ) (old new : PartitionState) (reply : Option Reply)
-    → DoesHere command number old new reply → customer_home_of command ≡ number
-    → reply ≡ reply_of_part (layout_of old) command (rows_now old)
-reply-home command number old new reply does same = elim does [
+pub reply-home : (edition : Edition) (command : Command) (number : ℕ) (old new : PartitionState) (reply : Option Reply)
+    → DoesHere edition command number old new reply → customer_home_of command ≡ number
+    → reply ≡ reply_of_part (layout_of old) edition command (rows_now old)
+reply-home edition command number old new reply does same = elim does [
   | inl named ↦ named.1.reply_is
   | inr unnamed ↦
       absurd (true≢false (sym (subst (λ n. is_named command n ≡ true) same (customer_home-named command)) ∙ unnamed.0))
 ]
 
-pub replies-some : (lists : Lists) (command : Command) (parts : List PartitionState) (answer : Option Reply)
+pub replies-some : (lists : Lists) (edition : Edition) (command : Command) (parts : List PartitionState) (answer : Option Reply)
     → ArePartitions lists parts → IsBetween 1 (length parts) (customer_home_of command)
-    → RepliesFrom command parts answer → (reply : Reply) × (answer ≡ Some reply)
-replies-some lists command parts answer are there replies =
+    → RepliesFrom edition command parts answer → (reply : Reply) × (answer ≡ Some reply)
+replies-some lists edition command parts answer are there replies =
     let home : ℕ = customer_home_of command in
     let ends = bounds 1 (length parts) home there in
     let next : suc (home - 1) ≡ home = omega (arith, ends.0) in
@@ -63,6 +64,6 @@ replies-some lists command parts answer are there replies =
     let is = subst (λ (row : Option PartitionState). IfSome row (IsPartition lists (suc (home - 1)))) some.1
     (are.each (home - 1)) in
     let reply_is = subst (λ (row : Option PartitionState).
-    IfSome row (λ p. answer ≡ reply_of_part (layout_of p) command (rows_now p))) some.1 replies in
-    let here = replies-here (layout_of some.0) command (rows_now some.0) (sym next ∙ sym is.1) in
+    IfSome row (λ p. answer ≡ reply_of_part (layout_of p) edition command (rows_now p))) some.1 replies in
+    let here = replies-here (layout_of some.0) edition command (rows_now some.0) (sym next ∙ sym is.1) in
     (here.0, reply_is ∙ here.1)

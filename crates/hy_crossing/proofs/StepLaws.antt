@@ -7,6 +7,7 @@ use Rattle.std.proofs.lemmas.List.{get_or-set_same, length-set}
 use Rattle.hy_rows.specs.Tables.{Lists}
 use Rattle.hy_schema.specs.declared.refusal.Refusal.{Refusal}
 use Rattle.hy_commands.specs.declared.command.Command.{Command}
+use Rattle.hy_commands.specs.declared.edition.Edition.{Edition}
 use Rattle.hy_commands.specs.declared.reply.Reply.{Reply}
 use Rattle.hy_commands.specs.Parts.{customer_home_of}
 use Rattle.hy_undo.proofs.PrivatePageLaws.{SameForChildren-then}
@@ -44,9 +45,9 @@ then-beside old middle new one other = record {
   max_frames = other.max_frames ∙ one.max_frames;
 }
 
-undone-part : (command : Command) (old middle new : PartitionState) (reply : Option Reply)
-    → DoesPart command old middle reply → HasNoPart middle new → IsAsBefore old new
-undone-part command old middle new reply does none = record {
+undone-part : (edition : Edition) (command : Command) (old middle new : PartitionState) (reply : Option Reply)
+    → DoesPart edition command old middle reply → HasNoPart middle new → IsAsBefore old new
+undone-part edition command old middle new reply does none = record {
   part = none.part;
   undo = none.undo;
   bytes = none.bytes ∙ does.bytes;
@@ -56,20 +57,20 @@ undone-part command old middle new reply does none = record {
 
 -- ---- where one isn't done
 
-abbrev IsHalfDone : Command → Refusal → ℕ → ℕ → PartitionState → PartitionState → Type 0
-IsHalfDone command why place number old new =
-    ((number < place + 1) × DoesIfNamed command number old new)
+abbrev IsHalfDone : Edition → Command → Refusal → ℕ → ℕ → PartitionState → PartitionState → Type 0
+IsHalfDone edition command why place number old new =
+    ((number < place + 1) × DoesIfNamed edition command number old new)
     ⊎ ((number ≡ place + 1) × FailsHere command why number old new)
     ⊎ ((place + 1 < number) × (new ≡ old))
 
-half-joins : (command : Command) (why : Refusal) (place number : ℕ) (old middle new : PartitionState)
-    → Before (place + 1) (DoesIfNamed command) number old middle
-    → At (place + 1) (FailsHere command why) number middle new → IsHalfDone command why place number old new
-half-joins command why place number old middle new one other = elim one [
+half-joins : (edition : Edition) (command : Command) (why : Refusal) (place number : ℕ) (old middle new : PartitionState)
+    → Before (place + 1) (DoesIfNamed edition command) number old middle
+    → At (place + 1) (FailsHere command why) number middle new → IsHalfDone edition command why place number old new
+half-joins edition command why place number old middle new one other = elim one [
   | inl first ↦ elim other [
     | inl at ↦ absurd (omega (arith, first.0, at.0))
     | inr later ↦
-        inl (first.0, subst (λ (row : PartitionState). DoesIfNamed command number old row) (sym later.1) first.1)
+        inl (first.0, subst (λ (row : PartitionState). DoesIfNamed edition command number old row) (sym later.1) first.1)
   ]
   | inr second ↦ elim other [
     | inl at ↦
@@ -78,29 +79,29 @@ half-joins command why place number old middle new one other = elim one [
   ]
 ]
 
-does-running : (command : Command) (number : ℕ) (old new : PartitionState) → DoesIfNamed command number old new
+does-running : (edition : Edition) (command : Command) (number : ℕ) (old new : PartitionState) → DoesIfNamed edition command number old new
     → new.running ≡ old.running
-does-running command number old new does = elim does.1 [
+does-running edition command number old new does = elim does.1 [
   | inl named ↦ named.1.beside.running
   | inr unnamed ↦ ap (λ (p : PartitionState). p.running) unnamed.1.0
 ]
 
-half-running : (command : Command) (why : Refusal) (place number : ℕ) (old new : PartitionState)
-    → IsHalfDone command why place number old new → new.running ≡ old.running
-half-running command why place number old new half = elim half [
-  | inl first ↦ does-running command number old new first.1
+half-running : (edition : Edition) (command : Command) (why : Refusal) (place number : ℕ) (old new : PartitionState)
+    → IsHalfDone edition command why place number old new → new.running ≡ old.running
+half-running edition command why place number old new half = elim half [
+  | inl first ↦ does-running edition command number old new first.1
   | inr others ↦ elim others [
     | inl at ↦ at.1.1.beside.running
     | inr later ↦ ap (λ (p : PartitionState). p.running) later.1
   ]
 ]
 
-does-undone : (command : Command) (number : ℕ) (old middle new : PartitionState)
-    → DoesIfNamed command number old middle → UndoesIfNamed command number middle new
+does-undone : (edition : Edition) (command : Command) (number : ℕ) (old middle new : PartitionState)
+    → DoesIfNamed edition command number old middle → UndoesIfNamed command number middle new
     → LeavesIfNamed command number old new
-does-undone command number old middle new does undoes = elim does.1 [
+does-undone edition command number old middle new does undoes = elim does.1 [
   | inl named ↦ elim undoes [
-    | inl both ↦ inl (named.0, inr (undone-part command old middle new does.0 named.1 both.1))
+    | inl both ↦ inl (named.0, inr (undone-part edition command old middle new does.0 named.1 both.1))
     | inr unnamed ↦ absurd (true≢false (sym named.0 ∙ unnamed.0))
   ]
   | inr unnamed ↦ elim undoes [
@@ -117,12 +118,12 @@ same-leaves command number old new same =
       | false ↦ λ unnamed. inr (unnamed, same)
     ] refl
 
-half-left : (command : Command) (why : Refusal) (place number : ℕ) (old middle new : PartitionState)
-    → IsHalfDone command why place number old middle
+half-left : (edition : Edition) (command : Command) (why : Refusal) (place number : ℕ) (old middle new : PartitionState)
+    → IsHalfDone edition command why place number old middle
     → Before (place + 1) (UndoesIfNamed command) number middle new → LeavesIfNamed command number old new
-half-left command why place number old middle new half undoes = elim undoes [
+half-left edition command why place number old middle new half undoes = elim undoes [
   | inl early ↦ elim half [
-    | inl first ↦ does-undone command number old middle new first.1 early.1
+    | inl first ↦ does-undone edition command number old middle new first.1 early.1
     | inr others ↦ elim others [
       | inl at ↦ absurd (omega (arith, early.0, at.0))
       | inr later ↦ absurd (omega (arith, early.0, later.0))
@@ -149,8 +150,8 @@ some-lacks (first ∷ olds) (second ∷ news) zero old new within count is_old i
 some-lacks (first ∷ olds) (second ∷ news) (suc place) old new within count is_old is_new lacks =
     inr (some-lacks olds news place old new (omega (arith, within)) (omega (arith, count)) is_old is_new lacks)
 
-module _ (command : Command) (place : ℕ) (olds middles : List PartitionState)
-    (done : IsDoneUpTo (DoesIfNamed command) place olds middles) (within : place < length olds) where
+module _ (edition : Edition) (command : Command) (place : ℕ) (olds middles : List PartitionState)
+    (done : IsDoneUpTo (DoesIfNamed edition command) place olds middles) (within : place < length olds) where
   within_middles : place < length middles
   within_middles = omega (arith, within, done.count)
 
@@ -167,11 +168,11 @@ module _ (command : Command) (place : ℕ) (olds middles : List PartitionState)
     failed_news : news ≡ slice_set middles place changes.1
     failed_news = subst (λ n. news ≡ slice_set middles n changes.1) back changes.3
 
-    halves : Pairwise (IsHalfDone command why place) 1 olds news
+    halves : Pairwise (IsHalfDone edition command why place) 1 olds news
     halves =
-        pairs-then (Before (place + 1) (DoesIfNamed command)) (At (place + 1) (FailsHere command why))
-        (IsHalfDone command why place) (half-joins command why place) 1 olds middles news
-        (pairs-done (DoesIfNamed command) place olds middles done)
+        pairs-then (Before (place + 1) (DoesIfNamed edition command)) (At (place + 1) (FailsHere command why))
+        (IsHalfDone edition command why place) (half-joins edition command why place) 1 olds middles news
+        (pairs-done (DoesIfNamed edition command) place olds middles done)
         (subst (λ (rows : List PartitionState). Pairwise (At (place + 1) (FailsHere command why)) 1 middles rows)
         (sym failed_news) (pairs-replaced (FailsHere command why) place middles changes.0 changes.1 within_middles
         failed_here changes.4))
@@ -180,8 +181,8 @@ module _ (command : Command) (place : ℕ) (olds middles : List PartitionState)
     quiet-halves can other =
         let next : 1 + other ≡ suc other = omega arith in
         subst (λ n. IfSome (slice_get news other) (IsQuietIfNamed command n)) next
-        (pairs-hold (IsHalfDone command why place) (CanDoIfNamed command) (IsQuietIfNamed command)
-        (λ number old new half can named. half-running command why place number old new half ∙ (can named).idle.0) 1
+        (pairs-hold (IsHalfDone edition command why place) (CanDoIfNamed command) (IsQuietIfNamed command)
+        (λ number old new half can named. half-running edition command why place number old new half ∙ (can named).idle.0) 1
         olds news halves (λ p.
         let first : suc p ≡ 1 + p = omega arith in
         subst (λ n. IfSome (slice_get olds p) (CanDoIfNamed command n)) first (can p)) other)
@@ -189,8 +190,8 @@ module _ (command : Command) (place : ℕ) (olds middles : List PartitionState)
     module _ (last : List PartitionState) (undone : IsDoneUpTo (UndoesIfNamed command) place news last) where
       pub left-all : Pairwise (LeavesIfNamed command) 1 olds last
       left-all =
-          pairs-then (IsHalfDone command why place) (Before (place + 1) (UndoesIfNamed command)) (LeavesIfNamed command)
-          (half-left command why place) 1 olds news last halves (pairs-done (UndoesIfNamed command) place news last undone)
+          pairs-then (IsHalfDone edition command why place) (Before (place + 1) (UndoesIfNamed command)) (LeavesIfNamed command)
+          (half-left edition command why place) 1 olds news last halves (pairs-done (UndoesIfNamed command) place news last undone)
 
       pub why-not : IsWhyNotDone olds last why
       why-not = elim changes.4.2 [
@@ -205,7 +206,7 @@ module _ (command : Command) (place : ℕ) (olds middles : List PartitionState)
           news_count = ap length failed_news ∙ length-set middles place changes.1 ∙ done.count
 
           is_old : changes.0 ≡ slice_index_or olds place changes.0
-          is_old = done-here (DoesIfNamed command) place olds middles done within_middles changes.0 failed_here
+          is_old = done-here (DoesIfNamed edition command) place olds middles done within_middles changes.0 failed_here
 
           is_new : changes.1 ≡ slice_index_or last place changes.1
           is_new =
@@ -216,20 +217,20 @@ module _ (command : Command) (place : ℕ) (olds middles : List PartitionState)
   -- ---- one more
 
   module _ (reply : Option Reply) (news : List PartitionState)
-      (changes : ChangesAt (λ old new. DoesHere command (place + 1) old new reply) (place + 1 - 1) middles news) where
+      (changes : ChangesAt (λ old new. DoesHere edition command (place + 1) old new reply) (place + 1 - 1) middles news) where
     here : changes.0 ≡ slice_index_or middles place changes.0
     here = subst (λ n. changes.0 ≡ slice_index_or middles n changes.0) back changes.2
 
-    pub done-step : IsDoneUpTo (DoesIfNamed command) (place + 1) olds news
+    pub done-step : IsDoneUpTo (DoesIfNamed edition command) (place + 1) olds news
     done-step =
-        subst (λ (rows : List PartitionState). IsDoneUpTo (DoesIfNamed command) (place + 1) olds rows)
+        subst (λ (rows : List PartitionState). IsDoneUpTo (DoesIfNamed edition command) (place + 1) olds rows)
         (sym (subst (λ n. news ≡ slice_set middles n changes.1) back changes.3))
-        (done-more (DoesIfNamed command) place olds middles done within_middles changes.0 changes.1 (sym here)
+        (done-more (DoesIfNamed edition command) place olds middles done within_middles changes.0 changes.1 (sym here)
         (reply, changes.4))
 
     module _ (lists : Lists) (are : ArePartitions lists olds) (answer : Option Reply) where
       is_old : changes.0 ≡ slice_index_or olds place changes.0
-      is_old = done-here (DoesIfNamed command) place olds middles done within_middles changes.0 here
+      is_old = done-here (DoesIfNamed edition command) place olds middles done within_middles changes.0 here
 
       number_is : changes.0.warehouse ≡ place + 1
       number_is =
@@ -239,32 +240,32 @@ module _ (command : Command) (place : ℕ) (olds middles : List PartitionState)
       elsewhere : customer_home_of command ≢ place + 1 → option_or reply answer ≡ answer
       elsewhere other =
           ap (λ (r : Option Reply). option_or r answer)
-          (no-reply command (place + 1) changes.0 changes.1 reply number_is changes.4 other)
+          (no-reply edition command (place + 1) changes.0 changes.1 reply number_is changes.4 other)
 
       pub answer-early : (place < customer_home_of command → answer ≡ None) → place + 1 < customer_home_of command
           → option_or reply answer ≡ None
       answer-early early before =
           elsewhere (λ same. omega (arith, same, before)) ∙ early (omega (arith, before))
 
-      at_home : customer_home_of command ≡ place + 1 → RepliesFrom command olds (option_or reply answer)
+      at_home : customer_home_of command ≡ place + 1 → RepliesFrom edition command olds (option_or reply answer)
       at_home same =
-          let replies = replies-here (layout_of changes.0) command (rows_now changes.0) (same ∙ sym number_is) in
-          let is_reply = reply-home command (place + 1) changes.0 changes.1 reply changes.4 same in
+          let replies = replies-here (layout_of changes.0) edition command (rows_now changes.0) (same ∙ sym number_is) in
+          let is_reply = reply-home edition command (place + 1) changes.0 changes.1 reply changes.4 same in
           let first : customer_home_of command - 1 ≡ place = omega (arith, same) in
-          held-at (λ p. option_or reply answer ≡ reply_of_part (layout_of p) command (rows_now p)) olds
+          held-at (λ p. option_or reply answer ≡ reply_of_part (layout_of p) edition command (rows_now p)) olds
           (customer_home_of command - 1) changes.0 (omega (arith, first, within))
           (subst (λ n. changes.0 ≡ slice_index_or olds n changes.0) (sym first) is_old)
           (ap (λ (r : Option Reply). option_or r answer) (is_reply ∙ replies.1) ∙ sym replies.1)
 
-      pub answer-late : (customer_home_of command ≤ place → RepliesFrom command olds answer)
-          → customer_home_of command ≤ place + 1 → RepliesFrom command olds (option_or reply answer)
+      pub answer-late : (customer_home_of command ≤ place → RepliesFrom edition command olds answer)
+          → customer_home_of command ≤ place + 1 → RepliesFrom edition command olds (option_or reply answer)
       answer-late late passed =
           elim (customer_home_of command == place + 1) as (λ b. (customer_home_of command == place + 1) ≡ b
-          → RepliesFrom command olds (option_or reply answer)) [
+          → RepliesFrom edition command olds (option_or reply answer)) [
             | true ↦ λ same. at_home (eqb-true (customer_home_of command) (place + 1) same)
             | false ↦ λ not_same.
                 let other : customer_home_of command ≢ place + 1 =
                 eqb-false (customer_home_of command) (place + 1) not_same in
-                subst (λ (r : Option Reply). RepliesFrom command olds r) (sym (elsewhere other))
+                subst (λ (r : Option Reply). RepliesFrom edition command olds r) (sym (elsewhere other))
                 (late (omega (arith, other, passed)))
           ] refl

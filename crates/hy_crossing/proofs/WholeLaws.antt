@@ -9,6 +9,7 @@ use Rattle.hy_schema.specs.declared.refusal.Refusal.{Refusal}
 use Rattle.hy_commands.specs.declared.command.Command.{Command}
 use Rattle.hy_commands.specs.declared.command.Commit.{Commit}
 use Rattle.hy_commands.specs.declared.command.Commit.TheVariants as commits
+use Rattle.hy_commands.specs.declared.edition.Edition.{Edition}
 use Rattle.hy_commands.specs.declared.reply.Reply.{Reply}
 use Rattle.hy_commands.specs.Commands.{home_of, warehouses_of}
 use Rattle.hy_commands.specs.Parts.{customer_home_of, with_number}
@@ -91,14 +92,15 @@ module _ (lists : Lists) (job : JobState) (log : Log) (parts : List PartitionSta
         → nat_lt 1 (length (warehouses_of numbered)) ≡ true
     several-all several = ap (λ (ws : List ℕ). nat_lt 1 (length ws)) same.warehouses ∙ several
 
-    module _ (middles : List PartitionState) (does : Pairwise (DoesIfNamed numbered) 1 parts middles)
+    module _ (edition : Edition) (middles : List PartitionState)
+        (does : Pairwise (DoesIfNamed edition numbered) 1 parts middles)
         (several : nat_lt 1 (length (warehouses_of job.command)) ≡ true) where
       pub partitions-here : ArePartitions lists middles
       partitions-here =
-          partitions-done job.command numbered same lists log parts middles informed (can-all several) does
+          partitions-done edition job.command numbered same lists log parts middles informed (can-all several) does
 
-      pub done-all : AreDone numbered log middles
-      done-all = are-done job.command numbered same lists log parts middles informed (can-all several) does
+      pub done-all : AreDone edition numbered log middles
+      done-all = are-done edition job.command numbered same lists log parts middles informed (can-all several) does
 
     pub refuses-late : (news : List PartitionState) (answer : DoneState) (pass : PassState Commit) (why : Refusal)
         → pass ≡ job.pass → Pairwise (LeavesIfNamed numbered) 1 parts news → IsWhyNotDone parts news why
@@ -114,28 +116,35 @@ module _ (lists : Lists) (job : JobState) (log : Log) (parts : List PartitionSta
     kept : numbered ≡ kept_in (database_behind lists log) job.command
     kept = is ∙ kept-is lists log job.command parts informed accepts number payer
 
-    pub accepts-all : (middles news : List PartitionState) (after : Log) (reply : Reply) (answer : DoneState)
-        (pass : PassState Commit) → pass ≡ job.pass → Pairwise (DoesIfNamed numbered) 1 parts middles
-        → Pairwise (KeepsPartIfNamed numbered (next_number log) after) 1 middles news
-        → RepliesFrom numbered parts (Some reply) → IsPrefix pass.seen log
-        → after ≡ log ++ crossing_entry numbered (length pass.seen) log ∷ []
+    pub accepts-all : (edition : Edition) (middles news : List PartitionState) (after : Log) (reply : Reply)
+        (answer : DoneState) (pass : PassState Commit) → edition ≡ job.edition → pass ≡ job.pass
+        → Pairwise (DoesIfNamed edition numbered) 1 parts middles
+        → Pairwise (KeepsPartIfNamed edition numbered (next_number log) after) 1 middles news
+        → RepliesFrom edition numbered parts (Some reply) → IsPrefix pass.seen log
+        → after ≡ log ++ crossing_entry edition numbered (length pass.seen) log ∷ []
         → answer ≡ record { reply = reply; pass = told pass after; share = share_of (home_of numbered) numbered }
         → AcceptsAll lists job log after parts news answer
-    accepts-all middles news after reply answer pass pass_is does keeps replies begins log_is answer_is = record {
+    accepts-all edition middles news after reply answer pass edition_is pass_is does keeps replies begins log_is answer_is = record {
       accepted = same-crossing_refusal lists log job.command parts ∙ accepts;
       client_told = subst (λ (p : PassState Commit). IsPrefix p.seen log) pass_is begins;
       log_is =
-          log_is ∙ ap (λ (p : PassState Commit). log ++ crossing_entry numbered (length p.seen) log ∷ []) pass_is
-          ∙ ap (λ (c : Command). log ++ crossing_entry c (length job.pass.seen) log ∷ []) kept;
-      parts = subst (λ (c : Command). Pairwise (KeepsIfNamed job.command (commits.Cross (next_number log) c) after) 1 parts
-          news) kept (keeps-all job.command numbered same (next_number log) after parts middles news does keeps);
+          log_is ∙ ap (λ (p : PassState Commit). log ++ crossing_entry edition numbered (length p.seen) log ∷ []) pass_is
+          ∙ ap (λ (c : Command). log ++ crossing_entry edition c (length job.pass.seen) log ∷ []) kept
+          ∙ ap (λ (e : Edition). log ++ crossing_entry e (kept_in (database_behind lists log) job.command)
+          (length job.pass.seen) log ∷ []) edition_is;
+      parts = subst (λ (e : Edition). Pairwise (KeepsIfNamed job.command (commits.Cross e (next_number log)
+          (kept_in (database_behind lists log) job.command)) after) 1 parts news) edition_is
+          (subst (λ (c : Command). Pairwise (KeepsIfNamed job.command (commits.Cross edition (next_number log) c) after) 1
+          parts news) kept (keeps-all edition job.command numbered same (next_number log) after parts middles news does keeps));
       answer_is =
           answer_is
           ∙ ap (λ (p : PassState Commit). made reply p (share_of (home_of numbered) numbered)) pass_is
           ∙ ap (λ (r : Reply). made r job.pass (share_of (home_of numbered) numbered))
-          (reply-is lists log job.command parts informed accepts partitions known number payer reply
-          (subst (λ (c : Command). RepliesFrom c parts (Some reply)) is replies))
-          ∙ ap (λ (s : Option ShareState). made (act_on_all job.command (database_behind lists log)).reply job.pass s)
+          (reply-is lists log job.command parts informed accepts partitions known number payer edition reply
+          (subst (λ (c : Command). RepliesFrom edition c parts (Some reply)) is replies))
+          ∙ ap (λ (e : Edition). made (act_on_all e job.command (database_behind lists log)).reply job.pass
+          (share_of (home_of numbered) numbered)) edition_is
+          ∙ ap (λ (s : Option ShareState). made (act_on_all job.edition job.command (database_behind lists log)).reply job.pass s)
           (same.share (home_of numbered) ∙ ap (λ h. share_of h job.command) same.home);
     }
       where

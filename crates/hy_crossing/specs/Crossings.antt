@@ -14,6 +14,7 @@ use Rattle.hy_commands.specs.declared.command.Commit.TheVariants as commits
 use Rattle.hy_passes.specs.declared.entry.Entry.{Entry}
 use Rattle.hy_passes.specs.SerialList.{numbers_of}
 use Rattle.hy_commands.specs.declared.command.Commit.{Commit}
+use Rattle.hy_commands.specs.declared.edition.Edition.{Edition}
 use Rattle.hy_commands.specs.Commands.{home_of, number_of, warehouses_of, warehouses_of_commit}
 use Rattle.hy_commands.specs.Parts.{Database, customer_home_of, database_of, refusal_in}
 use Rattle.hy_database.specs.Database.{act_on_all, database_after, kept_in}
@@ -128,12 +129,12 @@ pub record IsAsBefore (old new : PartitionState) : Type 0 where
   pub beside : KeepsBeside old new
 
 -- the part is done in a warehouse that the command names, and nothing in another one; with the reply
-abbrev pub DoesHere : Command → ℕ → PartitionState → PartitionState → Option Reply → Type 0
-DoesHere command number old new reply =
-    IfNamed command number (DoesPart command old new reply) ((new ≡ old) × (reply ≡ None))
+abbrev pub DoesHere : Edition → Command → ℕ → PartitionState → PartitionState → Option Reply → Type 0
+DoesHere edition command number old new reply =
+    IfNamed command number (DoesPart edition command old new reply) ((new ≡ old) × (reply ≡ None))
 
-abbrev pub DoesIfNamed : Command → ℕ → PartitionState → PartitionState → Type 0
-DoesIfNamed command number old new = (reply : Option Reply) × DoesHere command number old new reply
+abbrev pub DoesIfNamed : Edition → Command → ℕ → PartitionState → PartitionState → Type 0
+DoesIfNamed edition command number old new = (reply : Option Reply) × DoesHere edition command number old new reply
 
 -- it isn't done in a warehouse that the command names
 abbrev pub FailsHere : Command → Refusal → ℕ → PartitionState → PartitionState → Type 0
@@ -145,10 +146,10 @@ abbrev pub LeavesIfNamed : Command → ℕ → PartitionState → PartitionState
 LeavesIfNamed command number old new = IfNamed command number ((new ≡ old) ⊎ IsAsBefore old new) (new ≡ old)
 
 -- the reply is that of the warehouse whose customer the command names
-abbrev pub RepliesFrom : Command → List PartitionState → Option Reply → Type 0
-RepliesFrom command parts reply =
+abbrev pub RepliesFrom : Edition → Command → List PartitionState → Option Reply → Type 0
+RepliesFrom edition command parts reply =
     IfSome (slice_get parts (customer_home_of command - 1))
-    (λ p. reply ≡ reply_of_part (layout_of p) command (rows_now p))
+    (λ p. reply ≡ reply_of_part (layout_of p) edition command (rows_now p))
 
 -- one of the partitions lacked a frame
 abbrev pub SomeLacksFrame : List PartitionState → List PartitionState → Type 0
@@ -175,23 +176,23 @@ UndoesIfNamed command number old new = IfNamed command number (HasNoPart old new
 -- ---- parts that are kept
 
 -- the part of a command is done in a partition, and the serial list has the command behind what is kept
-abbrev pub IsReadyIfNamed : Command → ℕ → Log → ℕ → PartitionState → Type 0
-IsReadyIfNamed command crossing log number p =
-    is_named command number ≡ true → (p.part ≡ Some command)
-    × (projection_of p.warehouse log ≡ p.kept ++ commits.Cross crossing command ∷ [])
+abbrev pub IsReadyIfNamed : Edition → Command → ℕ → Log → ℕ → PartitionState → Type 0
+IsReadyIfNamed edition command crossing log number p =
+    is_named command number ≡ true → (p.part ≡ Some (record { edition = edition; command = command }))
+    × (projection_of p.warehouse log ≡ p.kept ++ commits.Cross edition crossing command ∷ [])
 
-abbrev pub AreReady : Command → ℕ → Log → List PartitionState → Type 0
-AreReady command crossing log parts =
-    (place : ℕ) → IfSome (slice_get parts place) (IsReadyIfNamed command crossing log (suc place))
+abbrev pub AreReady : Edition → Command → ℕ → Log → List PartitionState → Type 0
+AreReady edition command crossing log parts =
+    (place : ℕ) → IfSome (slice_get parts place) (IsReadyIfNamed edition command crossing log (suc place))
 
 -- it is kept where the command names the warehouse, with the share
-abbrev pub KeepsHere : Command → ℕ → Log → ℕ → PartitionState → PartitionState → Option ShareState → Type 0
-KeepsHere command crossing log number old new share =
-    IfNamed command number (KeepsPart command crossing log old new share) ((new ≡ old) × (share ≡ None))
+abbrev pub KeepsHere : Edition → Command → ℕ → Log → ℕ → PartitionState → PartitionState → Option ShareState → Type 0
+KeepsHere edition command crossing log number old new share =
+    IfNamed command number (KeepsPart edition command crossing log old new share) ((new ≡ old) × (share ≡ None))
 
-abbrev pub KeepsPartIfNamed : Command → ℕ → Log → ℕ → PartitionState → PartitionState → Type 0
-KeepsPartIfNamed command crossing log number old new =
-    (share : Option ShareState) × KeepsHere command crossing log number old new share
+abbrev pub KeepsPartIfNamed : Edition → Command → ℕ → Log → ℕ → PartitionState → PartitionState → Type 0
+KeepsPartIfNamed edition command crossing log number old new =
+    (share : Option ShareState) × KeepsHere edition command crossing log number old new share
 
 -- ---- a commit that enters the serial list
 
@@ -212,20 +213,22 @@ AreKnown command partitions parts =
     (place : ℕ) → IfSome (slice_get parts place) (IsKnownIfNamed command partitions (suc place))
 
 -- the part of a command is done there, and the serial list is known, as far as it goes
-abbrev pub IsDoneIfNamed : Command → Log → ℕ → PartitionState → Type 0
-IsDoneIfNamed command log number p =
-    is_named command number ≡ true → (p.part ≡ Some command) × (p.seen ≡ log) × (length p.kept < p.max_kept)
+abbrev pub IsDoneIfNamed : Edition → Command → Log → ℕ → PartitionState → Type 0
+IsDoneIfNamed edition command log number p =
+    is_named command number ≡ true → (p.part ≡ Some (record { edition = edition; command = command })) × (p.seen ≡ log) × (length p.kept < p.max_kept)
 
-abbrev pub AreDone : Command → Log → List PartitionState → Type 0
-AreDone command log parts = (place : ℕ) → IfSome (slice_get parts place) (IsDoneIfNamed command log (suc place))
+abbrev pub AreDone : Edition → Command → Log → List PartitionState → Type 0
+AreDone edition command log parts =
+    (place : ℕ) → IfSome (slice_get parts place) (IsDoneIfNamed edition command log (suc place))
 
 -- the next number among the commits of several warehouses, and what enters the serial list: the commit, stamped with what
 -- its client knew
 abbrev pub next_number : Log → ℕ
 next_number log = length (numbers_of warehouses_of_commit number_of log) + 1
 
-abbrev pub crossing_entry : Command → ℕ → Log → Entry Commit
-crossing_entry command stamp log = record { commit = commits.Cross (next_number log) command; stamp = stamp }
+abbrev pub crossing_entry : Edition → Command → ℕ → Log → Entry Commit
+crossing_entry edition command stamp log =
+    record { commit = commits.Cross edition (next_number log) command; stamp = stamp }
 
 -- ---- the whole command
 
@@ -286,7 +289,7 @@ pub record RefusesAll (lists : Lists) (job : JobState) (log after : Log) (old ne
 -- customer who pays named by number, and stamped with what its client knew
 abbrev pub entry_of : Lists → JobState → Log → Entry Commit
 entry_of lists job log =
-    crossing_entry (kept_in (database_behind lists log) job.command) (length job.pass.seen) log
+    crossing_entry job.edition (kept_in (database_behind lists log) job.command) (length job.pass.seen) log
 
 -- a partition has kept a commit behind all others, with the pages and frames of its part; its home alone enters it into
 -- its book
@@ -311,7 +314,7 @@ pub record AcceptsAll (lists : Lists) (job : JobState) (log after : Log) (old ne
   pub log_is : after ≡ log ++ entry_of lists job log ∷ []
   pub parts : Pairwise (KeepsIfNamed job.command (entry_of lists job log).commit after) 1 old new
   pub answer_is : answer ≡ record {
-    reply = (act_on_all job.command (database_behind lists log)).reply;
+    reply = (act_on_all job.edition job.command (database_behind lists log)).reply;
     pass = told job.pass after;
     share = share_of (home_of job.command) job.command;
   }

@@ -47,10 +47,11 @@ fn do_all<const N: usize, K: Loaded, P: Parts<Part = Partition<N, K>>>(
     ensures whole { HaveNoPart (P.states parts.new) }
 {
     know_named(parts, job.command());
+    let edition = job.edition();
     let (command, pass) = job.open();
     let numbered = command.with_number(number);
-    match do_parts(parts, &numbered) {
-        Ok(reply) => keep_all(parts, journal, numbered, pass, reply),
+    match do_parts(parts, edition, &numbered) {
+        Ok(reply) => keep_all(parts, journal, edition, numbered, pass, reply),
         Err(refusal) => Job::new(numbered, pass).refuse(refusal),
     }
 }

@@ -11,7 +11,7 @@ ghost use Rattle.hy_crossing.specs.Lists.{Pairwise};
 
 use crate::keeping::keep_parts;
 use crate::parts::Parts;
-use hy_commands::{Command, Commit, Reply};
+use hy_commands::{Command, Commit, Edition, Reply};
 use hy_partition::{Done, Loaded, Partition};
 use hy_passes::{Entry, Journal, Pass};
 
@@ -37,6 +37,7 @@ pub(crate) fn know_named<const N: usize, K: Loaded, P: Parts<Part = Partition<N,
 pub fn keep_all<const N: usize, K: Loaded, P: Parts<Part = Partition<N, K>>>(
     parts: &mut P,
     journal: &mut Journal<Commit, K>,
+    edition: Edition,
     command: Command,
     mut pass: Pass<Commit, K>,
     reply: Reply,
@@ -44,10 +45,10 @@ pub fn keep_all<const N: usize, K: Loaded, P: Parts<Part = Partition<N, K>>>(
     requires parts { ArePartitions K.load (P.states parts.old) }
     requires there { list_all (is_between 1 (length (P.states parts.old))) (warehouses_of command) ≡ true }
     requires several { nat_lt 1 (length (warehouses_of command)) ≡ true }
-    requires done { AreDone command journal.old.list.log (P.states parts.old) }
+    requires done { AreDone edition command journal.old.list.log (P.states parts.old) }
     ensures log { journal.new.list.log
-        ≡ journal.old.list.log ++ crossing_entry command (length pass.seen) journal.old.list.log ∷ [] }
-    ensures kept { Pairwise (KeepsPartIfNamed command (next_number journal.old.list.log) journal.new.list.log) 1
+        ≡ journal.old.list.log ++ crossing_entry edition command (length pass.seen) journal.old.list.log ∷ [] }
+    ensures kept { Pairwise (KeepsPartIfNamed edition command (next_number journal.old.list.log) journal.new.list.log) 1
         (P.states parts.old) (P.states parts.new) }
     ensures client { IsPrefix pass.seen journal.old.list.log }
     ensures answer { result ≡ record {
@@ -61,11 +62,17 @@ pub fn keep_all<const N: usize, K: Loaded, P: Parts<Part = Partition<N, K>>>(
     journal.tell_client(&mut pass);
     let crossing = journal.list.next_crossing();
     let entry = Entry {
-        commit: Commit::Cross(crossing, command),
+        commit: Commit::Cross(edition, crossing, command),
         stamp,
     };
     journal.list.append(&entry);
-    let share = keep_parts(parts, &mut journal.list, entry.commit.command(), crossing);
+    let share = keep_parts(
+        parts,
+        &mut journal.list,
+        edition,
+        entry.commit.command(),
+        crossing,
+    );
     journal.list.tell_client(&mut pass);
     Done::new(reply, pass, share)
 }

@@ -10,7 +10,7 @@ ghost use Rattle.hy_crossing.specs.Crossings.{ArePartitions, AreReady, IsPartiti
 ghost use Rattle.hy_crossing.specs.Lists.{ChangesAt, Pairwise};
 
 use crate::parts::Parts;
-use hy_commands::{Command, Commit};
+use hy_commands::{Command, Commit, Edition};
 use hy_ledger::Share;
 use hy_partition::{Loaded, Partition};
 use hy_passes::SerialList;
@@ -20,14 +20,15 @@ fn keep_here<const N: usize, K: Loaded, P: Parts<Part = Partition<N, K>>>(
     parts: &mut P,
     list: &mut SerialList<Commit, K>,
     number: u64,
+    edition: Edition,
     command: &Command,
     crossing: u64,
 ) -> Option<Share<K>>
     requires there { IsBetween 1 (length (P.states parts.old)) number }
     requires is { IfSome (slice_get (P.states parts.old) (number - 1)) (IsPartition K.load number) }
     requires ready { IfSome (slice_get (P.states parts.old) (number - 1))
-        (IsReadyIfNamed command.now crossing list.old.log number) }
-    ensures kept { ChangesAt (λ old new. KeepsHere command.now crossing list.old.log number old new result) (number - 1)
+        (IsReadyIfNamed edition command.now crossing list.old.log number) }
+    ensures kept { ChangesAt (λ old new. KeepsHere edition command.now crossing list.old.log number old new result) (number - 1)
         (P.states parts.old) (P.states parts.new) }
     ensures log { list.new.log ≡ list.old.log }
     ensures behind { list.new.behind ≡ (if is_named command.now number
@@ -54,14 +55,15 @@ fn note_share<K: Loaded>(share: &mut Option<Share<K>>, given: Option<Share<K>>)
 pub fn keep_parts<const N: usize, K: Loaded, P: Parts<Part = Partition<N, K>>>(
     parts: &mut P,
     list: &mut SerialList<Commit, K>,
+    edition: Edition,
     command: &Command,
     crossing: u64,
 ) -> Option<Share<K>>
     requires parts { ArePartitions K.load (P.states parts.old) }
     requires there { list_all (is_between 1 (length (P.states parts.old))) (warehouses_of command.now) ≡ true }
-    requires ready { AreReady command.now crossing list.old.log (P.states parts.old) }
+    requires ready { AreReady edition command.now crossing list.old.log (P.states parts.old) }
     requires behind { list.old.behind ≡ warehouses_of command.now }
-    ensures kept { Pairwise (KeepsPartIfNamed command.now crossing list.old.log) 1 (P.states parts.old)
+    ensures kept { Pairwise (KeepsPartIfNamed edition command.now crossing list.old.log) 1 (P.states parts.old)
         (P.states parts.new) }
     ensures share { result ≡ share_of (home_of command.now) command.now }
     ensures log { list.new.log ≡ list.old.log }
@@ -69,7 +71,7 @@ pub fn keep_parts<const N: usize, K: Loaded, P: Parts<Part = Partition<N, K>>>(
 {
     let mut share = None;
     for place in 0..parts.len() {
-        let given = keep_here(parts, list, place as u64 + 1, command, crossing);
+        let given = keep_here(parts, list, place as u64 + 1, edition, command, crossing);
         note_share(&mut share, given);
     }
     share

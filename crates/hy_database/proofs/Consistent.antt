@@ -13,7 +13,7 @@ use Rattle.hy_schema.specs.Keys.{district_key, district_numbers}
 use Rattle.hy_schema.specs.Loads.{IsLoad}
 use Rattle.hy_schema.specs.Related.{is_order}
 use Rattle.hy_commands.specs.declared.command.Commit.{Commit}
-use Rattle.hy_commands.specs.Commands.{warehouses_of_commit}
+use Rattle.hy_commands.specs.Commands.{edition_of, warehouses_of_commit}
 use Rattle.hy_commands.specs.Invariant.{HasOrder, HasOrderAndItem, IsOwnOrder, IsSoundWarehouse}
 use Rattle.hy_commands.specs.Parts.{Database, database_of, is_there, rows_of}
 use Rattle.hy_commands.specs.Replay.{HasWarehouse}
@@ -86,7 +86,7 @@ module _ (lists : Lists) (is_load : IsLoad lists) where
       let does = does-committed database commit in
       paid-from (before ++ commit ∷ []) (committed_in database commit) commits
       (replay-committed lists before database commit replays)
-      (paid-does database (committed_in database commit) does.0 does.1 does.2
+      (paid-does database (committed_in database commit) does.0 (edition_of commit) does.1 does.2
       (λ number there. (sound-there before database replays number there).rows) paid)
 
   pub consistent-after : (commits : List Commit) → first_broken (all_rows (database_after lists commits)) ≡ None

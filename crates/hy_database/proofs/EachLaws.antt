@@ -8,6 +8,7 @@ use Rattle.hy_schema.specs.declared.refusal.Refusal.{Refusal}
 use Rattle.hy_commands.specs.declared.command.Command.{Command}
 use Rattle.hy_commands.specs.declared.command.Commit.{Commit}
 use Rattle.hy_commands.specs.declared.command.Commit.TheVariants as commits
+use Rattle.hy_commands.specs.declared.edition.Edition.{Edition}
 use Rattle.hy_commands.specs.Parts.{Database, database_of, refusal_in, rows_of}
 use Rattle.hy_commands.proofs.DatabaseLaws.{length-database}
 use Rattle.hy_database.specs.Database.{committed_in, database_after, each_changed, parts_done, with_each}
@@ -44,24 +45,26 @@ module _ (change : ℕ → Tables → Tables) where
 -- ---- commits
 
 -- no warehouse comes or goes, and no item
-count-parts : (refusal : Option Refusal) (command : Command) (database : Database)
-    → length (parts_done refusal command database).warehouses ≡ length database.warehouses
-count-parts (Some why) command database = refl
-count-parts None command database = length-each _ 1 database.warehouses
+count-parts : (refusal : Option Refusal) (edition : Edition) (command : Command) (database : Database)
+    → length (parts_done refusal edition command database).warehouses ≡ length database.warehouses
+count-parts (Some why) edition command database = refl
+count-parts None edition command database = length-each _ 1 database.warehouses
 
 pub count-committed : (database : Database) (commit : Commit)
     → length (committed_in database commit).warehouses ≡ length database.warehouses
-count-committed database (commits.Local command) = length-each _ 1 database.warehouses
-count-committed database (commits.Cross number command) = count-parts (refusal_in database command) command database
+count-committed database (commits.Local edition command) = length-each _ 1 database.warehouses
+count-committed database (commits.Cross edition number command) =
+    count-parts (refusal_in database command) edition command database
 
-items-parts : (refusal : Option Refusal) (command : Command) (database : Database)
-    → (parts_done refusal command database).items ≡ database.items
-items-parts (Some why) command database = refl
-items-parts None command database = refl
+items-parts : (refusal : Option Refusal) (edition : Edition) (command : Command) (database : Database)
+    → (parts_done refusal edition command database).items ≡ database.items
+items-parts (Some why) edition command database = refl
+items-parts None edition command database = refl
 
 pub items-committed : (database : Database) (commit : Commit) → (committed_in database commit).items ≡ database.items
-items-committed database (commits.Local command) = refl
-items-committed database (commits.Cross number command) = items-parts (refusal_in database command) command database
+items-committed database (commits.Local edition command) = refl
+items-committed database (commits.Cross edition number command) =
+    items-parts (refusal_in database command) edition command database
 
 count-fold : (database : Database) (commits : List Commit)
     → length (fold committed_in database commits).warehouses ≡ length database.warehouses

@@ -5,6 +5,7 @@ use Rattle.hy_rows.specs.Tables.{Tables}
 use Rattle.hy_commands.specs.declared.command.Command.{Command}
 use Rattle.hy_commands.specs.declared.command.Command.TheVariants as commands
 use Rattle.hy_commands.specs.declared.command.Commit.TheVariants as commits
+use Rattle.hy_commands.specs.declared.edition.Edition.{Edition}
 use Rattle.hy_commands.specs.Parts.{Database, refusal_in}
 use Rattle.hy_commands.proofs.AcceptedLaws.{IsAcceptedIn, accepted-in}
 use Rattle.hy_database.specs.Database.{act_on_all, committed_in, customer_rows, kept_in, parts_done, whole_outcome}
@@ -40,9 +41,11 @@ kept-accepted database command accepted =
     (kept-passed database command (accepted-in database command accepted))
 
 -- what a database does with a command is what the commit that it keeps does
-pub act-kept : (database : Database) (command : Command) (number : ℕ) → refusal_in database command ≡ None
-    → (act_on_all command database).database ≡ committed_in database (commits.Cross number (kept_in database command))
-act-kept database command number accepted =
-    ap (λ refusal. (whole_outcome refusal command database).database) accepted
-    ∙ sym (ap (λ refusal. parts_done refusal (kept_in database command) database)
+pub act-kept : (database : Database) (edition : Edition) (command : Command) (number : ℕ)
+    → refusal_in database command ≡ None
+    → (act_on_all edition command database).database
+    ≡ committed_in database (commits.Cross edition number (kept_in database command))
+act-kept database edition command number accepted =
+    ap (λ refusal. (whole_outcome refusal edition command database).database) accepted
+    ∙ sym (ap (λ refusal. parts_done refusal edition (kept_in database command) database)
     (kept-accepted database command accepted))

@@ -25,6 +25,7 @@ use Rattle.hy_commands.specs.declared.command.Command.{Command}
 use Rattle.hy_commands.specs.declared.command.Command.TheVariants as commands
 use Rattle.hy_commands.specs.declared.command.Delivery.{Delivery}
 use Rattle.hy_commands.specs.declared.command.Payment.{Payment}
+use Rattle.hy_commands.specs.declared.edition.Edition.{Edition}
 use Rattle.hy_commands.specs.Commands.{home_of}
 use Rattle.hy_commands.specs.Deliveries.{customer_delivered, delivered, delivered_in, oldest, with_delivered}
 use Rattle.hy_commands.specs.NewOrders.{ordered}
@@ -75,14 +76,15 @@ cents_for (commands.Payment payment) customer =
 cents_for command customer = pos 0
 
 -- a payment adds its row at home, and changes its customer at the customer's warehouse
-payment-history : (number : ℕ) (payment : Payment) (tables : Tables)
-    → (payment_part number payment tables).history
+payment-history : (number : ℕ) (edition : Edition) (payment : Payment) (tables : Tables)
+    → (payment_part number edition payment tables).history
     ≡ cond (payment.warehouse == number) (tables.history ++ history_row payment (number_in payment.who) tables ∷ [])
     tables.history
-payment-history number payment tables =
+payment-history number edition payment tables =
     let customer : ℕ = number_in payment.who in
     elim (payment.customer_warehouse == number) as (λ b.
-    (cond b (paid_by payment customer (cond (payment.warehouse == number) (paid_in payment customer tables) tables))
+    (cond b
+    (paid_by edition payment customer (cond (payment.warehouse == number) (paid_in payment customer tables) tables))
     (cond (payment.warehouse == number) (paid_in payment customer tables) tables)).history
     ≡ cond (payment.warehouse == number) (tables.history ++ history_row payment customer tables ∷ []) tables.history) [
       | true ↦ by (payment.warehouse == number)
@@ -94,31 +96,31 @@ payment-history number payment tables =
     by true = refl
     by false = refl
 
-payment-customers : (number : ℕ) (payment : Payment) (tables : Tables)
-    → (payment_part number payment tables).customers
+payment-customers : (number : ℕ) (edition : Edition) (payment : Payment) (tables : Tables)
+    → (payment_part number edition payment tables).customers
     ≡ cond (payment.customer_warehouse == number)
     (with_changed (is_customer payment.customer_warehouse payment.customer_district (number_in payment.who))
-    (customer_paid payment.amount) tables.customers) tables.customers
-payment-customers number payment tables =
+    (customer_paid edition payment) tables.customers) tables.customers
+payment-customers number edition payment tables =
     let customer : ℕ = number_in payment.who in
     elim (payment.warehouse == number) as (λ b.
     (cond (payment.customer_warehouse == number)
-    (paid_by payment customer (cond b (paid_in payment customer tables) tables))
+    (paid_by edition payment customer (cond b (paid_in payment customer tables) tables))
     (cond b (paid_in payment customer tables) tables)).customers
     ≡ cond (payment.customer_warehouse == number)
     (with_changed (is_customer payment.customer_warehouse payment.customer_district customer)
-    (customer_paid payment.amount) tables.customers) tables.customers) [
+    (customer_paid edition payment) tables.customers) tables.customers) [
       | true ↦ by (payment.customer_warehouse == number) (paid_in payment customer tables) refl
       | false ↦ by (payment.customer_warehouse == number) tables refl
     ]
   where
     by : (own : Bool) (rows : Tables) → rows.customers ≡ tables.customers
-        → (cond own (paid_by payment (number_in payment.who) rows) rows).customers
+        → (cond own (paid_by edition payment (number_in payment.who) rows) rows).customers
         ≡ cond own (with_changed (is_customer payment.customer_warehouse payment.customer_district
-        (number_in payment.who)) (customer_paid payment.amount) tables.customers) tables.customers
+        (number_in payment.who)) (customer_paid edition payment) tables.customers) tables.customers
     by true rows same =
         ap (with_changed (is_customer payment.customer_warehouse payment.customer_district (number_in payment.who))
-        (customer_paid payment.amount)) same
+        (customer_paid edition payment)) same
     by false rows same = same
 
 -- a delivery makes no payment, and changes other columns of customers
@@ -173,13 +175,13 @@ same-key : (customer : Customer) (warehouse district number : ℕ)
 same-key customer warehouse district number = grind (arith, nat_tests)
 
 -- what was paid for a customer in a warehouse grows at the command's home, by what it pays for the customer
-module _ (items : List Item) (number : ℕ) (customer : Customer) where
+module _ (items : List Item) (number : ℕ) (edition : Edition) (customer : Customer) where
   abbrev paid_here : Tables → ℤ
   paid_here tables = paid_amount (payments_by customer tables.history)
 
   abbrev PaysHere : Command → Tables → Type 0
   PaysHere command tables =
-      paid_here (part items number command tables)
+      paid_here (part items number edition command tables)
       ≡ paid_here tables +ℤ cond (home_of command == number) (cents_for command customer) (pos 0)
 
   nothing : (home : Bool) (sum : ℤ) → sum ≡ sum +ℤ cond home (pos 0) (pos 0)
@@ -198,7 +200,7 @@ module _ (items : List Item) (number : ℕ) (customer : Customer) where
       let counts : is_payment_by customer row
       ≡ is_customer payment.customer_warehouse payment.customer_district (number_in payment.who) customer =
       same-key customer payment.customer_warehouse payment.customer_district (number_in payment.who) in
-      ap (λ history. paid_amount (payments_by customer history)) (payment-history number payment tables)
+      ap (λ history. paid_amount (payments_by customer history)) (payment-history number edition payment tables)
       ∙ elim (payment.warehouse == number) as (λ b.
       paid_amount (payments_by customer (cond b (tables.history ++ row ∷ []) tables.history))
       ≡ paid_here tables +ℤ cond b (cents_for (commands.Payment payment) customer) (pos 0)) [
@@ -218,26 +220,26 @@ module _ (items : List Item) (number : ℕ) (customer : Customer) where
   part-pays (commands.StockLevel level) tables = nothing (level.warehouse == number) (paid_here tables)
 
 -- each payment stands where it was made
-part-history : (items : List Item) (number : ℕ) (command : Command) (tables : Tables)
+part-history : (items : List Item) (number : ℕ) (edition : Edition) (command : Command) (tables : Tables)
     → All (λ row. row.warehouse ≡ number) tables.history
-    → All (λ row. row.warehouse ≡ number) (part items number command tables).history
-part-history items number (commands.NewOrder order) tables own =
+    → All (λ row. row.warehouse ≡ number) (part items number edition command tables).history
+part-history items number edition (commands.NewOrder order) tables own =
     elim (order.warehouse == number) as (λ b.
     All (λ row. row.warehouse ≡ number) (cond b (ordered items order tables) tables).history) [
       | true ↦ own
       | false ↦ own
     ]
-part-history items number (commands.Payment payment) tables own =
+part-history items number edition (commands.Payment payment) tables own =
     let row : History = history_row payment (number_in payment.who) tables in
-    subst (All (λ (row : History). row.warehouse ≡ number)) (sym (payment-history number payment tables))
+    subst (All (λ (row : History). row.warehouse ≡ number)) (sym (payment-history number edition payment tables))
     (elim (payment.warehouse == number) as (λ b. (payment.warehouse == number) ≡ b
     → All (λ row. row.warehouse ≡ number) (cond b (tables.history ++ row ∷ []) tables.history)) [
       | true ↦ λ home.
           All-push (λ row. row.warehouse ≡ number) tables.history row own (eqb-true payment.warehouse number home)
       | false ↦ λ other. own
     ] refl)
-part-history items number (commands.OrderStatus status) tables own = own
-part-history items number (commands.Delivery delivery) tables own =
+part-history items number edition (commands.OrderStatus status) tables own = own
+part-history items number edition (commands.Delivery delivery) tables own =
     elim (delivery.warehouse == number) as (λ b.
     All (λ row. row.warehouse ≡ number) (cond b (delivered delivery tables) tables).history) [
       | true ↦
@@ -245,7 +247,7 @@ part-history items number (commands.Delivery delivery) tables own =
           (sym (delivered-history delivery district_numbers tables)) own
       | false ↦ own
     ]
-part-history items number (commands.StockLevel level) tables own = own
+part-history items number edition (commands.StockLevel level) tables own = own
 
 -- ---- what it does to customers
 
@@ -256,12 +258,12 @@ module _ (database after : Database) (command : Command)
   unpaid row none before = omega (arith, ints, grown row, none, before)
 
 -- the customers of a warehouse have what was paid for them, after the part of a command too
-module _ (items : List Item) (number : ℕ) (tables : Tables) (rows : IsOneWarehouse number tables)
+module _ (items : List Item) (number : ℕ) (edition : Edition) (tables : Tables) (rows : IsOneWarehouse number tables)
     (database after : Database) where
   part-customers : (command : Command)
       → ((row : Customer) → paid_for after row ≡ paid_for database row +ℤ cents_for command row)
       → All (HasPaid database) tables.customers
-      → All (HasPaid after) (part items number command tables).customers
+      → All (HasPaid after) (part items number edition command tables).customers
   part-customers (commands.NewOrder order) grown all =
       let paid = All-weaker (HasPaid database) (HasPaid after)
       (λ row before. unpaid database after (commands.NewOrder order) grown row refl before) tables.customers all in
@@ -273,13 +275,13 @@ module _ (items : List Item) (number : ℕ) (tables : Tables) (rows : IsOneWareh
   part-customers (commands.Payment payment) grown all =
       let payer : Customer → Bool =
       is_customer payment.customer_warehouse payment.customer_district (number_in payment.who) in
-      subst (All (HasPaid after)) (sym (payment-customers number payment tables))
+      subst (All (HasPaid after)) (sym (payment-customers number edition payment tables))
       (elim (payment.customer_warehouse == number) as (λ b. (payment.customer_warehouse == number) ≡ b
       → All (HasPaid after)
-      (cond b (with_changed payer (customer_paid payment.amount) tables.customers) tables.customers)) [
+      (cond b (with_changed payer (customer_paid edition payment) tables.customers) tables.customers)) [
         | true ↦ λ own.
             All-changed_once (HasPaid database) (HasPaid after)
-            payer (customer_paid payment.amount) tables.customers
+            payer (customer_paid edition payment) tables.customers
             (once-customer payment.customer_warehouse payment.customer_district (number_in payment.who) tables.customers
             rows.unique)
             (λ row passes found before.
@@ -316,7 +318,8 @@ module _ (items : List Item) (number : ℕ) (tables : Tables) (rows : IsOneWareh
 
 -- ---- commits
 
-module _ (database after : Database) (command : Command) (does : Does database after None command) where
+module _ (database after : Database) (edition : Edition) (command : Command)
+    (does : Does database after None edition command) where
   -- in all warehouses together, what was paid for a customer grows by what the command pays
   total-grows : (customer : Customer)
       → paid_for after customer ≡ paid_for database customer +ℤ cents_for command customer
@@ -329,11 +332,11 @@ module _ (database after : Database) (command : Command) (does : Does database a
       (λ number is.
       ap (λ (tables : Tables). paid_amount (payments_by customer tables.history))
       (does.rows number (there-numbered database number is))
-      ∙ part-pays database.items number customer command (rows_of number database))
+      ∙ part-pays database.items number edition customer command (rows_of number database))
 
 -- where nothing is done, nothing is paid
-module _ (database after : Database) (why : Refusal) (command : Command)
-    (does : Does database after (Some why) command) where
+module _ (database after : Database) (why : Refusal) (edition : Edition) (command : Command)
+    (does : Does database after (Some why) edition command) where
   total-same : (customer : Customer) → paid_for after customer ≡ paid_for database customer
   total-same customer =
       ap (λ n. column_sum (paid_at after customer) (range_with_len 1 n)) does.count
@@ -341,11 +344,11 @@ module _ (database after : Database) (why : Refusal) (command : Command)
       (λ number is. ap (λ (tables : Tables). paid_amount (payments_by customer tables.history))
       (does.rows number (there-numbered database number is)))
 
-pub paid-does : (database after : Database) (refusal : Option Refusal) (command : Command)
-    → Does database after refusal command
+pub paid-does : (database after : Database) (refusal : Option Refusal) (edition : Edition) (command : Command)
+    → Does database after refusal edition command
     → ((number : ℕ) → IsTrue (is_there database number) → IsOneWarehouse number (rows_of number database))
     → IsPaid database → IsPaid after
-paid-does database after (Some why) command does whole paid =
+paid-does database after (Some why) edition command does whole paid =
     let back : (number : ℕ) → IsTrue (is_there after number) → IsTrue (is_there database number) =
     λ number there. subst (λ n. IsBetween 1 n number) does.count there in
     record {
@@ -356,21 +359,22 @@ paid-does database after (Some why) command does whole paid =
           subst (λ (tables : Tables). All (HasPaid after) tables.customers)
           (sym (does.rows number (back number there)))
           (All-weaker (HasPaid database) (HasPaid after)
-          (λ row before. before ∙ sym (total-same database after why command does row)) _
+          (λ row before. before ∙ sym (total-same database after why edition command does row)) _
           (paid.paid number (back number there)));
     }
-paid-does database after None command does whole paid =
+paid-does database after None edition command does whole paid =
     let back : (number : ℕ) → IsTrue (is_there after number) → IsTrue (is_there database number) =
     λ number there. subst (λ n. IsBetween 1 n number) does.count there in
     record {
       history = λ number there.
           subst (λ (tables : Tables). All (λ row. row.warehouse ≡ number) tables.history)
           (sym (does.rows number (back number there)))
-          (part-history database.items number command (rows_of number database)
+          (part-history database.items number edition command (rows_of number database)
           (paid.history number (back number there)));
       paid = λ number there.
           subst (λ (tables : Tables). All (HasPaid after) tables.customers)
           (sym (does.rows number (back number there)))
-          (part-customers database.items number (rows_of number database) (whole number (back number there)) database
-          after command (total-grows database after command does) (paid.paid number (back number there)));
+          (part-customers database.items number edition (rows_of number database) (whole number (back number there))
+          database after command (total-grows database after edition command does)
+          (paid.paid number (back number there)));
     }

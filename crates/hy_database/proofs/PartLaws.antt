@@ -14,14 +14,18 @@ use Rattle.hy_schema.proofs.ChangedLists.{All-passing_also}
 use Rattle.hy_schema.specs.declared.refusal.Refusal.{Refusal}
 use Rattle.hy_commands.specs.declared.command.Command.{Command}
 use Rattle.hy_commands.specs.declared.command.Command.TheVariants as commands
+use Rattle.hy_commands.specs.declared.command.Payment.{Payment}
 use Rattle.hy_commands.specs.declared.command.PurchaseLine.{PurchaseLine}
 use Rattle.hy_commands.specs.declared.command.Who.{Who}
 use Rattle.hy_commands.specs.declared.command.Who.TheVariants as who
+use Rattle.hy_commands.specs.declared.edition.Edition.{Edition}
+use Rattle.hy_commands.specs.declared.edition.Edition.TheVariants as editions
 use Rattle.hy_commands.specs.Commands.{home_of, is_in_range, warehouses_of}
 use Rattle.hy_commands.specs.Customers.{customer_meant, is_earlier, is_named}
 use Rattle.hy_commands.specs.Parts.{by_number, customer_home_of, part}
+use Rattle.hy_commands.specs.Payments.{paid_by, paid_in}
 use Rattle.hy_commands.specs.Sorting.{inserted, sorted}
-use Rattle.hy_commands.specs.Transactions.{accepted, act, has_customer, outcome_of, refusal_of}
+use Rattle.hy_commands.specs.Transactions.{accepted, act, has_customer, outcome_of, payer, refusal_of}
 use Rattle.hy_commands.proofs.AcceptedLaws.{IsAccepted, accepted-delivery, accepted-payment, accepted-purchase, named-payment, named-purchase, own-payer}
 use Rattle.hy_commands.proofs.ListLaws.{filter-none, find-passes, found-any}
 use Rattle.hy_commands.proofs.NamedLaws.{first-named, named-accepted}
@@ -63,9 +67,10 @@ unnamed-home number command unnamed =
     (named-home (is_apart number) command (all-fail (λ named. named == number) (warehouses_of command) unnamed))
 
 -- the part of a command changes nothing there
-pub part-unnamed : (items : List Item) (number : ℕ) (command : Command) (tables : Tables)
-    → list_any (λ named. named == number) (warehouses_of command) ≡ false → part items number command tables ≡ tables
-part-unnamed items number (commands.NewOrder order) tables unnamed =
+pub part-unnamed : (items : List Item) (number : ℕ) (edition : Edition) (command : Command) (tables : Tables)
+    → list_any (λ named. named == number) (warehouses_of command) ≡ false
+    → part items number edition command tables ≡ tables
+part-unnamed items number edition (commands.NewOrder order) tables unnamed =
     let all = all-fail (λ named. named == number) (warehouses_of (commands.NewOrder order)) unnamed in
     let apart = named-purchase (is_apart number) order all in
     let none : filter (λ line. line.supply_warehouse == number) order.lines ≡ [] =
@@ -74,14 +79,14 @@ part-unnamed items number (commands.NewOrder order) tables unnamed =
     (λ (line : PurchaseLine). (line.supply_warehouse == number) ≡ false)
     (λ line apart. not-true (line.supply_warehouse == number) apart) order.lines apart.1) in
     rw (not-true (order.warehouse == number) apart.0, none) refl
-part-unnamed items number (commands.Payment payment) tables unnamed =
+part-unnamed items number edition (commands.Payment payment) tables unnamed =
     let all = all-fail (λ named. named == number) (warehouses_of (commands.Payment payment)) unnamed in
     let apart = named-payment (is_apart number) payment all in
     rw (not-true (payment.warehouse == number) apart.0, not-true (payment.customer_warehouse == number) apart.1) refl
-part-unnamed items number (commands.OrderStatus status) tables unnamed = refl
-part-unnamed items number (commands.Delivery delivery) tables unnamed =
+part-unnamed items number edition (commands.OrderStatus status) tables unnamed = refl
+part-unnamed items number edition (commands.Delivery delivery) tables unnamed =
     rw (unnamed-home number (commands.Delivery delivery) unnamed) refl
-part-unnamed items number (commands.StockLevel level) tables unnamed = refl
+part-unnamed items number edition (commands.StockLevel level) tables unnamed = refl
 
 -- ---- a command that names one warehouse
 
@@ -95,12 +100,12 @@ home-accepted items number command tables none =
     cc
 
 -- a warehouse that isn't the home refuses a command
-pub act-elsewhere : (items : List Item) (number : ℕ) (command : Command) (tables : Tables)
-    → (home_of command == number) ≡ false → (act items number command tables).tables ≡ tables
-act-elsewhere items number command tables other = by (refusal_of items number command tables) refl
+pub act-elsewhere : (items : List Item) (number : ℕ) (edition : Edition) (command : Command) (tables : Tables)
+    → (home_of command == number) ≡ false → (act items number edition command tables).tables ≡ tables
+act-elsewhere items number edition command tables other = by (refusal_of items number command tables) refl
   where
     by : (refusal : Option Refusal) → refusal_of items number command tables ≡ refusal
-        → (outcome_of refusal items number command tables).tables ≡ tables
+        → (outcome_of refusal items number edition command tables).tables ≡ tables
     by (Some why) is = refl
     by None is = absurd (both_ways (home_of command == number) other
         (eq-eqb (home_of command) number (home-accepted items number command tables is)))
@@ -230,19 +235,28 @@ by_number-home (commands.OrderStatus status) tables = refl
 by_number-home (commands.Delivery delivery) tables = refl
 by_number-home (commands.StockLevel level) tables = refl
 
+-- what a payment does to its customer doesn't depend on how it names the customer
+paid_by-named : (edition : Edition) (payment : Payment) (meant : Who) (customer : ℕ) (tables : Tables)
+    → paid_by edition payment customer tables ≡ paid_by edition (record payment { who = meant }) customer tables
+paid_by-named editions.First payment meant customer tables = refl
+paid_by-named editions.Second payment meant customer tables = refl
+
 -- what an accepted command does to the one warehouse that it names is its part there
-pub accepted-part : (items : List Item) (number : ℕ) (command : Command) (tables : Tables)
+pub accepted-part : (items : List Item) (number : ℕ) (edition : Edition) (command : Command) (tables : Tables)
     → IsAccepted items number command tables
-    → (accepted items number command tables).tables ≡ part items number (by_number tables command) tables
-accepted-part items number (commands.NewOrder order) tables passed =
+    → (accepted items number edition command tables).tables
+    ≡ part items number edition (by_number tables command) tables
+accepted-part items number edition (commands.NewOrder order) tables passed =
     let home = (accepted-purchase items number order tables passed).home in
     rw (eq-eqb order.warehouse number home) refl
-accepted-part items number (commands.Payment payment) tables passed =
+accepted-part items number edition (commands.Payment payment) tables passed =
     let home = (accepted-payment items number payment tables passed).home in
     let own = own-payer number payment passed.named in
-    rw (eq-eqb payment.warehouse number home, eq-eqb payment.customer_warehouse number own) refl
-accepted-part items number (commands.OrderStatus status) tables passed = refl
-accepted-part items number (commands.Delivery delivery) tables passed =
+    let customer : ℕ = (payer payment tables).id in
+    rw (eq-eqb payment.warehouse number home, eq-eqb payment.customer_warehouse number own)
+    (paid_by-named edition payment (who.Number customer) customer (paid_in payment customer tables))
+accepted-part items number edition (commands.OrderStatus status) tables passed = refl
+accepted-part items number edition (commands.Delivery delivery) tables passed =
     let home = (accepted-delivery items number delivery tables passed).home in
     rw (eq-eqb delivery.warehouse number home) refl
-accepted-part items number (commands.StockLevel level) tables passed = refl
+accepted-part items number edition (commands.StockLevel level) tables passed = refl

@@ -16,6 +16,7 @@ use Rattle.hy_commands.specs.declared.command.Command.TheVariants as commands
 use Rattle.hy_commands.specs.declared.command.Who.{Who}
 use Rattle.hy_commands.specs.declared.command.Who.TheVariants as who
 use Rattle.hy_commands.specs.declared.reply.Reply.TheVariants as replies
+use Rattle.hy_commands.specs.declared.edition.Edition.{Edition}
 use Rattle.hy_commands.specs.Customers.{customer_meant, is_earlier, is_named}
 use Rattle.hy_commands.specs.Parts.{by_number}
 use Rattle.hy_commands.specs.Payments.{customer_paid}
@@ -85,15 +86,16 @@ module _ (warehouse district : ℕ) where
             (eq-eqb row.id row.id refl)
 
 -- the reply to a command is that to the command with the payer's number
-pub same-reply : (items : List Item) (number : ℕ) (command : Command) (tables : Tables)
+pub same-reply : (items : List Item) (number : ℕ) (edition : Edition) (command : Command) (tables : Tables)
     → AreUnique (map customer_key tables.customers) → has_customer command tables ≡ true
-    → (accepted items number (by_number tables command) tables).reply ≡ (accepted items number command tables).reply
-same-reply items number (commands.NewOrder order) tables unique known = refl
-same-reply items number (commands.Payment payment) tables unique known =
+    → (accepted items number edition (by_number tables command) tables).reply
+    ≡ (accepted items number edition command tables).reply
+same-reply items number edition (commands.NewOrder order) tables unique known = refl
+same-reply items number edition (commands.Payment payment) tables unique known =
     ap (λ (found : Option Customer).
     let row : Customer = unwrap_or found (customer_of []) in
-    replies.Payment row.id (customer_paid payment.amount row).balance)
+    replies.Payment row.id (customer_paid edition payment row).balance)
     (same-payer payment.customer_warehouse payment.customer_district tables.customers unique payment.who known)
-same-reply items number (commands.OrderStatus status) tables unique known = refl
-same-reply items number (commands.Delivery delivery) tables unique known = refl
-same-reply items number (commands.StockLevel level) tables unique known = refl
+same-reply items number edition (commands.OrderStatus status) tables unique known = refl
+same-reply items number edition (commands.Delivery delivery) tables unique known = refl
+same-reply items number edition (commands.StockLevel level) tables unique known = refl

@@ -13,6 +13,7 @@ use Rattle.hy_schema.specs.declared.refusal.Refusal.TheVariants as refusals
 use Rattle.hy_commands.specs.declared.command.Command.{Command}
 use Rattle.hy_commands.specs.declared.command.Commit.{Commit}
 use Rattle.hy_commands.specs.declared.command.Commit.TheVariants as commits
+use Rattle.hy_commands.specs.declared.edition.Edition.{Edition}
 use Rattle.hy_commands.specs.Commands.{home_of, is_in_range, warehouses_of, warehouses_of_commit}
 use Rattle.hy_commands.specs.Customers.{identity_of}
 use Rattle.hy_commands.specs.Parts.{Database, customer_home_of, database_of, is_there, part, part_unless, refusal_in, rows_of}
@@ -108,65 +109,68 @@ module _ (lists : Lists) (before : List Commit) (database : Database) (replays :
   there = subst (λ n. IsBetween 1 n number) (sym replays.count) between
 
   -- a commit of one warehouse acts at its home, and would change nothing elsewhere
-  rows-local : (command : Command) → rows_of number (committed_in database (commits.Local command))
-      ≡ cond (names warehouses_of_commit number (commits.Local command))
-      (committed lists number replayed (commits.Local command)) replayed
-  rows-local command =
+  rows-local : (edition : Edition) (command : Command)
+      → rows_of number (committed_in database (commits.Local edition command))
+      ≡ cond (names warehouses_of_commit number (commits.Local edition command))
+      (committed lists number replayed (commits.Local edition command)) replayed
+  rows-local edition command =
       let now : Tables = rows_of number database in
-      let acted : Tables = (act database.items number command now).tables in
-      let done : rows_of number (committed_in database (commits.Local command)) ≡ acted =
+      let acted : Tables = (act database.items number edition command now).tables in
+      let done : rows_of number (committed_in database (commits.Local edition command)) ≡ acted =
       rows_of-each _ database number there
       ∙ elim (home_of command == number) as (λ b. (home_of command == number) ≡ b → cond b acted now ≡ acted) [
         | true ↦ λ home. refl
-        | false ↦ λ other. sym (act-elsewhere database.items number command now other)
+        | false ↦ λ other. sym (act-elsewhere database.items number edition command now other)
       ] refl in
-      let again : acted ≡ (act lists.items number command replayed).tables =
-      ap (λ items. (act items number command now).tables) replays.items
-      ∙ ap (λ tables. (act lists.items number command tables).tables) same_rows in
+      let again : acted ≡ (act lists.items number edition command replayed).tables =
+      ap (λ items. (act items number edition command now).tables) replays.items
+      ∙ ap (λ tables. (act lists.items number edition command tables).tables) same_rows in
       done ∙ again
       ∙ elim (list_any (λ named. named == number) (warehouses_of command)) as (λ b.
       list_any (λ named. named == number) (warehouses_of command) ≡ b
-      → (act lists.items number command replayed).tables
-      ≡ cond b (act lists.items number command replayed).tables replayed) [
+      → (act lists.items number edition command replayed).tables
+      ≡ cond b (act lists.items number edition command replayed).tables replayed) [
         | true ↦ λ named. refl
-        | false ↦ λ unnamed. act-elsewhere lists.items number command replayed (unnamed-home number command unnamed)
+        | false ↦ λ unnamed.
+            act-elsewhere lists.items number edition command replayed (unnamed-home number command unnamed)
       ] refl
 
   -- a commit of several does its part in each, which is nothing where it isn't named
-  part-named : (command : Command) → part lists.items number command replayed
-      ≡ cond (list_any (λ named. named == number) (warehouses_of command)) (part lists.items number command replayed)
-      replayed
-  part-named command =
+  part-named : (edition : Edition) (command : Command) → part lists.items number edition command replayed
+      ≡ cond (list_any (λ named. named == number) (warehouses_of command))
+      (part lists.items number edition command replayed) replayed
+  part-named edition command =
       elim (list_any (λ named. named == number) (warehouses_of command)) as (λ b.
       list_any (λ named. named == number) (warehouses_of command) ≡ b
-      → part lists.items number command replayed ≡ cond b (part lists.items number command replayed) replayed) [
+      → part lists.items number edition command replayed
+      ≡ cond b (part lists.items number edition command replayed) replayed) [
         | true ↦ λ named. refl
-        | false ↦ λ unnamed. part-unnamed lists.items number command replayed unnamed
+        | false ↦ λ unnamed. part-unnamed lists.items number edition command replayed unnamed
       ] refl
 
-  rows-cross : (command : Command) (refusal : Option Refusal)
-      → rows_of number (parts_done refusal command database)
+  rows-cross : (edition : Edition) (command : Command) (refusal : Option Refusal)
+      → rows_of number (parts_done refusal edition command database)
       ≡ cond (list_any (λ named. named == number) (warehouses_of command))
-      (part_unless refusal lists.items number command replayed) replayed
-  rows-cross command (Some why) =
+      (part_unless refusal lists.items number edition command replayed) replayed
+  rows-cross edition command (Some why) =
       same_rows ∙ elim (list_any (λ named. named == number) (warehouses_of command)) as (λ b. replayed
       ≡ cond b replayed replayed) [
         | true ↦ refl
         | false ↦ refl
       ]
-  rows-cross command None =
+  rows-cross edition command None =
       rows_of-each _ database number there
-      ∙ ap (λ items. part items number command (rows_of number database)) replays.items
-      ∙ ap (part lists.items number command) same_rows
-      ∙ part-named command
+      ∙ ap (λ items. part items number edition command (rows_of number database)) replays.items
+      ∙ ap (part lists.items number edition command) same_rows
+      ∙ part-named edition command
 
   rows-committed : (commit : Commit) → rows_of number (committed_in database commit)
       ≡ cond (names warehouses_of_commit number commit) (committed lists number replayed commit) replayed
-  rows-committed (commits.Local command) = rows-local command
-  rows-committed (commits.Cross crossing command) =
-      rows-cross command (refusal_in database command)
+  rows-committed (commits.Local edition command) = rows-local edition command
+  rows-committed (commits.Cross edition crossing command) =
+      rows-cross edition command (refusal_in database command)
       ∙ ap (λ refusal. cond (list_any (λ named. named == number) (warehouses_of command))
-      (part_unless refusal lists.items number command replayed) replayed)
+      (part_unless refusal lists.items number edition command replayed) replayed)
       (refusal-same lists before database replays command)
 
 pub replay-committed : (lists : Lists) (before : List Commit) (database : Database) (commit : Commit)

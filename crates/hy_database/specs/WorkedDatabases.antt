@@ -1,6 +1,7 @@
 -- A load of two warehouses, and what commands over both make of its database, with values from hand calculation; the
 -- checker computes them.
 use Rattle.std.specs.Prelude.{◌≡◌, ℕ, ℤ, pos, negsuc, ◌+◌, ◌*◌, ◌%◌, List, [], ◌∷◌, ◌++◌, None, map, codes, refl}
+use Rattle.std.specs.Fmt.{digits}
 use Rattle.hy_rows.specs.declared.warehouse.Warehouse.{Warehouse}
 use Rattle.hy_rows.specs.declared.district.District.{District}
 use Rattle.hy_rows.specs.declared.customer.Customer.{Customer}
@@ -20,6 +21,8 @@ use Rattle.hy_commands.specs.declared.command.Commit.TheVariants as commits
 use Rattle.hy_commands.specs.declared.command.PurchaseLine.{PurchaseLine}
 use Rattle.hy_commands.specs.declared.command.Who.{Who}
 use Rattle.hy_commands.specs.declared.command.Who.TheVariants as who
+use Rattle.hy_commands.specs.declared.edition.Edition.{Edition}
+use Rattle.hy_commands.specs.declared.edition.Edition.TheVariants as editions
 use Rattle.hy_commands.specs.declared.reply.Reply.TheVariants as replies
 use Rattle.hy_commands.specs.NewOrders.{is_stock}
 use Rattle.hy_commands.specs.Parts.{Database, database_of, rows_of}
@@ -111,10 +114,10 @@ five_of_each warehouse first others = commands.NewOrder record {
 }
 
 abbrev bought : Database
-bought = database_after load (commits.Cross 1 (five_of_each 1 2 1) ∷ [])
+bought = database_after load (commits.Cross editions.Second 1 (five_of_each 1 2 1) ∷ [])
 
 -- 5 (137 + 174 + 211 + 248 + 285) = 5275, with 1 % off and 6 % of taxes 5535.585
-abbrev bought_reply : (act_on_all (five_of_each 1 2 1) loaded).reply ≡ replies.NewOrder 1 5_536
+abbrev bought_reply : (act_on_all editions.Second (five_of_each 1 2 1) loaded).reply ≡ replies.NewOrder 1 5_536
 bought_reply = refl
 
 abbrev bought_here : map (λ item. stock_of_item 1 item bought) (1 ∷ 2 ∷ [])
@@ -133,7 +136,7 @@ abbrev bought_lines : map {B = ℕ × ℕ} (λ (row : OrderLine). (row.warehouse
     (all_rows bought).order_lines ≡ (1, 2) ∷ (1, 1) ∷ (1, 1) ∷ (1, 1) ∷ (1, 1) ∷ []
 bought_lines = refl
 
-abbrev bought_is_consistent : is_consistent_after (commits.Cross 1 (five_of_each 1 2 1) ∷ [])
+abbrev bought_is_consistent : is_consistent_after (commits.Cross editions.Second 1 (five_of_each 1 2 1) ∷ [])
 bought_is_consistent = refl
 
 -- ---- a purchase at warehouse 2 in which each value is another
@@ -149,9 +152,9 @@ mixed = commands.NewOrder record {
 
 -- 7 * 322 + 2 * 359 + 3 * 396 + 4 * 433 + 6 * 470 = 8712, with 3 % off and 14 % of taxes 9633.7296
 abbrev mixed_outcome : Database
-mixed_outcome = (act_on_all mixed loaded).database
+mixed_outcome = (act_on_all editions.Second mixed loaded).database
 
-abbrev mixed_reply : (act_on_all mixed loaded).reply ≡ replies.NewOrder 1 9_634
+abbrev mixed_reply : (act_on_all editions.Second mixed loaded).reply ≡ replies.NewOrder 1 9_634
 mixed_reply = refl
 
 abbrev mixed_there : map (λ item. stock_of_item 1 item mixed_outcome) (6 ∷ 7 ∷ 8 ∷ 9 ∷ 10 ∷ [])
@@ -180,14 +183,15 @@ payment_at home district warehouse meant amount = commands.Payment record {
 
 abbrev delivered_first : List Commit
 delivered_first =
-    commits.Local (five_of_each 2 2 2)
-    ∷ commits.Local (commands.Delivery record { warehouse = 2; carrier = 3; at = 2 }) ∷ []
+    commits.Local editions.Second (five_of_each 2 2 2)
+    ∷ commits.Local editions.Second (commands.Delivery record { warehouse = 2; carrier = 3; at = 2 }) ∷ []
 
 abbrev paid_behind : List Commit
-paid_behind = delivered_first ++ commits.Cross 1 (payment_at 1 1 2 (who.Number 1) 100) ∷ []
+paid_behind = delivered_first ++ commits.Cross editions.Second 1 (payment_at 1 1 2 (who.Number 1) 100) ∷ []
 
 -- 5275 with 1 % off and 11 % of taxes 5796.6975
-abbrev local_reply : (act items 2 (five_of_each 2 2 2) (rows_of 2 loaded)).reply ≡ replies.NewOrder 1 5_797
+abbrev local_reply : (act items 2 editions.Second (five_of_each 2 2 2) (rows_of 2 loaded)).reply
+    ≡ replies.NewOrder 1 5_797
 local_reply = refl
 
 -- -1000, and 5275 delivered, and 100 paid
@@ -197,7 +201,8 @@ delivered_balance = refl
 abbrev paid_balance : balance_of 2 1 1 (database_after load paid_behind) ≡ pos 4_175
 paid_balance = refl
 
-abbrev paid_reply : (act_on_all (payment_at 1 1 2 (who.Number 1) 100) (database_after load delivered_first)).reply
+abbrev paid_reply :
+    (act_on_all editions.Second (payment_at 1 1 2 (who.Number 1) 100) (database_after load delivered_first)).reply
     ≡ replies.Payment 1 (pos 4_175)
 paid_reply = refl
 
@@ -220,21 +225,23 @@ by_its_number = payment_at 1 4 2 (who.Number 3) 250
 abbrev name_is_kept : kept_in loaded by_name ≡ by_its_number
 name_is_kept = refl
 
-abbrev named_reply : (act_on_all by_name loaded).reply ≡ replies.Payment 3 (negsuc 1_249)
+abbrev named_reply : (act_on_all editions.Second by_name loaded).reply ≡ replies.Payment 3 (negsuc 1_249)
 named_reply = refl
 
-abbrev named_is_numbered : (act_on_all by_name loaded).database ≡ (act_on_all by_its_number loaded).database
+abbrev named_is_numbered : (act_on_all editions.Second by_name loaded).database
+    ≡ (act_on_all editions.Second by_its_number loaded).database
 named_is_numbered = refl
 
-abbrev named_balances : map (λ customer. balance_of 2 1 customer (act_on_all by_name loaded).database) (up_to 3)
+abbrev named_balances :
+    map (λ customer. balance_of 2 1 customer (act_on_all editions.Second by_name loaded).database) (up_to 3)
     ≡ negsuc 999 ∷ negsuc 999 ∷ negsuc 1_249 ∷ []
 named_balances = refl
 
 -- the commit that is kept does what the command did
 abbrev numbered_commit : List Commit
-numbered_commit = commits.Cross 1 by_its_number ∷ []
+numbered_commit = commits.Cross editions.Second 1 by_its_number ∷ []
 
-abbrev kept_does_the_same : (act_on_all by_name loaded).database ≡ database_after load numbered_commit
+abbrev kept_does_the_same : (act_on_all editions.Second by_name loaded).database ≡ database_after load numbered_commit
 kept_does_the_same = refl
 
 abbrev numbered_is_consistent : is_consistent_after numbered_commit
@@ -246,7 +253,7 @@ replay_by_number = refl
 -- a commit by last name pays nobody: at the customer's warehouse nothing changes, and none of its replay does. The home
 -- has the amount
 abbrev named_commit : List Commit
-named_commit = commits.Cross 1 by_name ∷ []
+named_commit = commits.Cross editions.Second 1 by_name ∷ []
 
 abbrev commit_by_name : rows_of 2 (database_after load named_commit) ≡ rows_of 2 loaded
 commit_by_name = refl
@@ -263,6 +270,68 @@ replay_at_home = refl
 abbrev named_is_consistent : is_consistent_after named_commit
 named_is_consistent = refl
 
+-- ---- a payment of a customer with bad credit: the second edition notes it in C_DATA, and the first doesn't
+
+abbrev with_bad_credit : Lists
+with_bad_credit = record load {
+  tables = record load.tables {
+    customers =
+        map {A = Customer} {B = Customer} (λ row. record row { credit = codes "BC"; information = codes "old" })
+        load.tables.customers;
+  };
+}
+
+abbrev information_of : ℕ → ℕ → ℕ → Database → List ℕ
+information_of warehouse district customer database =
+    let rows : List Customer = (rows_of warehouse database).customers in
+    (first_or (customer_of []) (is_customer warehouse district customer) rows).information
+
+-- of customers 1, 2 and 3 of district 1 of warehouse 2
+abbrev notes_in : Database → List (List ℕ)
+notes_in database = map (λ customer. information_of 2 1 customer database) (up_to 3)
+
+abbrev in_both : (Edition → Database) → List (List (List ℕ))
+in_both done = map (λ edition. notes_in (done edition)) (editions.First ∷ editions.Second ∷ [])
+
+-- the customer's number, district and warehouse, the district and the warehouse that take the payment, and the cents
+noted_by_commit : in_both (λ edition. database_after with_bad_credit (commits.Cross edition 1 by_its_number ∷ []))
+    ≡ (codes "old" ∷ codes "old" ∷ codes "old" ∷ [])
+    ∷ (codes "old" ∷ codes "old" ∷ codes "3 1 2 4 1 250;old" ∷ []) ∷ []
+unfolding digits
+noted_by_commit = refl
+
+-- one of a single warehouse
+noted_by_local_commit :
+    in_both (λ edition. database_after with_bad_credit
+    (commits.Local edition (payment_at 2 5 2 (who.Number 1) 100) ∷ []))
+    ≡ (codes "old" ∷ codes "old" ∷ codes "old" ∷ [])
+    ∷ (codes "1 1 2 5 2 100;old" ∷ codes "old" ∷ codes "old" ∷ []) ∷ []
+unfolding digits
+noted_by_local_commit = refl
+
+-- a command by last name, before its commit is kept
+noted_by_command : in_both (λ edition. (act_on_all edition by_name (database_of with_bad_credit)).database)
+    ≡ (codes "old" ∷ codes "old" ∷ codes "old" ∷ [])
+    ∷ (codes "old" ∷ codes "old" ∷ codes "3 1 2 4 1 250;old" ∷ []) ∷ []
+unfolding digits
+noted_by_command = refl
+
+-- one of good credit is noted by neither
+good_credit_by_commit : in_both (λ edition. database_after load (commits.Cross edition 1 by_its_number ∷ []))
+    ≡ ([] ∷ [] ∷ [] ∷ []) ∷ ([] ∷ [] ∷ [] ∷ []) ∷ []
+unfolding digits
+good_credit_by_commit = refl
+
+-- in a list of commits each is done by its own edition
+noted_in_turn :
+    notes_in (database_after with_bad_credit (commits.Cross editions.Second 1 by_its_number
+    ∷ commits.Cross editions.First 2 by_its_number
+    ∷ commits.Local editions.Second (payment_at 2 5 2 (who.Number 3) 100)
+    ∷ commits.Local editions.First (payment_at 2 5 2 (who.Number 1) 100) ∷ []))
+    ≡ codes "old" ∷ codes "old" ∷ codes "3 1 2 5 2 100;3 1 2 4 1 250;old" ∷ []
+unfolding digits
+noted_in_turn = refl
+
 -- ---- a refused command changes nothing
 
 abbrev unknown_item : Command
@@ -274,21 +343,21 @@ unknown_item = commands.NewOrder record {
   lines = line 1 2 5 ∷ line 2 1 5 ∷ line 3 1 5 ∷ line 4 1 5 ∷ line 21 2 5 ∷ [];
 }
 
-abbrev unknown_outcome : act_on_all unknown_item loaded
+abbrev unknown_outcome : act_on_all editions.Second unknown_item loaded
     ≡ record { database = loaded; reply = replies.Refused refusals.NoSuchItem }
 unknown_outcome = refl
 
-abbrev unknown_customer : act_on_all (payment_at 1 1 2 (who.Number 4) 100) loaded
+abbrev unknown_customer : act_on_all editions.Second (payment_at 1 1 2 (who.Number 4) 100) loaded
     ≡ record { database = loaded; reply = replies.Refused refusals.NoSuchCustomer }
 unknown_customer = refl
 
-abbrev unknown_warehouse : act_on_all (payment_at 1 1 3 (who.Number 1) 100) loaded
+abbrev unknown_warehouse : act_on_all editions.Second (payment_at 1 1 3 (who.Number 1) 100) loaded
     ≡ record { database = loaded; reply = replies.Refused refusals.NoSuchWarehouse }
 unknown_warehouse = refl
 
 -- and so does a commit of one warehouse that names two
-abbrev local_crossing : database_after load (commits.Local (five_of_each 1 2 1) ∷ []) ≡ loaded
+abbrev local_crossing : database_after load (commits.Local editions.Second (five_of_each 1 2 1) ∷ []) ≡ loaded
 local_crossing = refl
 
-abbrev refused_commit : database_after load (commits.Cross 1 unknown_item ∷ []) ≡ loaded
+abbrev refused_commit : database_after load (commits.Cross editions.Second 1 unknown_item ∷ []) ≡ loaded
 refused_commit = refl

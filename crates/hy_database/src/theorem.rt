@@ -8,6 +8,7 @@ ghost use Rattle.hy_schema.specs.Loads.{IsLoad};
 ghost use Rattle.hy_commands.specs.declared.command.Command.{Command};
 ghost use Rattle.hy_commands.specs.declared.command.Commit.{Commit};
 ghost use Rattle.hy_commands.specs.declared.command.Commit.TheVariants as commits;
+ghost use Rattle.hy_commands.specs.declared.edition.Edition.{Edition};
 ghost use Rattle.hy_commands.specs.Commands.{warehouses_of_commit};
 ghost use Rattle.hy_commands.specs.Parts.{Database, database_of, refusal_in, rows_of};
 ghost use Rattle.hy_commands.specs.Replay.{HasWarehouse, rows_after};
@@ -40,7 +41,8 @@ pub fn refusals_never_change()
 /// Does nothing: its contract says that the commit that a database keeps of a command which it doesn't refuse does to
 /// the database what the command did. The commit has the command with the customer who pays named by number.
 pub fn kept_commands_do_the_same()
-    ensures { (database : Database) (command : Command) (number : ℕ) → refusal_in database command ≡ None
-        → (act_on_all command database).database
-        ≡ committed_in database (commits.Cross number (kept_in database command)) }
+    ensures { (database : Database) (edition : Edition) (command : Command) (number : ℕ)
+        → refusal_in database command ≡ None
+        → (act_on_all edition command database).database
+        ≡ committed_in database (commits.Cross edition number (kept_in database command)) }
 {}

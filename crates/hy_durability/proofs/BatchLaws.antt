@@ -17,6 +17,7 @@ use Rattle.hy_passes.specs.SerialList.{IsSerial, are_warehouses, is_crossing, is
 use Rattle.hy_passes.specs.declared.entry.Entry.{Entry}
 use Rattle.hy_commands.specs.declared.command.Commit.{Commit}
 use Rattle.hy_commands.specs.declared.command.Commit.TheVariants as commits
+use Rattle.hy_commands.specs.declared.edition.Edition.TheVariants as editions
 use Rattle.hy_commands.specs.Commands.{number_of, warehouses_of_commit}
 use Rattle.hy_partition.specs.Jobs.{Log}
 use Rattle.hy_partition.specs.Partition.{projection_of}
@@ -139,13 +140,13 @@ numbers-of (entry ∷ log) = by (number_of entry.commit) refl (numbers-of log)
 
 numbers-kept : (rows : List Commit) → filter_map number_of (crossings_of rows) ≡ filter_map number_of rows
 numbers-kept [] = refl
-numbers-kept (commits.Local command ∷ rows) = numbers-kept rows
-numbers-kept (commits.Cross number command ∷ rows) = ap (λ rows. number ∷ rows) (numbers-kept rows)
+numbers-kept (commits.Local edition command ∷ rows) = numbers-kept rows
+numbers-kept (commits.Cross edition number command ∷ rows) = ap (λ rows. number ∷ rows) (numbers-kept rows)
 
 length-crossings : (rows : List Commit) → length (crossings_of rows) ≡ length (filter_map number_of rows)
 length-crossings [] = refl
-length-crossings (commits.Local command ∷ rows) = length-crossings rows
-length-crossings (commits.Cross number command ∷ rows) = ap suc (length-crossings rows)
+length-crossings (commits.Local edition command ∷ rows) = length-crossings rows
+length-crossings (commits.Cross edition number command ∷ rows) = ap suc (length-crossings rows)
 
 pub projection-behind : (warehouse : ℕ) (front rest : Log)
     → projection_of warehouse (front ++ rest) ≡ projection_of warehouse front ++ projection_of warehouse rest
@@ -183,7 +184,7 @@ module _ (lists : Lists) (places : List Place) (front rest : Log)
   where
     -- each list has what entered the serial list since then
     list-is : (place : ℕ) (p : Place) → slice_get places place ≡ Some p → place < length places
-        → list_at (batch_of places) place ≡ projection_of (suc place) rest
+        → list_at (batch_of places).lists place ≡ projection_of (suc place) rest
     list-is place p at within =
         let here : p.kept ≡ projection_of (suc place) (front ++ rest) =
         subst (λ found. IfSome found (λ p. p.kept ≡ projection_of (suc place) (front ++ rest))) at (kept place) in
@@ -193,7 +194,7 @@ module _ (lists : Lists) (places : List Place) (front rest : Log)
         ∙ ap (λ n. drop n p.kept) so_far ∙ ap (drop (length (projection_of (suc place) front))) (here ∙ projection-behind (suc place) front rest)
         ∙ drop-append_seam (projection_of (suc place) front) (projection_of (suc place) rest)
 
-    pub lists-are : (place : ℕ) → place < length places → list_at (batch_of places) place ≡ projection_of (suc place) rest
+    pub lists-are : (place : ℕ) → place < length places → list_at (batch_of places).lists place ≡ projection_of (suc place) rest
     lists-are place within = let found = get-some places place within in list-is place found.0 found.1 within
 
     -- none refuses to be run again
@@ -206,11 +207,11 @@ module _ (lists : Lists) (places : List Place) (front rest : Log)
           (All-weaker (λ (e : Entry Commit). IsFit lists e.commit) (λ (e : Entry Commit). is_replayable lists e.commit ≡ true)
           (λ e is. is.known) rest fit)))
 
-      replayable-at : (place : ℕ) → are_replayable lists (list_at (batch_of places) place) ≡ true
+      replayable-at : (place : ℕ) → are_replayable lists (list_at (batch_of places).lists place) ≡ true
       replayable-at place = by (slice_get places place) refl
         where
           by : (found : Option Place) → slice_get places place ≡ found
-              → are_replayable lists (list_at (batch_of places) place) ≡ true
+              → are_replayable lists (list_at (batch_of places).lists place) ≡ true
           by None at =
               ap (are_replayable lists) (get-unmapped (λ (place : Place). drop place.drained place.kept) places place at)
           by (Some p) at =
@@ -258,7 +259,7 @@ module _ (lists : Lists) (places : List Place) (front rest : Log)
             (λ e are. ap (λ n. list_any (is_between 1 n) (warehouses_of_commit e.commit)) count
             ∙ one-of (length lists.tables.warehouses) (warehouses_of_commit e.commit) are) rest here)))
 
-        length-batch : length (batch_of places) ≡ length places
+        length-batch : length (batch_of places).lists ≡ length places
         length-batch = length-mapped (λ (place : Place). drop place.drained place.kept) places
 
         pub sound-batch : IsSoundBatch lists (crossings_in front) (crossings_in (front ++ rest)) (batch_of places)
@@ -306,18 +307,18 @@ module _ (lists : Lists) (places : List Place) (front rest : Log)
           few-crossings =
               omega (arith, small, numbers-few (λ (e : Entry Commit). number_of e.commit) (front ++ rest))
 
-          told-there : (place : ℕ) → list_all (is_commit (suc place)) (projection_of (suc place) rest) ≡ true
+          told-there : (place : ℕ) → list_all (is_commit editions.Second (suc place)) (projection_of (suc place) rest) ≡ true
           told-there place =
-              all-passing (names warehouses_of_commit (suc place)) (is_commit (suc place)) (commits_in rest)
+              all-passing (names warehouses_of_commit (suc place)) (is_commit editions.Second (suc place)) (commits_in rest)
               (all-three (IsFit lists) (λ commit. is_number (number_of commit) ≡ is_crossing warehouses_of_commit commit)
               (OnNumber IsWithin) (λ commit. names warehouses_of_commit (suc place) commit ≡ true
-              → is_commit (suc place) commit ≡ true) (commits_in rest)
+              → is_commit editions.Second (suc place) commit ≡ true) (commits_in rest)
               (λ commit is marked within named.
               commit-told lists is_load (suc place) (crossings_in (front ++ rest)) commit is named marked within few-crossings)
               fit-there marked-there numbers-within)
 
-          list-told : (place : ℕ) → place < length (batch_of places)
-              → is_list (1 + place) (list_at (batch_of places) place) ≡ true
+          list-told : (place : ℕ) → place < length (batch_of places).lists
+              → is_list editions.Second (1 + place) (list_at (batch_of places).lists place) ≡ true
           list-told place within =
               let next : suc place ≡ 1 + place = omega arith in
               let few : length (projection_of (suc place) rest) ≤ length (front ++ rest) =
@@ -330,15 +331,15 @@ module _ (lists : Lists) (places : List Place) (front rest : Log)
               let first : fits 4 (length (projection_of (suc place) rest)) ≡ true =
               lt-ltb (length (projection_of (suc place) rest)) (256 ^ 4) (omega (arith, few, small)) in
               let all = told-there place in
-              let both : is_list (suc place) (projection_of (suc place) rest) ≡ true = rw (first, all) refl in
-              subst (λ n. is_list n (list_at (batch_of places) place) ≡ true) next
-              (ap (is_list (suc place)) (lists-are place (omega (arith, within, length-batch))) ∙ both)
+              let both : is_list editions.Second (suc place) (projection_of (suc place) rest) ≡ true = rw (first, all) refl in
+              subst (λ n. is_list editions.Second n (list_at (batch_of places).lists place) ≡ true) next
+              (ap (is_list editions.Second (suc place)) (lists-are place (omega (arith, within, length-batch))) ∙ both)
 
           pub batch-told : is_batch (batch_of places) ≡ true
           batch-told =
-              let ends : IsBetween 1 max_warehouses (length (batch_of places)) =
-              IsBetween-bounds 1 max_warehouses (length (batch_of places))
+              let ends : IsBetween 1 max_warehouses (length (batch_of places).lists) =
+              IsBetween-bounds 1 max_warehouses (length (batch_of places).lists)
               (omega (arith, length-batch, count, is_load.warehouses.whole))
               (omega (arith, length-batch, count, few_warehouses lists.tables.warehouses is_load.warehouses)) in
-              let lists_told = lists-told 1 (batch_of places) list-told in
+              let lists_told = lists-told editions.Second 1 (batch_of places).lists list-told in
               rw (ends, lists_told) refl

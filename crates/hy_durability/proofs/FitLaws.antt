@@ -10,7 +10,9 @@ use Rattle.hy_commands.specs.declared.command.Command.{Command}
 use Rattle.hy_commands.specs.declared.command.Command.TheVariants as commands
 use Rattle.hy_commands.specs.declared.command.Commit.{Commit}
 use Rattle.hy_commands.specs.declared.command.Commit.TheVariants as commits
-use Rattle.hy_commands.specs.Commands.{command_of, is_reader, kept_of, warehouses_of}
+use Rattle.hy_commands.specs.declared.edition.Edition.{Edition}
+use Rattle.hy_commands.specs.declared.edition.Edition.TheVariants as editions
+use Rattle.hy_commands.specs.Commands.{command_of, edition_of, is_reader, kept_of, warehouses_of}
 use Rattle.hy_commands.specs.Customers.{identity_of}
 use Rattle.hy_commands.specs.Parts.{Database, customer_home_of, database_of, is_by_number, is_there, refusal_in, rows_of}
 use Rattle.hy_commands.specs.Replay.{HasWarehouse, rows_after}
@@ -26,11 +28,13 @@ use Rattle.hy_sound.specs.Sound.{is_known}
 
 -- whether a customer who pays over warehouses is named by number
 abbrev pub names_payer : Commit → Bool
-names_payer (commits.Local command) = true
-names_payer (commits.Cross number command) = is_by_number command
+names_payer (commits.Local edition command) = true
+names_payer (commits.Cross edition number command) = is_by_number command
 
--- a commit can be run again on a load: the load refuses it for no reason, it doesn't only read, and names its payer
+-- a commit can be run again on a load: it is of the second edition, the load refuses it for no reason, it doesn't only
+-- read, and names its payer
 pub record IsFit (lists : Lists) (commit : Commit) : Type 0 where
+  pub edition : edition_of commit ≡ editions.Second
   pub known : is_known lists (command_of commit) ≡ true
   pub writes : is_reader (command_of commit) ≡ false
   pub payer : names_payer commit ≡ true
@@ -78,17 +82,19 @@ known-local lists number kept command there none = ap is_none (passed-in (databa
     }
 
 -- so what it enters can be run again
-pub entered-fit : (lists : Lists) (command : Command) (stamp : ℕ) → is_known lists command ≡ true
-    → AreFit lists (map (λ commit. record { commit = commit; stamp = stamp }) (kept_of command))
-entered-fit lists command stamp known = by (is_reader command) refl
+pub entered-fit : (lists : Lists) (edition : Edition) (command : Command) (stamp : ℕ) → edition ≡ editions.Second
+    → is_known lists command ≡ true
+    → AreFit lists (map (λ commit. record { commit = commit; stamp = stamp }) (kept_of edition command))
+entered-fit lists edition command stamp second known = by (is_reader command) refl
   where
     by : (reads : Bool) → is_reader command ≡ reads
-        → AreFit lists (map (λ commit. record { commit = commit; stamp = stamp }) (cond reads [] (commits.Local command ∷ [])))
+        → AreFit lists
+        (map (λ commit. record { commit = commit; stamp = stamp }) (cond reads [] (commits.Local edition command ∷ [])))
     by true is = All-nil (λ (entry : Entry Commit). IsFit lists entry.commit)
     by false is =
         All-cons (λ (entry : Entry Commit). IsFit lists entry.commit)
-        (record { commit = commits.Local command; stamp = stamp }) []
-        (record { known = known; writes = is; payer = refl })
+        (record { commit = commits.Local edition command; stamp = stamp }) []
+        (record { edition = second; known = known; writes = is; payer = refl })
         (All-nil (λ (entry : Entry Commit). IsFit lists entry.commit))
 
 -- ---- of several warehouses
@@ -115,11 +121,12 @@ numbered-kept database (commands.OrderStatus status) = refl
 numbered-kept database (commands.StockLevel level) = refl
 
 -- what is kept of an accepted command can be run again, where the database refuses what the load refuses
-pub crossing-fit : (lists : Lists) (database : Database) (number : ℕ) (command : Command)
+pub crossing-fit : (lists : Lists) (database : Database) (edition : Edition) (number : ℕ) (command : Command)
     → ((other : Command) → refusal_in database other ≡ refusal_in (database_of lists) other)
-    → nat_lt 1 (length (warehouses_of command)) ≡ true → refusal_in database command ≡ None
-    → IsFit lists (commits.Cross number (kept_in database command))
-crossing-fit lists database number command same several none = record {
+    → edition ≡ editions.Second → nat_lt 1 (length (warehouses_of command)) ≡ true → refusal_in database command ≡ None
+    → IsFit lists (commits.Cross edition number (kept_in database command))
+crossing-fit lists database edition number command same second several none = record {
+  edition = second;
   known = ap is_none (sym (same (kept_in database command)) ∙ kept-accepted database command none);
   writes = reads-kept database command ∙ several-writes command several;
   payer = numbered-kept database command;

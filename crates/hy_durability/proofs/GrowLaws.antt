@@ -1,6 +1,7 @@
--- What an event adds to the serial list can be run again, and no event but a drain changes how much was drained.
+-- What an event adds to the serial list can be run again and is of the second edition, as is all that runs, and no event
+-- but a drain changes how much was drained.
 use Rattle.std.proofs.Common.{◌≡◌, ◌⊎◌, ℕ, zero, suc, ◌==◌, Bool, true, false, cond, List, [], ◌∷◌, ◌++◌, length, Option, Some, None, inl, inr, refl, sym, ap, ◌∙◌, subst, append_assoc}
-use Rattle.std.specs.Prelude.{MatchOption, slice_get, slice_set}
+use Rattle.std.specs.Prelude.{IfSome, MatchOption, slice_get, slice_set}
 use Rattle.std.specs.Option.{option_map, unwrap_or}
 use Rattle.std.proofs.lemmas.Bool.{eqb-false, eqb-true, false≢true, true≢false}
 use Rattle.std.proofs.lemmas.List.{append-nil}
@@ -10,6 +11,8 @@ use Rattle.hy_passes.specs.SerialList.{names}
 use Rattle.hy_rows.specs.Tables.{Lists}
 use Rattle.hy_commands.specs.declared.command.Command.{Command}
 use Rattle.hy_commands.specs.declared.command.Commit.{Commit}
+use Rattle.hy_commands.specs.declared.edition.Edition.{Edition}
+use Rattle.hy_commands.specs.declared.edition.Edition.TheVariants as editions
 use Rattle.hy_commands.specs.Commands.{warehouses_of_commit}
 use Rattle.hy_commands.specs.Replay.{HasWarehouse}
 use Rattle.hy_commands.specs.Transactions.{refusal_of}
@@ -19,14 +22,16 @@ use Rattle.hy_partition.specs.Schedules.{Does, Event, Underway, World, entered, 
 use Rattle.hy_commands.specs.Parts.{refusal_in}
 use Rattle.hy_commands.specs.declared.command.Commit.TheVariants as commits
 use Rattle.hy_database.specs.Database.{kept_in}
+use Rattle.hy_batches.proofs.CommitForms.{edition_is}
 use Rattle.hy_crossing.specs.Crossings.{database_behind, next_number}
 use Rattle.hy_crossing.proofs.AcceptLaws.{same-refusal}
 use Rattle.hy_schedules.specs.Schedules.{ChangesPlace, DoesAll, DoesAt, DoesCross, Ends, EndsIn, EventOfAll, Place, Whole, each_changed, entry_behind, is_local, named_in, place_at, refusal_behind, with_commit, with_drained, with_entry, with_place, with_snapshot, without_snapshot, world_at}
 use Rattle.hy_schedules.specs.Schedules as all
 use Rattle.hy_schedules.proofs.OrderLaws.{there-between}
-use Rattle.hy_schedules.proofs.PlaceLaws.{length-each, length-with_place}
+use Rattle.hy_schedules.proofs.PlaceLaws.{each-changed, each-replaced, holds-place, length-each, length-with_place}
 use Rattle.hy_rows.proofs.BetweenLaws.{IsBetween-bounds}
 use Rattle.hy_recovery.proofs.PlaceLaws.{get-set_here, get-set_other, get-within}
+use Rattle.hy_durability.specs.Durability.{is_new}
 use Rattle.hy_durability.proofs.FitLaws.{AreFit, IsFit, crossing-fit, entered-fit, known-local}
 
 -- whether an event is a drain
@@ -72,61 +77,98 @@ module _ (change : ℕ → Place → Place)
   drained-each places zero = refl
   drained-each places (suc place) = drained-get 1 place places
 
+-- ---- what runs
+
+-- it is of the second edition, if something runs
+abbrev pub RunsNew : Option Underway → Type 0
+RunsNew running = IfSome running (λ job. job.edition ≡ editions.Second)
+
+-- so it is in each warehouse
+abbrev pub AllRunNew : List Place → Type 0
+AllRunNew places = (number : ℕ) → IfSome (place_at places number) (λ place. RunsNew place.running)
+
+abbrev NewAt : ℕ → Place → Type 0
+NewAt number place = RunsNew place.running
+
+-- and stays so where each was changed, but for what runs there
+pub new-each : (change : ℕ → Place → Place)
+    → ((number : ℕ) (place : Place) → (change number place).running ≡ place.running) → (places : List Place)
+    → AllRunNew places → AllRunNew (each_changed change 1 places)
+new-each change same places new =
+    each-changed change NewAt NewAt places (λ number place is. subst RunsNew (sym (same number place)) is) new
+
 -- ---- one warehouse
 
--- the serial list of a world has more commits, which can be run again
+-- the serial list of a world has more commits, which can be run again, and what runs there is of the second edition
 pub record Adds (lists : Lists) (old new : World) : Type 0 where
   pub more : Log
   pub log_is : new.log ≡ old.log ++ more
   pub fit : AreFit lists more
   pub load : new.load ≡ old.load
+  pub new_run : RunsNew new.running
 
 module _ (lists : Lists) (old new : World) where
-  adds-none : new.log ≡ old.log → new.load ≡ old.load → Adds lists old new
-  adds-none same load = record {
+  adds-none : new.log ≡ old.log → new.load ≡ old.load → RunsNew new.running → Adds lists old new
+  adds-none same load run = record {
     more = [];
     log_is = same ∙ sym (append-nil old.log);
     fit = All-nil (λ (entry : Entry Commit). IsFit lists entry.commit);
     load = load;
+    new_run = run;
   }
 
-  module _ (load : old.load ≡ lists) (there : HasWarehouse lists old.warehouse) where
-    adds-accepted : (job : Underway)
+  module _ (load : old.load ≡ lists) (there : HasWarehouse lists old.warehouse) (runs : RunsNew old.running) where
+    -- what runs is no other than before, or nothing
+    runs-still : new.running ≡ old.running → RunsNew new.running
+    runs-still same = subst RunsNew (sym same) runs
+
+    runs-none : new.running ≡ None → RunsNew new.running
+    runs-none none = subst RunsNew (sym none) tt
+
+    adds-accepted : (job : Underway) → old.running ≡ Some job
         → refusal_of old.load.items old.warehouse job.command (rows_of old) ≡ None → new ≡ with_accepted old job
         → Adds lists old new
-    adds-accepted job none is = record {
+    adds-accepted job runs_job none is = record {
       more = entered job;
       log_is = ap (λ (w : World). w.log) is;
-      fit = entered-fit lists job.command job.stamp
+      fit = entered-fit lists job.edition job.command job.stamp (subst RunsNew runs_job runs)
           (known-local lists old.warehouse old.kept job.command there
           (subst (λ (l : Lists). refusal_of l.items old.warehouse job.command
           (rows_of (record old { load = l })) ≡ None) load none));
       load = ap (λ (w : World). w.load) is;
+      new_run = runs-none (ap (λ (w : World). w.running) is);
     }
 
-    adds-does : (event : Event) → is_local event ≡ true → Does event old new → Adds lists old new
-    adds-does (one.begins client command) here does =
+    adds-does : (number : ℕ) (event : Event) → is_local event ≡ true → is_new (all.at number event) ≡ true
+        → Does event old new → Adds lists old new
+    adds-does number (one.begins client edition command) here second does =
         adds-none (ap (λ (w : World). w.log) does.3) (ap (λ (w : World). w.load) does.3)
-    adds-does one.steps here does = by old.running refl does
+        (subst RunsNew (sym (ap (λ (w : World). w.running) does.3)) (edition_is edition editions.Second second))
+    adds-does number one.steps here second does = by old.running refl does
       where
         by : (running : Option Underway) → old.running ≡ running
             → MatchOption running ⊥ (one.DoesStep old new) → Adds lists old new
         by None is none = absurd none
         by (Some job) is step = elim step [
           | inl more ↦ adds-none (ap (λ (w : World). w.log) more.1) (ap (λ (w : World). w.load) more.1)
+              (subst RunsNew (sym (ap (λ (w : World). w.running) more.1)) (subst RunsNew is runs))
           | inr last ↦ elim last [
-            | inl accepted ↦ adds-accepted job accepted.1 accepted.2
+            | inl accepted ↦ adds-accepted job is accepted.1 accepted.2
             | inr refused ↦ adds-none (ap (λ (w : World). w.log) refused) (ap (λ (w : World). w.load) refused)
+                (runs-none (ap (λ (w : World). w.running) refused))
           ]
         ]
-    adds-does one.takes here does =
+    adds-does number one.takes here second does =
         adds-none (ap (λ (w : World). w.log) does.1) (ap (λ (w : World). w.load) does.1)
-    adds-does (one.forks client number) here does =
+        (runs-still (ap (λ (w : World). w.running) does.1))
+    adds-does number (one.forks client child) here second does =
         adds-none (ap (λ (w : World). w.log) does.1) (ap (λ (w : World). w.load) does.1)
-    adds-does (one.closes number) here does =
+        (runs-still (ap (λ (w : World). w.running) does.1))
+    adds-does number (one.closes child) here second does =
         adds-none (ap (λ (w : World). w.log) does.1) (ap (λ (w : World). w.load) does.1)
-    adds-does (one.looks client) here does = absurd (false≢true here)
-    adds-does (one.enters entry) here does = absurd (false≢true here)
+        (runs-still (ap (λ (w : World). w.running) does.1))
+    adds-does number (one.looks client) here second does = absurd (false≢true here)
+    adds-does number (one.enters entry) here second does = absurd (false≢true here)
 
     adds-ends : Ends old new → Adds lists old new
     adds-ends ends = by old.running refl ends
@@ -137,14 +179,17 @@ module _ (lists : Lists) (old new : World) where
             ⊎ (new ≡ one.with_refused old))
             → Adds lists old new
         by None is same = adds-none (ap (λ (w : World). w.log) same) (ap (λ (w : World). w.load) same)
+            (runs-still (ap (λ (w : World). w.running) same))
         by (Some job) is ended = elim ended [
-          | inl accepted ↦ adds-accepted job accepted.0 accepted.1
+          | inl accepted ↦ adds-accepted job is accepted.0 accepted.1
           | inr refused ↦ adds-none (ap (λ (w : World). w.log) refused) (ap (λ (w : World). w.load) refused)
+              (runs-none (ap (λ (w : World). w.running) refused))
         ]
 
 -- ---- all warehouses
 
--- the serial list has more commits, which can be run again; no warehouse comes or goes, and no more counts as drained
+-- the serial list has more commits, which can be run again; no warehouse comes or goes, no more counts as drained, and
+-- what runs is of the second edition
 pub record Grows (lists : Lists) (old new : Whole) : Type 0 where
   pub more : Log
   pub log_is : new.log ≡ old.log ++ more
@@ -152,17 +197,19 @@ pub record Grows (lists : Lists) (old new : Whole) : Type 0 where
   pub load : new.load ≡ old.load
   pub count : length new.places ≡ length old.places
   pub drained : (number : ℕ) → drained_at new.places number ≡ drained_at old.places number
+  pub new_run : AllRunNew new.places
 
 pub grows-same : (lists : Lists) (old new : Whole) → new.log ≡ old.log → new.load ≡ old.load
     → length new.places ≡ length old.places → ((number : ℕ) → drained_at new.places number ≡ drained_at old.places number)
-    → Grows lists old new
-grows-same lists old new same load count drained = record {
+    → AllRunNew new.places → Grows lists old new
+grows-same lists old new same load count drained run = record {
   more = [];
   log_is = same ∙ sym (append-nil old.log);
   fit = All-nil (λ (entry : Entry Commit). IsFit lists entry.commit);
   load = load;
   count = count;
   drained = drained;
+  new_run = run;
 }
 
 grows-then : (lists : Lists) (old mid new : Whole) → Grows lists old mid → Grows lists mid new → Grows lists old new
@@ -173,18 +220,21 @@ grows-then lists old mid new first later = record {
   load = later.load ∙ first.load;
   count = later.count ∙ first.count;
   drained = λ number. later.drained number ∙ first.drained number;
+  new_run = later.new_run;
 }
 
 module _ (lists : Lists) where
   -- a change in one warehouse
   grows-place : (Change : World → World → Type 0)
-      → ((old new : World) → old.load ≡ lists → HasWarehouse lists old.warehouse → Change old new → Adds lists old new)
+      → ((old new : World) → old.load ≡ lists → HasWarehouse lists old.warehouse → RunsNew old.running → Change old new
+      → Adds lists old new)
       → (number : ℕ) (old new : Whole) → old.load ≡ lists → length old.places ≡ length lists.tables.warehouses
-      → ChangesPlace Change number old new → Grows lists old new
-  grows-place Change leads number old new load count changes =
+      → AllRunNew old.places → ChangesPlace Change number old new → Grows lists old new
+  grows-place Change leads number old new load count runs changes =
       let ends = there-between lists old.places number changes.before count changes.there in
       let adds = leads (world_at old number changes.before) (world_at new number changes.after) load
-      (IsBetween-bounds 1 (length lists.tables.warehouses) number ends.0 ends.1) changes.change in
+      (IsBetween-bounds 1 (length lists.tables.warehouses) number ends.0 ends.1)
+      (holds-place NewAt old.places number changes.before changes.there runs) changes.change in
       record {
         more = adds.more;
         log_is = adds.log_is;
@@ -193,18 +243,23 @@ module _ (lists : Lists) where
         count = ap length changes.places ∙ length-with_place old.places number changes.after;
         drained = λ other. ap (λ places. drained_at places other) changes.places
             ∙ drained-placed old.places number changes.before changes.after changes.there changes.drained other;
+        new_run = subst AllRunNew (sym changes.places)
+            (each-replaced NewAt NewAt old.places number changes.before changes.after changes.there adds.new_run
+            (λ other place apart is. is) runs);
       }
 
   -- what runs in some ends
   grows-ends : (numbers : List ℕ) (old new : Whole) → old.load ≡ lists
-      → length old.places ≡ length lists.tables.warehouses → EndsIn numbers old new → Grows lists old new
-  grows-ends [] old new load count same =
+      → length old.places ≡ length lists.tables.warehouses → AllRunNew old.places → EndsIn numbers old new
+      → Grows lists old new
+  grows-ends [] old new load count runs same =
       grows-same lists old new (ap (λ (w : Whole). w.log) same) (ap (λ (w : Whole). w.load) same)
       (ap (λ (w : Whole). length w.places) same) (λ number. ap (λ (w : Whole). drained_at w.places number) same)
-  grows-ends (number ∷ numbers) old new load count ends =
-      let first = grows-place Ends (λ a b l t. adds-ends lists a b l t) number old ends.0 load count ends.1 in
+      (subst (λ (w : Whole). AllRunNew w.places) (sym same) runs)
+  grows-ends (number ∷ numbers) old new load count runs ends =
+      let first = grows-place Ends (λ a b l t r. adds-ends lists a b l t r) number old ends.0 load count runs ends.1 in
       grows-then lists old ends.0 new first
-      (grows-ends numbers ends.0 new (first.load ∙ load) (first.count ∙ count) ends.2)
+      (grows-ends numbers ends.0 new (first.load ∙ load) (first.count ∙ count) first.new_run ends.2)
 
   drained-commit : (commit : Commit) (number : ℕ) (place : Place)
       → (with_commit commit number place).drained ≡ place.drained
@@ -215,30 +270,42 @@ module _ (lists : Lists) where
         | false ↦ refl
       ]
 
+  running-commit : (commit : Commit) (number : ℕ) (place : Place)
+      → (with_commit commit number place).running ≡ place.running
+  running-commit commit number place =
+      elim (names warehouses_of_commit number commit) as (λ b.
+      (cond b (record place { kept = place.kept ++ commit ∷ [] }) place).running ≡ place.running) [
+        | true ↦ refl
+        | false ↦ refl
+      ]
+
   -- a command of several warehouses
-  grows-crosses : (client : ℕ) (command : Command) (old new : Whole) → old.load ≡ lists
-      → length old.places ≡ length lists.tables.warehouses → DoesCross client command old new → Grows lists old new
-  grows-crosses client command old new load count does = elim does.does [
+  grows-crosses : (client : ℕ) (edition : Edition) (command : Command) (old new : Whole) → edition ≡ editions.Second
+      → old.load ≡ lists → length old.places ≡ length lists.tables.warehouses → AllRunNew old.places
+      → DoesCross client edition command old new → Grows lists old new
+  grows-crosses client edition command old new second load count runs does = elim does.does [
     | inl same ↦ subst (λ (w : Whole). Grows lists old w) (sym same) ended
     | inr accepted ↦ subst (λ (w : Whole). Grows lists old w) (sym accepted.1)
         (grows-then lists old does.ended (with_entry does.ended client entry) ended (entering accepted.0))
   ]
     where
       ended : Grows lists old does.ended
-      ended = grows-ends (named_in old command) old does.ended load count does.ends
+      ended = grows-ends (named_in old command) old does.ended load count runs does.ends
 
       entry : Entry Commit
-      entry = entry_behind does.ended command (old.known client)
+      entry = entry_behind does.ended edition command (old.known client)
 
       fit-on : (lists' : Lists) → lists' ≡ lists
           → refusal_in (database_behind lists' does.ended.log) command ≡ None
-          → IsFit lists (commits.Cross (next_number does.ended.log) (kept_in (database_behind lists' does.ended.log) command))
+          → IsFit lists
+          (commits.Cross edition (next_number does.ended.log) (kept_in (database_behind lists' does.ended.log) command))
       fit-on lists' same none =
           subst (λ (l : Lists). refusal_in (database_behind l does.ended.log) command ≡ None
-          → IsFit lists (commits.Cross (next_number does.ended.log) (kept_in (database_behind l does.ended.log) command)))
+          → IsFit lists
+          (commits.Cross edition (next_number does.ended.log) (kept_in (database_behind l does.ended.log) command)))
           (sym same)
-          (crossing-fit lists (database_behind lists does.ended.log) (next_number does.ended.log) command
-          (same-refusal lists does.ended.log) does.several)
+          (crossing-fit lists (database_behind lists does.ended.log) edition (next_number does.ended.log) command
+          (same-refusal lists does.ended.log) second does.several)
           none
 
       entering : refusal_behind does.ended command ≡ None → Grows lists does.ended (with_entry does.ended client entry)
@@ -250,28 +317,37 @@ module _ (lists : Lists) where
         load = refl;
         count = length-each (with_commit entry.commit) 1 does.ended.places;
         drained = drained-each (with_commit entry.commit) (drained-commit entry.commit) does.ended.places;
+        new_run = new-each (with_commit entry.commit) (running-commit entry.commit) does.ended.places ended.new_run;
       }
 
-  -- an event that is no drain
-  pub grows : (event : EventOfAll) (old new : Whole) → is_drain event ≡ false → old.load ≡ lists
-      → length old.places ≡ length lists.tables.warehouses → DoesAll event old new → Grows lists old new
-  grows (all.at number event) old new other load count does =
-      grows-place (Does event) (λ a b l t. adds-does lists a b l t event does.0) number old new load count does.1
-  grows (all.crosses client command) old new other load count does = grows-crosses client command old new load count does
-  grows (all.forks_all client children) old new other load count does =
+  -- an event that is no drain, and begins what is of the second edition, if anything
+  pub grows : (event : EventOfAll) (old new : Whole) → is_drain event ≡ false → is_new event ≡ true → old.load ≡ lists
+      → length old.places ≡ length lists.tables.warehouses → AllRunNew old.places → DoesAll event old new
+      → Grows lists old new
+  grows (all.at number event) old new other second load count runs does =
+      grows-place (Does event) (λ a b l t r. adds-does lists a b l t r number event does.0 second) number old new load
+      count runs does.1
+  grows (all.crosses client edition command) old new other second load count runs does =
+      grows-crosses client edition command old new (edition_is edition editions.Second second) load count runs does
+  grows (all.forks_all client children) old new other second load count runs does =
       grows-same lists old new (ap (λ (w : Whole). w.log) does.1) (ap (λ (w : Whole). w.load) does.1)
       (ap (λ (w : Whole). length w.places) does.1 ∙ length-each (with_snapshot old children) 1 old.places)
       (λ number. ap (λ (w : Whole). drained_at w.places number) does.1
       ∙ drained-each (with_snapshot old children) (λ n place. refl) old.places number)
-  grows (all.closes_all children) old new other load count does =
+      (subst (λ (w : Whole). AllRunNew w.places) (sym does.1)
+      (new-each (with_snapshot old children) (λ n place. refl) old.places runs))
+  grows (all.closes_all children) old new other second load count runs does =
       grows-same lists old new (ap (λ (w : Whole). w.log) does.1) (ap (λ (w : Whole). w.load) does.1)
       (ap (λ (w : Whole). length w.places) does.1 ∙ length-each (without_snapshot children) 1 old.places)
       (λ number. ap (λ (w : Whole). drained_at w.places number) does.1
       ∙ drained-each (without_snapshot children) (λ n place. refl) old.places number)
-  grows all.drains old new other load count does = absurd (true≢false other)
-  grows (all.looks client) old new other load count does =
+      (subst (λ (w : Whole). AllRunNew w.places) (sym does.1)
+      (new-each (without_snapshot children) (λ n place. refl) old.places runs))
+  grows all.drains old new other second load count runs does = absurd (true≢false other)
+  grows (all.looks client) old new other second load count runs does =
       grows-same lists old new (ap (λ (w : Whole). w.log) does) (ap (λ (w : Whole). w.load) does)
       (ap (λ (w : Whole). length w.places) does) (λ number. ap (λ (w : Whole). drained_at w.places number) does)
+      (subst (λ (w : Whole). AllRunNew w.places) (sym does) runs)
 
   -- a drain: all that is kept counts as drained
   pub drained-all : (places : List Place) (place : ℕ) (p : Place) → slice_get places place ≡ Some p

@@ -1,8 +1,6 @@
 -- A run of events with the batches that its drains give.
 use Rattle.std.proofs.Common.{◌≡◌, ℕ, zero, suc, ◌^◌, ◌<◌, true, false, List, [], ◌∷◌, ◌++◌, take, length, map, inl, inr, refl, sym, ap, ◌∙◌, subst, arith, append_assoc, length-append}
 use Rattle.std.specs.Prelude.{IfSome, slice_get}
-use Rattle.std.specs.List.{list_all}
-use Rattle.std.proofs.lemmas.List.Folds.{list_all-append}
 use Rattle.std.specs.Option.{option_map, unwrap_or}
 use Rattle.std.proofs.Math.Seq.{drop-append_seam}
 use Rattle.std.proofs.lemmas.List.{append-nil}
@@ -13,10 +11,14 @@ use Rattle.hy_schema.specs.Loads.{IsLoad}
 use Rattle.hy_passes.specs.SerialList.{IsSerial}
 use Rattle.hy_passes.specs.declared.entry.Entry.{Entry}
 use Rattle.hy_commands.specs.declared.command.Commit.{Commit}
+use Rattle.hy_commands.specs.declared.edition.Edition.{Edition}
+use Rattle.hy_commands.specs.declared.edition.Edition.TheVariants as editions
 use Rattle.hy_commands.specs.Commands.{number_of, warehouses_of_commit}
 use Rattle.hy_partition.specs.Jobs.{Log}
 use Rattle.hy_partition.specs.Partition.{projection_of}
-use Rattle.hy_batches.specs.Grammar.{is_batch}
+use Rattle.hy_batches.specs.Batches.{Batch, may_follow}
+use Rattle.hy_batches.specs.Grammar.{are_batches, last_edition}
+use Rattle.hy_batches.proofs.LogLaws.{batches-more}
 use Rattle.hy_sound.specs.Sound.{AreSound, IsSoundBatch, list_at}
 use Rattle.hy_sound.proofs.SoundLaws.{sound-more}
 use Rattle.hy_schedules.specs.Schedules.{DoesAll, EventOfAll, HappensAll, KeepsEverything, KeepsPlace, Place, RunsAll, Whole, fresh_place, fresh_whole, place_at, with_drained, with_places}
@@ -25,21 +27,22 @@ use Rattle.hy_schedules.proofs.PlaceLaws.{length-each}
 use Rattle.hy_recovery.specs.Recovering.{joined}
 use Rattle.hy_recovery.specs.inside.Ways.{crossings_in}
 use Rattle.hy_recovery.proofs.PlaceLaws.{at-place, each-from, get-some, get-within}
-use Rattle.hy_durability.specs.Durability.{AreDurable, RunsGiving, batch_of, given}
+use Rattle.hy_durability.specs.Durability.{AreDurable, RunsGiving, batch_of, given, is_new}
 use Rattle.hy_durability.proofs.BatchLaws.{batch-told, lists-are, projection-behind, sound-batch}
 use Rattle.hy_durability.proofs.FitLaws.{AreFit, IsFit}
-use Rattle.hy_durability.proofs.GrowLaws.{drained-all, drained_at, grows, is_drain}
+use Rattle.hy_durability.proofs.GrowLaws.{AllRunNew, drained-all, drained_at, grows, is_drain, new-each}
 
 abbrev Batches : Type 0
-Batches = List (List (List Commit))
+Batches = List Batch
 
 -- what every schedule keeps
 abbrev pub EveryScheduleKeeps : Type 0
 EveryScheduleKeeps = (lists : Lists) (events : List EventOfAll) (whole : Whole) → IsLoad lists
     → RunsAll events (fresh_whole lists) whole → KeepsEverything lists whole
 
--- the batches so far have what stands in a front of the serial list, which was drained
-record IsDrained (lists : Lists) (whole : Whole) (batches : List (List (List Commit))) : Type 0 where
+-- the batches so far have what stands in a front of the serial list, which was drained, and what runs is of the second
+-- edition
+record IsDrained (lists : Lists) (whole : Whole) (batches : List Batch) : Type 0 where
   front : Log
   rest : Log
   log_is : whole.log ≡ front ++ rest
@@ -50,13 +53,25 @@ record IsDrained (lists : Lists) (whole : Whole) (batches : List (List (List Com
   sound : AreSound lists 0 (crossings_in front) batches
   joined_are : (place : ℕ) → place < length whole.places → joined batches place ≡ projection_of (suc place) front
   fit : AreFit lists whole.log
-  told : length whole.log < 2 ^ 32 → list_all is_batch batches ≡ true
+  new_run : AllRunNew whole.places
+  told : length whole.log < 2 ^ 32 → are_batches batches ≡ true
 
 -- nothing was drained of a fresh database
 drained-fresh : {Row : Type 0} (rows : List Row) (place : ℕ) → drained_at (map (λ row. fresh_place) rows) (suc place) ≡ 0
 drained-fresh [] place = refl
 drained-fresh (row ∷ rows) zero = refl
 drained-fresh (row ∷ rows) (suc place) = drained-fresh rows place
+
+new-fresh : {Row : Type 0} (rows : List Row) → AllRunNew (map (λ row. fresh_place) rows)
+new-fresh rows zero = tt
+new-fresh [] (suc place) = tt
+new-fresh (row ∷ rows) (suc zero) = tt
+new-fresh (row ∷ rows) (suc (suc place)) = new-fresh rows (suc place)
+
+-- one of the second edition may stand behind any
+second-follows : (edition : Edition) → may_follow edition editions.Second ≡ true
+second-follows editions.First = refl
+second-follows editions.Second = refl
 
 length-fresh : {Row : Type 0} (rows : List Row) → length (map (λ row. fresh_place) rows) ≡ length rows
 length-fresh [] = refl
@@ -70,13 +85,14 @@ pub runs-of : (events : List EventOfAll) (old new : Whole) (batches : Batches) �
     → RunsAll events old new
 runs-of [] old new batches run = run.0
 runs-of (event ∷ events) old new batches run =
-    (run.0, elim run.3 [ inl same ↦ inl same.0 | inr does ↦ inr does.0 ], runs-of events run.0 new run.2 run.4)
+    (run.0, elim run.3 [ inl same ↦ inl same.0 | inr does ↦ inr does.1 ], runs-of events run.0 new run.2 run.4)
 
 module _ (lists : Lists) where
-  joined-more : (batches : Batches) (batch : List (List Commit)) (place : ℕ)
-      → joined (batches ++ batch ∷ []) place ≡ joined batches place ++ list_at batch place
+  joined-more : (batches : Batches) (batch : Batch) (place : ℕ)
+      → joined (batches ++ batch ∷ []) place ≡ joined batches place ++ list_at batch.lists place
   joined-more batches batch place =
-      flat_map-append (λ batch. list_at batch place) batches (batch ∷ []) ∙ ap (λ rows. joined batches place ++ rows) (append-nil (list_at batch place))
+      flat_map-append (λ (batch : Batch). list_at batch.lists place) batches (batch ∷ [])
+      ∙ ap (λ rows. joined batches place ++ rows) (append-nil (list_at batch.lists place))
 
   module _ (keeps : EveryScheduleKeeps) (is_load : IsLoad lists) where
     -- a run may go on by an event
@@ -93,9 +109,9 @@ module _ (lists : Lists) where
 
     -- an event that is no drain
     drained-other : (event : EventOfAll) (old new : Whole) (batches : Batches) → is_drain event ≡ false
-        → IsDrained lists old batches → DoesAll event old new → IsDrained lists new batches
-    drained-other event old new batches other is does =
-        let more = grows lists event old new other is.load is.count does in
+        → is_new event ≡ true → IsDrained lists old batches → DoesAll event old new → IsDrained lists new batches
+    drained-other event old new batches other second is does =
+        let more = grows lists event old new other second is.load is.count is.new_run does in
         record {
           front = is.front;
           rest = is.rest ++ more.more;
@@ -107,6 +123,7 @@ module _ (lists : Lists) where
           joined_are = λ place within. is.joined_are place (omega (arith, within, more.count));
           fit = subst (AreFit lists) (sym more.log_is)
               (All-append (λ (e : Entry Commit). IsFit lists e.commit) old.log more.more is.fit more.fit);
+          new_run = more.new_run;
           told = λ small. is.told (omega (arith, small, ap length more.log_is, length-append old.log more.more));
         }
 
@@ -150,33 +167,36 @@ module _ (lists : Lists) where
           joined_are = λ place within.
               let inside : place < length old.places = omega (arith, within, same) in
               joined-more batches batch place
-              ∙ ap (λ rows. rows ++ list_at batch place) (is.joined_are place inside)
+              ∙ ap (λ rows. rows ++ list_at batch.lists place) (is.joined_are place inside)
               ∙ ap (λ rows. projection_of (suc place) is.front ++ rows)
               (lists-are lists old.places is.front is.rest is.count kept is.drained place inside)
               ∙ sym (projection-behind (suc place) is.front is.rest) ∙ ap (projection_of (suc place)) (sym is.log_is);
           fit = subst (AreFit lists) (sym (ap (λ (w : Whole). w.log) does)) is.fit;
+          new_run = subst (λ (w : Whole). AllRunNew w.places) (sym does)
+              (new-each with_drained (λ n place. refl) old.places is.new_run);
           told = λ small.
               let within : length (is.front ++ is.rest) < 2 ^ 32 =
               omega (arith, small, ap (λ (w : Whole). length w.log) does, ap length is.log_is) in
               let first = is.told (omega (arith, within, ap length is.log_is)) in
               let later = batch-told lists old.places is.front is.rest is.count kept is.drained fit_rest serial is_load within in
-              list_all-append is_batch batches (batch ∷ []) ∙ rw (first, later) refl;
+              batches-more editions.First batches batch first later (second-follows (last_edition editions.First batches));
         }
 
     -- any event
     drained-event : (event : EventOfAll) (old new : Whole) (batches : Batches) → KeepsEverything lists old
-        → IsDrained lists old batches → DoesAll event old new → IsDrained lists new (batches ++ given event old)
-    drained-event all.drains old new batches everything is does = drained-drain old new batches everything is does
-    drained-event (all.at number event) old new batches everything is does =
-        still new batches (drained-other (all.at number event) old new batches refl is does)
-    drained-event (all.crosses client command) old new batches everything is does =
-        still new batches (drained-other (all.crosses client command) old new batches refl is does)
-    drained-event (all.forks_all client children) old new batches everything is does =
-        still new batches (drained-other (all.forks_all client children) old new batches refl is does)
-    drained-event (all.closes_all children) old new batches everything is does =
-        still new batches (drained-other (all.closes_all children) old new batches refl is does)
-    drained-event (all.looks client) old new batches everything is does =
-        still new batches (drained-other (all.looks client) old new batches refl is does)
+        → IsDrained lists old batches → is_new event ≡ true → DoesAll event old new
+        → IsDrained lists new (batches ++ given event old)
+    drained-event all.drains old new batches everything is second does = drained-drain old new batches everything is does
+    drained-event (all.at number event) old new batches everything is second does =
+        still new batches (drained-other (all.at number event) old new batches refl second is does)
+    drained-event (all.crosses client edition command) old new batches everything is second does =
+        still new batches (drained-other (all.crosses client edition command) old new batches refl second is does)
+    drained-event (all.forks_all client children) old new batches everything is second does =
+        still new batches (drained-other (all.forks_all client children) old new batches refl second is does)
+    drained-event (all.closes_all children) old new batches everything is second does =
+        still new batches (drained-other (all.closes_all children) old new batches refl second is does)
+    drained-event (all.looks client) old new batches everything is second does =
+        still new batches (drained-other (all.looks client) old new batches refl second is does)
 
     drained-run : (events done : List EventOfAll) (old new : Whole) (before batches : Batches)
         → RunsAll done (fresh_whole lists) old → IsDrained lists old before → RunsGiving events old new batches
@@ -189,11 +209,11 @@ module _ (lists : Lists) where
         let here : IsDrained lists mid (before ++ run.1) = elim run.3 [
           | inl same ↦ subst (λ rows. IsDrained lists mid (before ++ rows)) (sym same.1)
               (still mid before (subst (λ (w : Whole). IsDrained lists w before) (sym same.0) is))
-          | inr does ↦ subst (λ rows. IsDrained lists mid (before ++ rows)) (sym does.1)
-              (drained-event event old mid before (keeps lists done old is_load ran) is does.0)
+          | inr does ↦ subst (λ rows. IsDrained lists mid (before ++ rows)) (sym does.2)
+              (drained-event event old mid before (keeps lists done old is_load ran) is does.0 does.1)
         ] in
         let on : RunsAll (done ++ event ∷ []) (fresh_whole lists) mid =
-        runs-more done event (fresh_whole lists) old mid ran (elim run.3 [ inl same ↦ inl same.0 | inr does ↦ inr does.0 ]) in
+        runs-more done event (fresh_whole lists) old mid ran (elim run.3 [ inl same ↦ inl same.0 | inr does ↦ inr does.1 ]) in
         let all : IsDrained lists new ((before ++ run.1) ++ run.2) =
         drained-run events (done ++ event ∷ []) mid new (before ++ run.1) run.2 on here run.4 in
         subst (IsDrained lists new) (append_assoc before run.1 run.2 ∙ ap (λ rows. before ++ rows) (sym run.5)) all
@@ -209,6 +229,7 @@ module _ (lists : Lists) where
       sound = refl;
       joined_are = λ place within. refl;
       fit = All-nil (λ (e : Entry Commit). IsFit lists e.commit);
+      new_run = new-fresh lists.tables.warehouses;
       told = λ small. refl;
     }
 

@@ -10,6 +10,7 @@ use Rattle.hy_schema.specs.declared.refusal.Refusal.{Refusal}
 use Rattle.hy_schema.specs.declared.refusal.Refusal.TheVariants as refusals
 use Rattle.hy_passes.proofs.Beginnings.{begins_itself, begins_longer}
 use Rattle.hy_commands.specs.declared.command.Commit.{Commit}
+use Rattle.hy_batches.specs.Batches.{Batch}
 use Rattle.hy_sound.specs.Sound.{IsSoundLog, list_at}
 use Rattle.hy_redo.specs.Calls.{AreCalls, Call, LogState, acknowledged, handed, log_behind}
 use Rattle.hy_redo.specs.Disk.{BeginsBehind, LeaveBatches, MayLeave}
@@ -21,13 +22,13 @@ use Rattle.hy_durability.proofs.RunLaws.{EveryScheduleKeeps, are-durable, runs-o
 use Rattle.hy_durability.proofs.VerdictLaws.{one-verdict, sound-beginning}
 
 abbrev Batches : Type 0
-Batches = List (List (List Commit))
+Batches = List Batch
 
 -- ---- beginnings
 
-joined-cons : (batch : List (List Commit)) (batches : Batches) (place : ℕ)
-    → joined (batch ∷ batches) place ≡ list_at batch place ++ joined batches place
-joined-cons batch batches place = flat_map-cons (λ batch. list_at batch place) batch batches
+joined-cons : (batch : Batch) (batches : Batches) (place : ℕ)
+    → joined (batch ∷ batches) place ≡ list_at batch.lists place ++ joined batches place
+joined-cons batch batches place = flat_map-cons (λ (batch : Batch). list_at batch.lists place) batch batches
 
 -- all batches have more than the first of them
 rest-joined : (count : ℕ) (batches : Batches) (place : ℕ)
@@ -37,8 +38,8 @@ rest-joined (suc count) [] place = ([], refl)
 rest-joined (suc count) (batch ∷ batches) place =
     let later = rest-joined count batches place in (
       later.0,
-      joined-cons batch batches place ∙ ap (λ rows. list_at batch place ++ rows) later.1
-          ∙ sym (append_assoc (list_at batch place) (joined (take count batches) place) later.0)
+      joined-cons batch batches place ∙ ap (λ rows. list_at batch.lists place ++ rows) later.1
+          ∙ sym (append_assoc (list_at batch.lists place) (joined (take count batches) place) later.0)
           ∙ ap (λ rows. rows ++ later.0) (sym (joined-cons batch (take count batches) place)),
     )
 
@@ -51,8 +52,8 @@ fewer-joined (suc fewer) (suc count) [] place within = ([], refl)
 fewer-joined (suc fewer) (suc count) (batch ∷ batches) place within =
     let later = fewer-joined fewer count batches place (omega (arith, within)) in (
       later.0,
-      joined-cons batch (take count batches) place ∙ ap (λ rows. list_at batch place ++ rows) later.1
-          ∙ sym (append_assoc (list_at batch place) (joined (take fewer batches) place) later.0)
+      joined-cons batch (take count batches) place ∙ ap (λ rows. list_at batch.lists place ++ rows) later.1
+          ∙ sym (append_assoc (list_at batch.lists place) (joined (take fewer batches) place) later.0)
           ∙ ap (λ rows. rows ++ later.0) (sym (joined-cons batch (take fewer batches) place)),
     )
 

@@ -27,6 +27,8 @@ use Rattle.hy_commands.specs.declared.command.Purchase.{Purchase}
 use Rattle.hy_commands.specs.declared.command.PurchaseLine.{PurchaseLine}
 use Rattle.hy_commands.specs.declared.command.Who.{Who}
 use Rattle.hy_commands.specs.declared.command.Who.TheVariants as who
+use Rattle.hy_commands.specs.declared.edition.Edition.{Edition}
+use Rattle.hy_commands.specs.declared.edition.Edition.TheVariants as editions
 use Rattle.hy_commands.specs.Commands.{command_of, is_line_in_range, is_moment, is_reader, is_who, number_of, warehouses_of, with_named}
 use Rattle.hy_passes.specs.SerialList.{is_number}
 use Rattle.hy_commands.specs.NewOrders.{has_item}
@@ -35,6 +37,7 @@ use Rattle.hy_commands.specs.Transactions.{has_customer}
 use Rattle.hy_commands.proofs.AcceptedLaws.{IsAcceptedIn, accepted-in, named-suppliers}
 use Rattle.hy_commands.proofs.DatabaseLaws.{rows-load, there-load}
 use Rattle.hy_database.proofs.PartLaws.{named-customer_home}
+use Rattle.hy_batches.specs.Batches.{is_edition}
 use Rattle.hy_batches.specs.Grammar.{are_lists, command_fits, fits, is_commit, is_list, line_fits, who_fits}
 use Rattle.hy_sound.specs.Sound.{list_at}
 use Rattle.hy_recovery.proofs.LocalLaws.{none-is}
@@ -215,18 +218,21 @@ module _ (lists : Lists) (is_load : IsLoad lists) where
 
   -- ---- commits
 
-  -- a commit that can be run again, with its number, may stand in the list of each warehouse that it names
+  -- a commit that can be run again, with its number, may stand in the list of each warehouse that it names, in a batch of
+  -- the second edition
   pub commit-told : (number most : ℕ) (commit : Commit) → IsFit lists commit
       → list_any (λ name. name == number) (warehouses_of (command_of commit)) ≡ true
       → is_number (number_of commit) ≡ nat_lt 1 (length (warehouses_of (command_of commit)))
-      → OnNumber (λ n. (1 ≤ n) × (n ≤ most)) commit → most < 2 ^ 32 → is_commit number commit ≡ true
-  commit-told number most (commits.Local command) fit named marked numbered small =
+      → OnNumber (λ n. (1 ≤ n) × (n ≤ most)) commit → most < 2 ^ 32 → is_commit editions.Second number commit ≡ true
+  commit-told number most (commits.Local edition command) fit named marked numbered small =
+      let new : is_edition edition editions.Second ≡ true = ap (λ e. is_edition e editions.Second) fit.edition in
       let is = accepted-in (database_of lists) command (none-is (refusal_in (database_of lists) command) fit.known) in
       let in_range = is.in_range in
       let one : nat_lt 1 (length (warehouses_of command)) ≡ false = sym marked in
       let fits = known-fits command fit.writes is in
-      rw (in_range, named, one, fits) refl
-  commit-told number most (commits.Cross crossing command) fit named marked numbered small =
+      rw (new, in_range, named, one, fits) refl
+  commit-told number most (commits.Cross edition crossing command) fit named marked numbered small =
+      let new : is_edition edition editions.Second ≡ true = ap (λ e. is_edition e editions.Second) fit.edition in
       let is = accepted-in (database_of lists) command (none-is (refusal_in (database_of lists) command) fit.known) in
       let in_range = is.in_range in
       let several : nat_lt 1 (length (warehouses_of command)) ≡ true = sym marked in
@@ -234,18 +240,18 @@ module _ (lists : Lists) (is_load : IsLoad lists) where
       let payer = fit.payer in
       let told : fits 8 crossing ≡ true = fits-below 8 crossing (2 ^ 32) (omega (arith, numbered.1, small)) (lit< tt) in
       let fits = known-fits command fit.writes is in
-      rw (in_range, named, several, first, payer, told, fits) refl
+      rw (new, in_range, named, several, first, payer, told, fits) refl
 
 -- ---- batches
 
-pub lists-told : (number : ℕ) (batch : List (List Commit))
-    → ((place : ℕ) → place < length batch → is_list (number + place) (list_at batch place) ≡ true)
-    → are_lists number batch ≡ true
-lists-told number [] each = refl
-lists-told number (rows ∷ batch) each =
+pub lists-told : (edition : Edition) (number : ℕ) (lists : List (List Commit))
+    → ((place : ℕ) → place < length lists → is_list edition (number + place) (list_at lists place) ≡ true)
+    → are_lists edition number lists ≡ true
+lists-told edition number [] each = refl
+lists-told edition number (rows ∷ lists) each =
     let same : number + 0 ≡ number = omega arith in
-    let first = subst (λ n. is_list n rows ≡ true) same (each 0 (omega arith)) in
-    let later = lists-told (number + 1) batch (λ place within.
+    let first = subst (λ n. is_list edition n rows ≡ true) same (each 0 (omega arith)) in
+    let later = lists-told edition (number + 1) lists (λ place within.
     let next : number + suc place ≡ number + 1 + place = omega arith in
-    subst (λ n. is_list n (list_at batch place) ≡ true) next (each (suc place) (omega (arith, within)))) in
+    subst (λ n. is_list edition n (list_at lists place) ≡ true) next (each (suc place) (omega (arith, within)))) in
     rw (first, later) refl

@@ -1,12 +1,19 @@
 -- What a drain answers is the batch of the model.
 use Rattle.std.proofs.Common.{◌≡◌, ℕ, suc, List, [], ◌∷◌, drop, map, refl, sym, ap, ◌∙◌}
+use Rattle.hy_commands.specs.declared.command.Commit.{Commit}
+use Rattle.hy_commands.specs.declared.edition.Edition.TheVariants as editions
+use Rattle.hy_batches.specs.Batches.{Batch}
 use Rattle.hy_partition.specs.Jobs.{Log}
 use Rattle.hy_partition.specs.Partition.{PartitionState, undrained}
+use Rattle.hy_forks.specs.Drains.{drained_of}
 use Rattle.hy_schedules.specs.Schedules.{ArePlacesOf, IsWholeOf, Place, Whole}
 use Rattle.hy_durability.specs.Durability.{batch_of}
 
+abbrev of_second : List (List Commit) → Batch
+of_second lists = record { edition = editions.Second; lists = lists }
+
 undrained-placed : (n : ℕ) (log : Log) (whole : Whole) (number : ℕ) (parts : List PartitionState) (places : List Place)
-    → ArePlacesOf n log whole number parts places → map undrained parts ≡ batch_of places
+    → ArePlacesOf n log whole number parts places → map undrained parts ≡ (batch_of places).lists
 undrained-placed n log whole number [] [] are = refl
 undrained-placed n log whole number (p ∷ parts) (place ∷ places) are =
     ap (λ rows. rows ∷ map undrained parts)
@@ -16,5 +23,5 @@ undrained-placed n log whole number [] (place ∷ places) are = absurd are
 undrained-placed n log whole number (p ∷ parts) [] are = absurd are
 
 pub undrained-are : (n : ℕ) (log : Log) (parts : List PartitionState) (whole : Whole) → IsWholeOf n log parts whole
-    → map undrained parts ≡ batch_of whole.places
-undrained-are n log parts whole is = undrained-placed n log whole 1 parts whole.places is.1
+    → drained_of parts ≡ batch_of whole.places
+undrained-are n log parts whole is = ap of_second (undrained-placed n log whole 1 parts whole.places is.1)

@@ -12,6 +12,7 @@ use Rattle.hy_passes.specs.SerialList.{names}
 use Rattle.hy_commands.specs.declared.command.Commit.{Commit}
 use Rattle.hy_commands.specs.declared.command.Commit.TheVariants as commits
 use Rattle.hy_commands.specs.Commands.{number_of, warehouses_of_commit}
+use Rattle.hy_batches.specs.Batches.{Batch}
 use Rattle.hy_sound.specs.Sound.{AreInStep, AreSound, IsFirstUnsound, IsSoundBatch, IsSoundLog, list_at, names_one_of}
 
 -- ---- what holds of those that pass a test
@@ -37,8 +38,8 @@ all-passing {Row = Row} Holds test (row ∷ rows) all =
 
 -- what holds of the number of a commit of several warehouses
 abbrev pub OnNumber : (ℕ → Type 0) → Commit → Type 0
-OnNumber Holds (commits.Local command) = Unit {0}
-OnNumber Holds (commits.Cross number command) = Holds number
+OnNumber Holds (commits.Local edition command) = Unit {0}
+OnNumber Holds (commits.Cross edition number command) = Holds number
 
 abbrev IsAtMost : ℕ → Commit → Type 0
 IsAtMost most = OnNumber (λ n. n ≤ most)
@@ -56,20 +57,20 @@ range-few low (suc (suc count)) most all =
 
 hold-numbers : (Holds : ℕ → Type 0) (rows : List Commit) → All (OnNumber Holds) rows → All Holds (filter_map number_of rows)
 hold-numbers Holds [] all = All-nil Holds
-hold-numbers Holds (commits.Local command ∷ rows) all =
-    hold-numbers Holds rows (All-tail (OnNumber Holds) (commits.Local command) rows all)
-hold-numbers Holds (commits.Cross number command ∷ rows) all =
+hold-numbers Holds (commits.Local edition command ∷ rows) all =
+    hold-numbers Holds rows (All-tail (OnNumber Holds) (commits.Local edition command) rows all)
+hold-numbers Holds (commits.Cross edition number command ∷ rows) all =
     All-cons Holds number (filter_map number_of rows)
-    (All-head (OnNumber Holds) (commits.Cross number command) rows all)
-    (hold-numbers Holds rows (All-tail (OnNumber Holds) (commits.Cross number command) rows all))
+    (All-head (OnNumber Holds) (commits.Cross edition number command) rows all)
+    (hold-numbers Holds rows (All-tail (OnNumber Holds) (commits.Cross edition number command) rows all))
 
 pub numbers-hold : (Holds : ℕ → Type 0) (rows : List Commit) → All Holds (filter_map number_of rows)
     → All (OnNumber Holds) rows
 numbers-hold Holds [] all = All-nil (OnNumber Holds)
-numbers-hold Holds (commits.Local command ∷ rows) all =
-    All-cons (OnNumber Holds) (commits.Local command) rows tt (numbers-hold Holds rows all)
-numbers-hold Holds (commits.Cross number command ∷ rows) all =
-    All-cons (OnNumber Holds) (commits.Cross number command) rows
+numbers-hold Holds (commits.Local edition command ∷ rows) all =
+    All-cons (OnNumber Holds) (commits.Local edition command) rows tt (numbers-hold Holds rows all)
+numbers-hold Holds (commits.Cross edition number command ∷ rows) all =
+    All-cons (OnNumber Holds) (commits.Cross edition number command) rows
     (All-head Holds number (filter_map number_of rows) all)
     (numbers-hold Holds rows (All-tail Holds number (filter_map number_of rows) all))
 
@@ -146,19 +147,19 @@ module _ (before one other count : ℕ) (lists : ℕ → List Commit) (first : A
         | inr none ↦ omega (arith, none, second.last, first.last)
       ]
 
-same-after : (lists : Lists) (before one other : ℕ) (batch : List (List Commit)) → IsSoundBatch lists before one batch
+same-after : (lists : Lists) (before one other : ℕ) (batch : Batch) → IsSoundBatch lists before one batch
     → IsSoundBatch lists before other batch → one ≡ other
 same-after lists before one other batch first second =
     omega (
       arith,
-      second-within before one other (length batch) (list_at batch) first.in_step second.in_step,
-      second-within before other one (length batch) (list_at batch) second.in_step first.in_step,
+      second-within before one other (length batch.lists) (list_at batch.lists) first.in_step second.in_step,
+      second-within before other one (length batch.lists) (list_at batch.lists) second.in_step first.in_step,
     )
 
 -- ---- logs
 
 -- a batch of a sound log is sound behind any account of those before it
-sound-behind : (lists : Lists) (before last after : ℕ) (front rest : List (List (List Commit))) (batch : List (List Commit))
+sound-behind : (lists : Lists) (before last after : ℕ) (front rest : List Batch) (batch : Batch)
     → AreSound lists before last front → AreSound lists before after (front ++ batch ∷ rest)
     → (middle : ℕ) × IsSoundBatch lists last middle batch
 sound-behind lists before last after [] rest batch is whole =
@@ -168,7 +169,7 @@ sound-behind lists before last after (first ∷ front) rest batch is whole =
     sound-behind lists is.0 last after front rest batch is.2
     (subst (λ n. AreSound lists n after (front ++ batch ∷ rest)) same whole.2)
 
-pub one-verdict : (lists : Lists) (batches : List (List (List Commit))) (place : ℕ) → IsSoundLog lists batches
+pub one-verdict : (lists : Lists) (batches : List Batch) (place : ℕ) → IsSoundLog lists batches
     → IsFirstUnsound lists batches place → ⊥
 one-verdict lists batches place sound unsound =
     let whole : AreSound lists 0 sound.0 (unsound.front ++ unsound.batch ∷ unsound.rest) =
@@ -177,7 +178,7 @@ one-verdict lists batches place sound unsound =
     unsound.unsound found.0 found.1
 
 -- the first batches of a sound log
-pub sound-beginning : (lists : Lists) (before after : ℕ) (batches : List (List (List Commit))) (count : ℕ)
+pub sound-beginning : (lists : Lists) (before after : ℕ) (batches : List Batch) (count : ℕ)
     → AreSound lists before after batches → (last : ℕ) × AreSound lists before last (take count batches)
 sound-beginning lists before after batches zero is = (before, refl)
 sound-beginning lists before after [] (suc count) is = (before, refl)

@@ -1,57 +1,66 @@
 -- What the drains of a database give, one behind another, in whatever order its calls are made.
-use Rattle.std.specs.Prelude.{◌≡◌, ◌⊎◌, ℕ, suc, true, ◌<◌, ◌≤◌, ◌^◌, List, [], ◌∷◌, ◌++◌, drop, length, map, take, IfSome, Result, Ok, Err}
-use Rattle.std.specs.List.{list_all}
+use Rattle.std.specs.Prelude.{◌≡◌, ◌⊎◌, ℕ, suc, Bool, true, ◌<◌, ◌≤◌, ◌^◌, List, [], ◌∷◌, ◌++◌, drop, length, map, take, IfSome, Result, Ok, Err}
 use mathlib.Core.List.{IsPrefix}
 use Rattle.hy_schema.specs.declared.refusal.Refusal.{Refusal}
 use Rattle.hy_schema.specs.declared.refusal.Refusal.TheVariants as refusals
 use Rattle.hy_rows.specs.Tables.{Lists}
-use Rattle.hy_commands.specs.declared.command.Commit.{Commit}
-use Rattle.hy_batches.specs.Grammar.{is_batch}
+use Rattle.hy_commands.specs.declared.edition.Edition.TheVariants as editions
+use Rattle.hy_batches.specs.Batches.{Batch, is_edition}
+use Rattle.hy_batches.specs.Grammar.{are_batches}
 use Rattle.hy_batches.specs.Logs.{IsLog, Reads}
 use Rattle.hy_sound.specs.Sound.{IsSoundLog}
 use Rattle.hy_recovery.specs.Recovering.{IsWhyUnrecovered, joined}
-use Rattle.hy_schedules.specs.Schedules.{DoesAll, EventOfAll, Place, Whole, drains, place_at}
+use Rattle.hy_partition.specs.Schedules.{begins}
+use Rattle.hy_schedules.specs.Schedules.{DoesAll, EventOfAll, Place, Whole, at, crosses, drains, place_at}
 
--- a batch: the commits of each warehouse since the last drain
-abbrev pub batch_of : List Place → List (List Commit)
-batch_of places = map (λ place. drop place.drained place.kept) places
+-- a batch: the commits of each warehouse since the last drain, of the second edition
+abbrev pub batch_of : List Place → Batch
+batch_of places =
+    record { edition = editions.Second; lists = map (λ place. drop place.drained place.kept) places }
 
 -- a drain gives a batch, and no other event does
-abbrev pub given : EventOfAll → Whole → List (List (List Commit))
+abbrev pub given : EventOfAll → Whole → List Batch
 given drains old = batch_of old.places ∷ []
 given event old = []
 
+-- whether a command that an event begins, if it begins one, is of the second edition, as all new commands are
+abbrev pub is_new : EventOfAll → Bool
+is_new (at number (begins client edition command)) = is_edition edition editions.Second
+is_new (crosses client edition command) = is_edition edition editions.Second
+is_new event = true
+
 -- what a call comes to, with the batch that it gives; one that is refused changes nothing and gives none
-abbrev pub Gives : EventOfAll → Whole → Whole → List (List (List Commit)) → Type 0
+abbrev pub Gives : EventOfAll → Whole → Whole → List Batch → Type 0
 Gives event old new batches =
-    ((new ≡ old) × (batches ≡ [])) ⊎ (DoesAll event old new × (batches ≡ given event old))
+    ((new ≡ old) × (batches ≡ []))
+    ⊎ ((is_new event ≡ true) × DoesAll event old new × (batches ≡ given event old))
 
 -- one event after another, with the batches that they give
-abbrev pub RunsGiving : List EventOfAll → Whole → Whole → List (List (List Commit)) → Type 0
+abbrev pub RunsGiving : List EventOfAll → Whole → Whole → List Batch → Type 0
 RunsGiving [] old new batches = (new ≡ old) × (batches ≡ [])
 RunsGiving (event ∷ events) old new batches =
-    (mid : Whole) × (first : List (List (List Commit))) × (later : List (List (List Commit)))
+    (mid : Whole) × (first : List Batch) × (later : List Batch)
     × Gives event old mid first × RunsGiving events mid new later × (batches ≡ first ++ later)
 
 -- the batches of all drains are sound beside the load: their commits of several warehouses agree and have the numbers 1, 2,
 -- 3 and so on, and the load refuses none. Each can be told by its bytes, where fewer than 2^32 commits entered the serial
 -- list. Of each warehouse they have, one behind another, what it has kept up to the last drain
-pub record AreDurable (lists : Lists) (whole : Whole) (batches : List (List (List Commit))) : Type 0 where
+pub record AreDurable (lists : Lists) (whole : Whole) (batches : List Batch) : Type 0 where
   pub sound : IsSoundLog lists batches
-  pub told : length whole.log < 2 ^ 32 → list_all is_batch batches ≡ true
+  pub told : length whole.log < 2 ^ 32 → are_batches batches ≡ true
   pub joined_are : (place : ℕ) → IfSome (place_at whole.places (suc place)) (λ p. joined batches place ≡ take p.drained p.kept)
 
 -- What a stop left of a log into which a database's drains went. It is read as the first of the batches, at least so
 -- many, or memory lacks. These are sound, and where as many commits may be kept as the database had kept, recovery may
 -- refuse them with E2 and E1 alone. Of each warehouse they have, one behind another, the first of what it had kept, at
 -- least what the batches had that were acknowledged
-pub record IsRecoverable (lists : Lists) (whole : Whole) (batches : List (List (List Commit))) (least : ℕ) (left : List ℕ)
+pub record IsRecoverable (lists : Lists) (whole : Whole) (batches : List Batch) (least : ℕ) (left : List ℕ)
     : Type 0 where
   pub count : ℕ
   pub rest : List ℕ
   pub enough : least ≤ count
   pub whole_batches : IsLog left (take count batches) rest
-  pub read : (answer : Result (List (List (List Commit))) Refusal) → Reads left answer
+  pub read : (answer : Result (List Batch) Refusal) → Reads left answer
       → (answer ≡ Ok (take count batches)) ⊎ (answer ≡ Err refusals.NoMemory)
   pub sound : IsSoundLog lists (take count batches)
   pub refused : (most : ℕ) (why : Refusal)

@@ -1,11 +1,12 @@
 //! What a database gives to its log is what it is recovered from.
 
-ghost use Rattle.std.specs.Prelude.{◌<◌, ◌^◌, ◌++◌, ◌≡◌, ℕ, [], List, length, map};
+ghost use Rattle.std.specs.Prelude.{◌<◌, ◌^◌, ◌++◌, ◌≡◌, ℕ, [], List, length};
 ghost use Rattle.hy_rows.specs.Tables.{Lists};
 ghost use Rattle.hy_schema.specs.Loads.{IsLoad};
-ghost use Rattle.hy_commands.specs.declared.command.Commit.{Commit};
+ghost use Rattle.hy_batches.specs.Batches.{Batch};
 ghost use Rattle.hy_partition.specs.Jobs.{Log};
-ghost use Rattle.hy_partition.specs.Partition.{PartitionState, undrained};
+ghost use Rattle.hy_partition.specs.Partition.{PartitionState};
+ghost use Rattle.hy_forks.specs.Drains.{drained_of};
 ghost use Rattle.hy_redo.specs.Calls.{AreCalls, Call, LogState, acknowledged, handed, log_behind};
 ghost use Rattle.hy_redo.specs.Disk.{BeginsBehind, MayLeave};
 ghost use Rattle.hy_schedules.specs.Schedules.{EventOfAll, IsWholeOf, Whole, fresh_whole};
@@ -18,7 +19,7 @@ use hy_schedules::every_schedule_of_all;
 /// among them gave are sound beside the load, can be told by their bytes, and have of each warehouse what it had kept at
 /// the last drain.
 pub fn drained_logs_are_sound()
-    ensures { (lists : Lists) (events : List EventOfAll) (whole : Whole) (batches : List (List (List Commit)))
+    ensures { (lists : Lists) (events : List EventOfAll) (whole : Whole) (batches : List Batch)
         → IsLoad lists → RunsGiving events (fresh_whole lists) whole batches → AreDurable lists whole batches }
 {
     every_schedule_of_all();
@@ -43,5 +44,5 @@ pub fn stops_are_recovered()
 /// drain, is the batch that the model's drain gives.
 pub fn drains_give_batches()
     ensures { (n : ℕ) (log : Log) (parts : List PartitionState) (whole : Whole) → IsWholeOf n log parts whole
-        → map undrained parts ≡ batch_of whole.places }
+        → drained_of parts ≡ batch_of whole.places }
 {}

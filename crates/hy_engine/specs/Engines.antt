@@ -1,5 +1,5 @@
 -- What clauses see of an engine, and what its calls answer.
-use Rattle.std.specs.Prelude.{◌≡◌, ◌⊎◌, ◌<◌, ◌≤◌, ℕ, Bool, true, false, List, None, Some, Result, Err, length, map, nat_lt}
+use Rattle.std.specs.Prelude.{◌≡◌, ◌⊎◌, ◌<◌, ◌≤◌, ℕ, Bool, true, false, List, None, Some, Result, Err, length, nat_lt}
 use mathlib.Core.List.{IsPrefix}
 use Rattle.hy_rows.specs.Tables.{Lists}
 use Rattle.hy_schema.specs.Conditions.{first_broken}
@@ -9,13 +9,15 @@ use Rattle.hy_database.specs.Database.{all_rows}
 use Rattle.hy_commands.specs.declared.command.Command.{Command}
 use Rattle.hy_commands.specs.declared.command.Commit.{Commit}
 use Rattle.hy_commands.specs.Commands.{home_of, warehouses_of}
+use Rattle.hy_batches.specs.Batches.{Batch}
 use Rattle.hy_passes.specs.Worlds.{PassState}
 use Rattle.hy_partition.specs.Jobs.{DoneState, JobState, Log, RunningJob, begun, refused_answer, told}
-use Rattle.hy_partition.specs.Partition.{PartitionState, undrained}
+use Rattle.hy_partition.specs.Partition.{PartitionState}
 use Rattle.hy_partition.specs.Snapshots.{SnapshotState}
 use Rattle.hy_partition.specs.Steps.{Accepts, IsUnbegun, Refuses, begin_refusal, with_job}
 use Rattle.hy_crossing.specs.Crossings.{ArePartitions, database_behind}
 use Rattle.hy_redo.specs.Calls.{Answers, LogState}
+use Rattle.hy_forks.specs.Drains.{drained_of}
 use Rattle.hy_forks.specs.Forks.{SpellsDatabase, are_from}
 use Rattle.hy_forks.specs.Origins.{Origin}
 
@@ -94,8 +96,8 @@ IsWhyUnseen why = (why ≡ refusals.NoSuchWarehouse) ⊎ (why ≡ refusals.NoFra
 -- ---- drains
 
 -- a batch has what some partitions of a load had kept since a drain, whatever that is: so a list for each warehouse
-abbrev pub IsDrainOf : Lists → List (List Commit) → Type 0
-IsDrainOf lists batch = (parts : List PartitionState) × ArePartitions lists parts × (batch ≡ map undrained parts)
+abbrev pub IsDrainOf : Lists → Batch → Type 0
+IsDrainOf lists batch = (parts : List PartitionState) × ArePartitions lists parts × (batch ≡ drained_of parts)
 
 -- why nothing was drained
 abbrev pub IsWhyUndrained : Refusal → Type 0
@@ -105,7 +107,7 @@ IsWhyUndrained why = (why ≡ refusals.NoSuchWarehouse) ⊎ (why ≡ refusals.No
 abbrev pub DrainsInto : Lists → LogState → LogState → Result (Unit {0}) Refusal → Type 0
 DrainsInto lists old new answer =
     ((why : Refusal) × (answer ≡ Err why) × IsWhyUndrained why × (new ≡ old))
-    ⊎ ((batch : List (List Commit)) × IsDrainOf lists batch × Answers old new batch answer)
+    ⊎ ((batch : Batch) × IsDrainOf lists batch × Answers old new batch answer)
 
 -- why nothing was acknowledged: nothing was drained, or the log's writer has failed
 abbrev pub IsWhyUnlogged : Refusal → Type 0

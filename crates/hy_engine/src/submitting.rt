@@ -32,10 +32,11 @@ impl<const N: usize, K: Loaded, G: Gate + Drop> Engine<N, K, G> {
         ensures back { IfErr result (λ refused. refused.0 ≡ job) }
         ensures refused { IfErr result (λ refused. IsWhyBack self.now job refused.1) }
     {
+        let edition = job.edition();
         let (command, pass) = job.open();
         let is_client = (pass.client() as usize) < self.answers.len();
         let home = command.home();
-        let job = Job::new(command, pass);
+        let job = Job::of_edition(edition, command, pass);
         if !is_client {
             return Err((job, Refusal::OutOfRange));
         }

@@ -1,8 +1,10 @@
 -- What was committed since the last drain.
-use Rattle.std.specs.Prelude.{◌≡◌, ℕ, length}
+use Rattle.std.specs.Prelude.{◌≡◌, ℕ, List, length, map}
 use mathlib.Core.List.{IsPrefix}
+use Rattle.hy_commands.specs.declared.edition.Edition.TheVariants as editions
+use Rattle.hy_batches.specs.Batches.{Batch}
 use Rattle.hy_partition.specs.Jobs.{Log}
-use Rattle.hy_partition.specs.Partition.{PartitionState, projection_of}
+use Rattle.hy_partition.specs.Partition.{PartitionState, projection_of, undrained}
 
 -- a partition was told the whole serial list, of which it has kept all that names it
 abbrev pub TellsHere : Log → ℕ → PartitionState → PartitionState → Type 0
@@ -14,3 +16,7 @@ abbrev pub DrainsHere : Log → ℕ → PartitionState → PartitionState → Ty
 DrainsHere log number old new =
     (new ≡ record old { seen = log; drained = length old.kept }) × (old.kept ≡ projection_of old.warehouse log)
     × IsPrefix old.seen log
+
+-- the batch of what was committed in each partition since its last drain: of the second edition, as new commands are
+abbrev pub drained_of : List PartitionState → Batch
+drained_of parts = record { edition = editions.Second; lists = map undrained parts }

@@ -1,16 +1,15 @@
 //! What was committed since the last drain.
 
-ghost use Rattle.std.specs.Prelude.{◌≡◌, IfErr, IfOk, OnErr, OnOk, map};
+ghost use Rattle.std.specs.Prelude.{◌≡◌, IfErr, IfOk, OnErr, OnOk};
 ghost use Rattle.hy_schema.specs.declared.refusal.Refusal.{Refusal};
-ghost use Rattle.hy_partition.specs.Partition.{undrained};
 ghost use Rattle.hy_crossing.specs.Crossings.{ArePartitions, HaveNoPart};
 ghost use Rattle.hy_crossing.specs.Lists.{Pairwise};
-ghost use Rattle.hy_forks.specs.Drains.{DrainsHere};
+ghost use Rattle.hy_forks.specs.Drains.{DrainsHere, drained_of};
 ghost use Rattle.hy_forks.specs.Histories.{IsOneHistory};
 
 use crate::knowing::{know_list, know_load};
 use hy_batches::Batch;
-use hy_commands::Commit;
+use hy_commands::{Commit, Edition};
 use hy_crossing::Parts;
 use hy_partition::{Loaded, Partition};
 use hy_passes::Journal;
@@ -33,7 +32,7 @@ fn copy_undrained<const N: usize, K: Loaded, P: Parts<Part = Partition<N, K>>>(
     alloc: Global,
     parts: &mut P,
 ) -> Result<Batch, AllocError>
-    ensures copies { IfOk result (λ batch. batch ≡ map undrained (P.states parts.old)) }
+    ensures copies { IfOk result (λ batch. batch ≡ drained_of (P.states parts.old)) }
     ensures same { P.states parts.new ≡ P.states parts.old }
 {
     let mut copies = Vec::with_capacity(alloc, parts.len())?;
@@ -41,7 +40,7 @@ fn copy_undrained<const N: usize, K: Loaded, P: Parts<Part = Partition<N, K>>>(
         let commits = parts.part(place).undrained();
         copies.push_reserved(copy_commits(alloc, commits)?);
     }
-    Ok(Batch::new(copies))
+    Ok(Batch::new(Edition::Second, copies))
 }
 
 /// Tells a partition of the whole serial list, and marks its commits as drained.
@@ -69,8 +68,8 @@ fn mark_each<const N: usize, K: Loaded, P: Parts<Part = Partition<N, K>>>(
     }
 }
 
-/// The commits of each warehouse since the last drain, which then count as drained. Refused with E1, and then nothing
-/// is marked.
+/// The commits of each warehouse since the last drain, as a batch of the second edition, which then count as drained.
+/// Refused with E1, and then nothing is marked.
 pub fn drain<const N: usize, K: Loaded, P: Parts<Part = Partition<N, K>>>(
     alloc: Global,
     parts: &mut P,
@@ -78,7 +77,7 @@ pub fn drain<const N: usize, K: Loaded, P: Parts<Part = Partition<N, K>>>(
 ) -> Result<Batch, Refusal>
     requires parts { ArePartitions K.load (P.states parts.old) }
     requires whole { HaveNoPart (P.states parts.old) }
-    ensures drained { IfOk result (λ batch. batch ≡ map undrained (P.states parts.old)) }
+    ensures drained { IfOk result (λ batch. batch ≡ drained_of (P.states parts.old)) }
     ensures marked { OnOk result
         (Pairwise (DrainsHere journal.old.list.log) 1 (P.states parts.old) (P.states parts.new)) }
     ensures history { OnOk result

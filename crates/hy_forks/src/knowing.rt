@@ -8,7 +8,7 @@ ghost use Rattle.hy_commands.specs.Commands.{number_of, warehouses_of_commit};
 ghost use Rattle.hy_partition.specs.Partition.{projection_of};
 ghost use Rattle.hy_crossing.specs.Crossings.{ArePartitions};
 
-use hy_commands::{Command, Commit, StockLevel};
+use hy_commands::{Command, Commit, Edition, StockLevel};
 use hy_crossing::Parts;
 use hy_partition::{Loaded, Partition};
 use hy_passes::{Journal, projections_agree};
@@ -38,10 +38,13 @@ pub(crate) fn know_list<K: Loaded>(journal: &Journal<Commit, K>)
 {
     journal.list.sound();
     // It names the type of commits, and no more.
-    let commit = Commit::Local(Command::StockLevel(StockLevel {
-        warehouse: 1,
-        district: 1,
-        threshold: 10,
-    }));
+    let commit = Commit::Local(
+        Edition::Second,
+        Command::StockLevel(StockLevel {
+            warehouse: 1,
+            district: 1,
+            threshold: 10,
+        }),
+    );
     projections_agree(&commit);
 }

@@ -73,9 +73,23 @@ pub fn run<B: Body, R: Abort + AllocGlobal>(rt: &R, size: Size, body: &B) -> Res
     requires kept { (1 ≤ size.kept) × (size.kept ≤ 10000) }
 {
     let load = generate(rt.alloc(), 1, 3, size.items).expect(rt, "a load");
+    run_on(rt, &load, size, body)
+}
+
+/// The same on a load of one warehouse.
+pub fn run_on<B: Body, R: Abort + AllocGlobal>(
+    rt: &R,
+    load: &Load,
+    size: Size,
+    body: &B,
+) -> Result<(), Refusal>
+    requires page { IsPageSize B.page_size }
+    requires frames { (1 ≤ size.frames) × (size.frames ≤ 1000) }
+    requires kept { (1 ≤ size.kept) × (size.kept ≤ 10000) }
+{
     assert!(rt; load.tables().warehouses.len() == 1);
     let kit = make::<Commit>(rt.alloc(), 1, 3, 1).expect(rt, "a kit");
-    run_in_world::<Brand, _, _>(rt, &load, kit, size, body)
+    run_in_world::<Brand, _, _>(rt, load, kit, size, body)
 }
 
 /// The same in the world of the load and the kit.

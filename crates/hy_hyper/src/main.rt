@@ -16,6 +16,8 @@ mod lists;
 #[cfg(test)]
 mod load_tests;
 #[cfg(test)]
+mod note_tests;
+#[cfg(test)]
 mod partition_tests;
 #[cfg(test)]
 mod pass_tests;

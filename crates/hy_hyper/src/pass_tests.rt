@@ -60,7 +60,7 @@ fn payment(warehouse: u64, district: u64, amount: u64) -> Command {
 /// The district and the cents of a payment that was kept.
 fn paid(commit: &Commit) -> Option<(u64, u64)> {
     match commit {
-        Commit::Local(Command::Payment(payment)) => Some((payment.district, payment.amount)),
+        Commit::Local(_, Command::Payment(payment)) => Some((payment.district, payment.amount)),
         _ => None,
     }
 }

@@ -20,6 +20,7 @@ use Rattle.hy_commands.specs.declared.command.Command.TheVariants as commands
 use Rattle.hy_commands.specs.declared.command.Commit.{Commit}
 use Rattle.hy_commands.specs.declared.command.Commit.TheVariants as commits
 use Rattle.hy_commands.specs.declared.command.Delivery.{Delivery}
+use Rattle.hy_commands.specs.declared.edition.Edition.{Edition}
 use Rattle.hy_commands.specs.Commands.{command_of, home_of, is_reader, kept_of, warehouses_of}
 use Rattle.hy_commands.specs.Deliveries.{delivered, delivered_in, oldest, with_delivered}
 use Rattle.hy_commands.specs.Invariant.{IsSoundWarehouse}
@@ -68,65 +69,65 @@ taken-delivered delivery (district ∷ districts) tables =
         (first_or (order_of []) (is_order delivery.warehouse district (oldest delivery.warehouse district tables))
         tables.orders) tables)).warehouses ≡ tables.warehouses) [ true ↦ refl | false ↦ refl ]
 
-taken-accepted : (items : List Item) (number : ℕ) (command : Command) (tables : Tables)
+taken-accepted : (items : List Item) (number : ℕ) (edition : Edition) (command : Command) (tables : Tables)
     → map (λ (row : Warehouse). row.id) tables.warehouses ≡ number ∷ [] → home_of command ≡ number
-    → taken_in (accepted items number command tables).tables ≡ taken_in tables +ℤ pos (cents_of command)
-taken-accepted items number (commands.NewOrder order) tables one home = omega (arith, ints)
-taken-accepted items number (commands.Payment payment) tables one home =
+    → taken_in (accepted items number edition command tables).tables ≡ taken_in tables +ℤ pos (cents_of command)
+taken-accepted items number edition (commands.NewOrder order) tables one home = omega (arith, ints)
+taken-accepted items number edition (commands.Payment payment) tables one home =
     taken-paid payment.warehouse payment.amount tables.warehouses (one ∙ ap (λ n. n ∷ []) (sym home))
-taken-accepted items number (commands.OrderStatus status) tables one home = omega (arith, ints)
-taken-accepted items number (commands.Delivery delivery) tables one home =
+taken-accepted items number edition (commands.OrderStatus status) tables one home = omega (arith, ints)
+taken-accepted items number edition (commands.Delivery delivery) tables one home =
     ap (column_sum (λ (row : Warehouse). row.ytd)) (taken-delivered delivery district_numbers tables) ∙ omega (arith, ints)
-taken-accepted items number (commands.StockLevel level) tables one home = omega (arith, ints)
+taken-accepted items number edition (commands.StockLevel level) tables one home = omega (arith, ints)
 
 -- the commits of a warehouse with one more of its own
-home-more : (number : ℕ) (kept : List Commit) (command : Command) → home_of command ≡ number
-    → length (home_commits number (kept ++ commits.Local command ∷ [])) ≡ length (home_commits number kept) + 1
-home-more number kept command home =
+home-more : (number : ℕ) (kept : List Commit) (edition : Edition) (command : Command) → home_of command ≡ number
+    → length (home_commits number (kept ++ commits.Local edition command ∷ [])) ≡ length (home_commits number kept) + 1
+home-more number kept edition command home =
     let test : Commit → Bool = λ commit. home_of (command_of commit) == number in
-    ap length (filter-append test kept (commits.Local command ∷ []))
-    ∙ ap (λ b. length (home_commits number kept ++ cond b (commits.Local command ∷ []) [])) (eq-eqb (home_of command) number home)
-    ∙ length-append (home_commits number kept) (commits.Local command ∷ [])
+    ap length (filter-append test kept (commits.Local edition command ∷ []))
+    ∙ ap (λ b. length (home_commits number kept ++ cond b (commits.Local edition command ∷ []) [])) (eq-eqb (home_of command) number home)
+    ∙ length-append (home_commits number kept) (commits.Local edition command ∷ [])
 
 -- the book after an accepted command is that of the commits with this one
-pub booked : (lists : Lists) (number : ℕ) (kept : List Commit) (book : BookState) (command : Command)
+pub booked : (lists : Lists) (number : ℕ) (kept : List Commit) (book : BookState) (edition : Edition) (command : Command)
     → IsSoundWarehouse lists.items number (rows_after lists number kept)
     → refusal_of lists.items number command (rows_after lists number kept) ≡ None → IsBookOf lists number kept book
-    → IsBookOf lists number (kept ++ kept_of command) (with_command book command)
-booked lists number kept book command sound accepted is =
+    → IsBookOf lists number (kept ++ kept_of edition command) (with_command book command)
+booked lists number kept book edition command sound accepted is =
     elim (is_reader command) as (λ b. is_reader command ≡ b
-    → IsBookOf lists number (kept ++ cond b [] (commits.Local command ∷ []))
+    → IsBookOf lists number (kept ++ cond b [] (commits.Local edition command ∷ []))
     (cond b book (record book { commits = book.commits + 1; cents = book.cents + cents_of command }))) [
       | true ↦ λ reads. subst (λ commits. IsBookOf lists number commits book) (sym (append-nil kept)) is
       | false ↦ λ writes.
           let home = home-accepted lists.items number command (rows_after lists number kept) accepted in
           record {
             warehouse_is = is.warehouse_is;
-            commits_are = ap (λ n. n + 1) is.commits_are ∙ sym (home-more number kept command home);
+            commits_are = ap (λ n. n + 1) is.commits_are ∙ sym (home-more number kept edition command home);
             cents_are =
-                ap taken_in (replay-append lists number (of_warehouse number lists.tables) kept command
-                ∙ ap (λ o. o.tables) (act-accepted lists.items number command (rows_after lists number kept) accepted))
-                ∙ taken-accepted lists.items number command (rows_after lists number kept) sound.rows.warehouse home
+                ap taken_in (replay-append lists number (of_warehouse number lists.tables) kept edition command
+                ∙ ap (λ o. o.tables) (act-accepted lists.items number edition command (rows_after lists number kept) accepted))
+                ∙ taken-accepted lists.items number edition command (rows_after lists number kept) sound.rows.warehouse home
                 ∙ ap (λ z. z +ℤ pos (cents_of command)) is.cents_are
                 ∙ omega (arith, ints);
           }
     ] refl
 
 -- what the part of a command over several warehouses takes in: at its home its cents, and nothing elsewhere
-taken-part : (items : List Item) (number : ℕ) (command : Command) (tables : Tables)
+taken-part : (items : List Item) (number : ℕ) (edition : Edition) (command : Command) (tables : Tables)
     → map (λ (row : Warehouse). row.id) tables.warehouses ≡ number ∷ []
-    → taken_in (part items number command tables)
+    → taken_in (part items number edition command tables)
     ≡ taken_in tables +ℤ pos (cond (home_of command == number) (cents_of command) 0)
-taken-part items number (commands.NewOrder order) tables one =
+taken-part items number edition (commands.NewOrder order) tables one =
     elim (order.warehouse == number) as (λ b.
     taken_in (supplied number order (cond b (ordered items order tables) tables)) ≡ taken_in tables +ℤ pos (cond b 0 0)) [
       | true ↦ omega (arith, ints)
       | false ↦ omega (arith, ints)
     ]
-taken-part items number (commands.Payment payment) tables one =
+taken-part items number edition (commands.Payment payment) tables one =
     elim (payment.warehouse == number) as (λ b. (payment.warehouse == number) ≡ b
     → taken_in (cond (payment.customer_warehouse == number)
-    (paid_by payment (number_in payment.who) (cond b (paid_in payment (number_in payment.who) tables) tables))
+    (paid_by edition payment (number_in payment.who) (cond b (paid_in payment (number_in payment.who) tables) tables))
     (cond b (paid_in payment (number_in payment.who) tables) tables))
     ≡ taken_in tables +ℤ pos (cond b payment.amount 0)) [
       | true ↦ λ home.
@@ -137,54 +138,55 @@ taken-part items number (commands.Payment payment) tables one =
     ] refl
   where
     either : (here : Bool) (rows : Tables)
-        → taken_in (cond here (paid_by payment (number_in payment.who) rows) rows) ≡ taken_in rows
+        → taken_in (cond here (paid_by edition payment (number_in payment.who) rows) rows) ≡ taken_in rows
     either true rows = refl
     either false rows = refl
-taken-part items number (commands.OrderStatus status) tables one =
+taken-part items number edition (commands.OrderStatus status) tables one =
     elim (status.warehouse == number) as (λ b. taken_in tables ≡ taken_in tables +ℤ pos (cond b 0 0)) [
       | true ↦ omega (arith, ints)
       | false ↦ omega (arith, ints)
     ]
-taken-part items number (commands.Delivery delivery) tables one =
+taken-part items number edition (commands.Delivery delivery) tables one =
     elim (delivery.warehouse == number) as (λ b.
     taken_in (cond b (delivered delivery tables) tables) ≡ taken_in tables +ℤ pos (cond b 0 0)) [
       | true ↦ ap (column_sum (λ (row : Warehouse). row.ytd)) (taken-delivered delivery district_numbers tables)
           ∙ omega (arith, ints)
       | false ↦ omega (arith, ints)
     ]
-taken-part items number (commands.StockLevel level) tables one =
+taken-part items number edition (commands.StockLevel level) tables one =
     elim (level.warehouse == number) as (λ b. taken_in tables ≡ taken_in tables +ℤ pos (cond b 0 0)) [
       | true ↦ omega (arith, ints)
       | false ↦ omega (arith, ints)
     ]
 
 -- the book after a command over several warehouses
-pub booked-part : (lists : Lists) (number : ℕ) (kept : List Commit) (book : BookState) (command : Command) (crossing : ℕ)
+pub booked-part : (lists : Lists) (number : ℕ) (kept : List Commit) (book : BookState) (edition : Edition)
+    (command : Command) (crossing : ℕ)
     → IsSoundWarehouse lists.items number (rows_after lists number kept)
     → refusal_in (database_of lists) command ≡ None → is_reader command ≡ false → IsBookOf lists number kept book
-    → IsBookOf lists number (kept ++ commits.Cross crossing command ∷ []) (with_part_entered number book command)
-booked-part lists number kept book command crossing sound accepted writes is =
+    → IsBookOf lists number (kept ++ commits.Cross edition crossing command ∷ []) (with_part_entered number book command)
+booked-part lists number kept book edition command crossing sound accepted writes is =
     elim (home_of command == number) as (λ b. (home_of command == number) ≡ b
     → IsBookOf lists number more (cond b (with_command book command) book)) [
       | true ↦ λ home. subst (λ (b : BookState). IsBookOf lists number more b) (sym entered) (record {
         warehouse_is = is.warehouse_is;
         commits_are = ap (λ n. n + 1) is.commits_are ∙ sym (count ∙ ap (λ b. length (home_commits number kept
-            ++ cond b (commits.Cross crossing command ∷ []) [])) home
-            ∙ length-append (home_commits number kept) (commits.Cross crossing command ∷ []));
+            ++ cond b (commits.Cross edition crossing command ∷ []) [])) home
+            ∙ length-append (home_commits number kept) (commits.Cross edition crossing command ∷ []));
         cents_are = taken ∙ ap (λ b. taken_in rows +ℤ pos (cond b (cents_of command) 0)) home
             ∙ ap (λ z. z +ℤ pos (cents_of command)) is.cents_are ∙ omega (arith, ints);
       })
       | false ↦ λ away. record {
         warehouse_is = is.warehouse_is;
         commits_are = is.commits_are ∙ sym (count ∙ ap (λ b. length (home_commits number kept
-            ++ cond b (commits.Cross crossing command ∷ []) [])) away ∙ ap length (append-nil (home_commits number kept)));
+            ++ cond b (commits.Cross edition crossing command ∷ []) [])) away ∙ ap length (append-nil (home_commits number kept)));
         cents_are = taken ∙ ap (λ b. taken_in rows +ℤ pos (cond b (cents_of command) 0)) away
             ∙ ap (λ z. z +ℤ pos 0) is.cents_are ∙ omega (arith, ints);
       }
     ] refl
   where
     more : List Commit
-    more = kept ++ commits.Cross crossing command ∷ []
+    more = kept ++ commits.Cross edition crossing command ∷ []
 
     rows : Tables
     rows = rows_after lists number kept
@@ -193,15 +195,15 @@ booked-part lists number kept book command crossing sound accepted writes is =
     entered = ap (λ b. cond b book (record book { commits = book.commits + 1; cents = book.cents + cents_of command })) writes
 
     count : length (home_commits number more)
-        ≡ length (home_commits number kept ++ cond (home_of command == number) (commits.Cross crossing command ∷ []) [])
+        ≡ length (home_commits number kept ++ cond (home_of command == number) (commits.Cross edition crossing command ∷ []) [])
     count =
-        ap length (filter-append (λ commit. home_of (command_of commit) == number) kept (commits.Cross crossing command ∷ []))
+        ap length (filter-append (λ commit. home_of (command_of commit) == number) kept (commits.Cross edition crossing command ∷ []))
 
     taken : taken_in (rows_after lists number more)
         ≡ taken_in rows +ℤ pos (cond (home_of command == number) (cents_of command) 0)
     taken =
-        ap taken_in (replay-crossed lists number (of_warehouse number lists.tables) kept crossing command accepted)
-        ∙ taken-part lists.items number command rows sound.rows.warehouse
+        ap taken_in (replay-crossed lists number (of_warehouse number lists.tables) kept crossing edition command accepted)
+        ∙ taken-part lists.items number edition command rows sound.rows.warehouse
 
 -- a command over several warehouses doesn't only read
 pub crossing-writes : (command : Command) → nat_lt 1 (length (warehouses_of command)) ≡ true → is_reader command ≡ false

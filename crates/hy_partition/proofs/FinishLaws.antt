@@ -163,7 +163,8 @@ module _ (old now new : PartitionState) (first job : RunningJob) (way : IsOnItsW
   accepts-then start after accepts = record {
     log = accepts.log;
     before_is = accepts.before_is;
-    after_is = accepts.after_is ∙ ap (λ (j : RunningJob). Some (accepts.log ++ entered_by j.command j.pass)) way.job_is;
+    after_is = accepts.after_is
+        ∙ ap (λ (j : RunningJob). Some (accepts.log ++ entered_by j.edition j.command j.pass)) way.job_is;
     does = as_before old now way.rest way.nothing (λ p. AcceptsBehind accepts.log first p new)
         (accepts_before accepts.log
         (subst (λ (j : RunningJob). AcceptsBehind accepts.log j now new) way.job_is accepts.does));

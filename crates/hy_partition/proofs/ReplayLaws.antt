@@ -13,6 +13,7 @@ use Rattle.hy_commands.specs.declared.command.Command.{Command}
 use Rattle.hy_commands.specs.declared.command.Command.TheVariants as commands
 use Rattle.hy_commands.specs.declared.command.Commit.{Commit}
 use Rattle.hy_commands.specs.declared.command.Commit.TheVariants as commits
+use Rattle.hy_commands.specs.declared.edition.Edition.{Edition}
 use Rattle.hy_commands.specs.Commands.{is_reader, kept_of}
 use Rattle.hy_commands.specs.Growth.{HasGrownBy}
 use Rattle.hy_commands.specs.Invariant.{IsSoundWarehouse}
@@ -78,87 +79,91 @@ known-accepted items number command tables accepted =
     none_some none some = cc
 
 -- a command that isn't refused has its outcome
-pub act-accepted : (items : List Item) (number : ℕ) (command : Command) (tables : Tables)
+pub act-accepted : (items : List Item) (number : ℕ) (edition : Edition) (command : Command) (tables : Tables)
     → refusal_of items number command tables ≡ None
-    → act items number command tables ≡ accepted items number command tables
-act-accepted items number command tables accepted = ap (λ refusal. outcome_of refusal items number command tables) accepted
+    → act items number edition command tables ≡ accepted items number edition command tables
+act-accepted items number edition command tables accepted =
+    ap (λ refusal. outcome_of refusal items number edition command tables) accepted
 
 -- a command leaves customers and stock at their places
-pub keeps-act : (loaded : Tables) (items : List Item) (number : ℕ) (command : Command) (tables : Tables)
-    → KeepsPlaces loaded tables → KeepsPlaces loaded (act items number command tables).tables
-keeps-act loaded items number command tables keeps =
+pub keeps-act : (loaded : Tables) (items : List Item) (number : ℕ) (edition : Edition) (command : Command) (tables : Tables)
+    → KeepsPlaces loaded tables → KeepsPlaces loaded (act items number edition command tables).tables
+keeps-act loaded items number edition command tables keeps =
     elim (refusal_of items number command tables) as (λ r. refusal_of items number command tables ≡ r
-    → KeepsPlaces loaded (outcome_of r items number command tables).tables) [
+    → KeepsPlaces loaded (outcome_of r items number edition command tables).tables) [
       | Some refusal ↦ λ refused. keeps
       | None ↦ λ accepted.
-          let done = slices-act items number command tables (begun-accepted items number command tables accepted)
+          let done = slices-act items number edition command tables (begun-accepted items number command tables accepted)
           (known-accepted items number command tables accepted) in
           subst (KeepsPlaces loaded)
-          (done ∙ ap (λ (o : Outcome). o.tables) (act-accepted items number command tables accepted))
-          (keeps-slices loaded items number command (slice_count command) tables keeps)
+          (done ∙ ap (λ (o : Outcome). o.tables) (act-accepted items number edition command tables accepted))
+          (keeps-slices loaded items number edition command (slice_count command) tables keeps)
     ] refl
 
 -- and so does the part of one over several warehouses
-keeps-crossed : (loaded : Tables) (lists : Lists) (number : ℕ) (command : Command) (tables : Tables)
-    (refusal : Option Refusal) → KeepsPlaces loaded tables
-    → KeepsPlaces loaded (part_unless refusal lists.items number command tables)
-keeps-crossed loaded lists number command tables (Some refusal) keeps = keeps
-keeps-crossed loaded lists number command tables None keeps = keeps-part loaded lists.items number command tables keeps
+keeps-crossed : (loaded : Tables) (lists : Lists) (number : ℕ) (edition : Edition) (command : Command)
+    (tables : Tables) (refusal : Option Refusal) → KeepsPlaces loaded tables
+    → KeepsPlaces loaded (part_unless refusal lists.items number edition command tables)
+keeps-crossed loaded lists number edition command tables (Some refusal) keeps = keeps
+keeps-crossed loaded lists number edition command tables None keeps =
+    keeps-part loaded lists.items number edition command tables keeps
 
 pub keeps-replay : (loaded : Tables) (lists : Lists) (number : ℕ) (tables : Tables) (kept : List Commit)
     → KeepsPlaces loaded tables → KeepsPlaces loaded (replay lists number tables kept)
 keeps-replay loaded lists number tables [] keeps = keeps
-keeps-replay loaded lists number tables (commits.Local command ∷ kept) keeps =
-    keeps-replay loaded lists number (act lists.items number command tables).tables kept
-    (keeps-act loaded lists.items number command tables keeps)
-keeps-replay loaded lists number tables (commits.Cross crossing command ∷ kept) keeps =
-    keeps-replay loaded lists number (committed lists number tables (commits.Cross crossing command)) kept
-    (keeps-crossed loaded lists number command tables (refusal_in (database_of lists) command) keeps)
+keeps-replay loaded lists number tables (commits.Local edition command ∷ kept) keeps =
+    keeps-replay loaded lists number (act lists.items number edition command tables).tables kept
+    (keeps-act loaded lists.items number edition command tables keeps)
+keeps-replay loaded lists number tables (commits.Cross edition crossing command ∷ kept) keeps =
+    keeps-replay loaded lists number (committed lists number tables (commits.Cross edition crossing command)) kept
+    (keeps-crossed loaded lists number edition command tables (refusal_in (database_of lists) command) keeps)
 
 -- the replay of what a command adds to the kept list
-pub replay-append : (lists : Lists) (number : ℕ) (loaded : Tables) (kept : List Commit) (command : Command)
-    → replay lists number loaded (kept ++ commits.Local command ∷ [])
-    ≡ (act lists.items number command (replay lists number loaded kept)).tables
-replay-append lists number loaded kept command =
-    fold-append (committed lists number) loaded kept (commits.Local command ∷ [])
+pub replay-append : (lists : Lists) (number : ℕ) (loaded : Tables) (kept : List Commit) (edition : Edition)
+    (command : Command)
+    → replay lists number loaded (kept ++ commits.Local edition command ∷ [])
+    ≡ (act lists.items number edition command (replay lists number loaded kept)).tables
+replay-append lists number loaded kept edition command =
+    fold-append (committed lists number) loaded kept (commits.Local edition command ∷ [])
 
 -- the same of one over several warehouses, which the database doesn't refuse
 pub replay-crossed : (lists : Lists) (number : ℕ) (loaded : Tables) (kept : List Commit) (crossing : ℕ)
-    (command : Command) → refusal_in (database_of lists) command ≡ None
-    → replay lists number loaded (kept ++ commits.Cross crossing command ∷ [])
-    ≡ part lists.items number command (replay lists number loaded kept)
-replay-crossed lists number loaded kept crossing command accepted =
-    fold-append (committed lists number) loaded kept (commits.Cross crossing command ∷ [])
-    ∙ ap (λ refusal. part_unless refusal lists.items number command (replay lists number loaded kept)) accepted
+    (edition : Edition) (command : Command) → refusal_in (database_of lists) command ≡ None
+    → replay lists number loaded (kept ++ commits.Cross edition crossing command ∷ [])
+    ≡ part lists.items number edition command (replay lists number loaded kept)
+replay-crossed lists number loaded kept crossing edition command accepted =
+    fold-append (committed lists number) loaded kept (commits.Cross edition crossing command ∷ [])
+    ∙ ap (λ refusal. part_unless refusal lists.items number edition command (replay lists number loaded kept)) accepted
 
 -- a command that only reads leaves the rows
-pub act-reader : (items : List Item) (number : ℕ) (command : Command) (tables : Tables) → is_reader command ≡ true
-    → (act items number command tables).tables ≡ tables
-act-reader items number command tables reads =
+pub act-reader : (items : List Item) (number : ℕ) (edition : Edition) (command : Command) (tables : Tables)
+    → is_reader command ≡ true → (act items number edition command tables).tables ≡ tables
+act-reader items number edition command tables reads =
     elim (refusal_of items number command tables) as
-    (λ r. (outcome_of r items number command tables).tables ≡ tables) [
+    (λ r. (outcome_of r items number edition command tables).tables ≡ tables) [
       | Some refusal ↦ refl
       | None ↦ reader command reads
     ]
   where
-    reader : (command : Command) → is_reader command ≡ true → (accepted items number command tables).tables ≡ tables
+    reader : (command : Command) → is_reader command ≡ true → (accepted items number edition command tables).tables ≡ tables
     reader (commands.OrderStatus status) reads = refl
     reader (commands.StockLevel level) reads = refl
     reader (commands.NewOrder order) reads = absurd (cc)
     reader (commands.Payment payment) reads = absurd (cc)
     reader (commands.Delivery delivery) reads = absurd (cc)
 
-pub replay-kept_of : (lists : Lists) (number : ℕ) (loaded : Tables) (kept : List Commit) (command : Command)
-    → replay lists number loaded (kept ++ kept_of command)
-    ≡ (act lists.items number command (replay lists number loaded kept)).tables
-replay-kept_of lists number loaded kept command =
+pub replay-kept_of : (lists : Lists) (number : ℕ) (loaded : Tables) (kept : List Commit) (edition : Edition)
+    (command : Command)
+    → replay lists number loaded (kept ++ kept_of edition command)
+    ≡ (act lists.items number edition command (replay lists number loaded kept)).tables
+replay-kept_of lists number loaded kept edition command =
     elim (is_reader command) as (λ b. is_reader command ≡ b
-    → replay lists number loaded (kept ++ cond b [] (commits.Local command ∷ []))
-    ≡ (act lists.items number command (replay lists number loaded kept)).tables) [
+    → replay lists number loaded (kept ++ cond b [] (commits.Local edition command ∷ []))
+    ≡ (act lists.items number edition command (replay lists number loaded kept)).tables) [
       | true ↦ λ reads.
           ap (replay lists number loaded) (append-nil kept)
-          ∙ sym (act-reader lists.items number command (replay lists number loaded kept) reads)
-      | false ↦ λ writes. replay-append lists number loaded kept command
+          ∙ sym (act-reader lists.items number edition command (replay lists number loaded kept) reads)
+      | false ↦ λ writes. replay-append lists number loaded kept edition command
     ] refl
 
 -- with more commits rows may have grown further
@@ -195,8 +200,8 @@ module _ (lists : Lists) (number : ℕ) (kept : List Commit) (is_load : IsLoad l
   pub grown-now : length kept < most_applied → HasGrownBy 100_000_000 rows
   grown-now few = grown-within (length kept) 100_000_000 rows (omega (arith, few)) (grown-rows lists number kept is_load between)
 
-  pub stays_in_bounds : (command : Command) → length kept < most_applied → begin_refusal_of number command rows ≡ None
-      → StaysInBounds (record { load = lists; warehouse = number }) command rows
-  stays_in_bounds command few begins = λ done within known.
-      grown-within (length kept + 1) most_applied (after_slices lists.items number command done rows)
-      (omega (arith, few)) (grown-between lists is_load number kept command done between (inl begins) within known)
+  pub stays_in_bounds : (edition : Edition) (command : Command) → length kept < most_applied
+      → begin_refusal_of number command rows ≡ None → StaysInBounds (record { load = lists; warehouse = number }) edition command rows
+  stays_in_bounds edition command few begins = λ done within known.
+      grown-within (length kept + 1) most_applied (after_slices lists.items number edition command done rows)
+      (omega (arith, few)) (grown-between lists is_load number kept edition command done between (inl begins) within known)

@@ -13,8 +13,10 @@ use Rattle.std.proofs.Math.Seq.{take-length}
 use Rattle.hy_rows.specs.Ranges.{IsBetween}
 use Rattle.hy_rows.specs.Tables.{Lists, Tables}
 use Rattle.hy_schema.specs.Loads.{IsLoad}
+use Rattle.hy_commands.specs.declared.command.Command.{Command}
 use Rattle.hy_commands.specs.declared.command.Commit.{Commit}
 use Rattle.hy_commands.specs.declared.command.Commit.TheVariants as commits
+use Rattle.hy_commands.specs.declared.edition.Edition.{Edition}
 use Rattle.hy_commands.specs.Commands.{is_reader, kept_of, warehouses_of_commit}
 use Rattle.hy_commands.proofs.NamedLaws.{named-accepted}
 use Rattle.hy_commands.specs.Invariant.{MeetsOwnConditions}
@@ -60,14 +62,16 @@ known-more known client log within other =
 -- what a command that a warehouse accepts adds to the serial list: it is the warehouse's, and its stamp is respected
 module _ (items : List Item) (number : ℕ) (tables : Tables) (job : Underway) (log : Log)
     (accepted : refusal_of items number job.command tables ≡ None) (stamped : job.stamp ≤ length log) where
-  projection-entered : projection_of number (log ++ entered job) ≡ projection_of number log ++ kept_of job.command
+  projection-entered : projection_of number (log ++ entered job)
+      ≡ projection_of number log ++ kept_of job.edition job.command
   projection-entered =
       elim (is_reader job.command) as (λ b.
       projection_of number (log ++ map (λ commit. record { commit = commit; stamp = job.stamp })
-      (cond b [] (commits.Local job.command ∷ [])))
-      ≡ projection_of number log ++ cond b [] (commits.Local job.command ∷ [])) [
+      (cond b [] (commits.Local job.edition job.command ∷ [])))
+      ≡ projection_of number log ++ cond b [] (commits.Local job.edition job.command ∷ [])) [
         | true ↦ ap (projection_of number) (append-nil log) ∙ sym (append-nil (projection_of number log))
-        | false ↦ kept-adds warehouses_of_commit number log (record { commit = commits.Local job.command; stamp = job.stamp })
+        | false ↦ kept-adds warehouses_of_commit number log
+            (record { commit = commits.Local job.edition job.command; stamp = job.stamp })
             (ap (λ all. list_any (λ named. named == number) all)
             (named-accepted items number job.command tables accepted)
             ∙ ap (λ b. b || false) (eq-eqb number number refl))
@@ -77,9 +81,10 @@ module _ (items : List Item) (number : ℕ) (tables : Tables) (job : Underway) (
   stamps-entered so =
       elim (is_reader job.command) as (λ b.
       respects_stamps (log ++ map (λ commit. record { commit = commit; stamp = job.stamp })
-      (cond b [] (commits.Local job.command ∷ []))) ≡ true) [
+      (cond b [] (commits.Local job.edition job.command ∷ []))) ≡ true) [
         | true ↦ ap respects_stamps (append-nil log) ∙ so
-        | false ↦ respects-more 0 log (record { commit = commits.Local job.command; stamp = job.stamp }) so (omega (arith, stamped))
+        | false ↦ respects-more 0 log (record { commit = commits.Local job.edition job.command; stamp = job.stamp }) so
+            (omega (arith, stamped))
       ]
 
 module _ (lists : Lists) (number : ℕ) where
@@ -108,11 +113,12 @@ module _ (lists : Lists) (number : ℕ) where
           snapshots = λ at taken is.
               let old = order.snapshots at taken is in
               record {
-                within = omega (arith, old.within, length-append world.kept (kept_of job.command));
+                within = omega (arith, old.within, length-append world.kept (kept_of job.edition job.command));
                 rows = old.rows
-                    ∙ ap (world_rows world) (sym (take-append-le taken.commits world.kept (kept_of job.command) old.within));
+                    ∙ ap (world_rows world)
+                    (sym (take-append-le taken.commits world.kept (kept_of job.edition job.command) old.within));
               };
-          projection = ap (λ kept. kept ++ kept_of job.command) order.projection
+          projection = ap (λ kept. kept ++ kept_of job.edition job.command) order.projection
               ∙ sym (projection-entered world.load.items world.warehouse (rows_of world) job world.log accepted stamped);
           stamps = stamps-entered world.load.items world.warehouse (rows_of world) job world.log accepted stamped order.stamps;
           known = known-more world.known job.client (world.log ++ entered job)
@@ -181,11 +187,14 @@ module _ (lists : Lists) (number : ℕ) where
       ]
     ]
 
+    abbrev begun : ℕ → Edition → Command → Underway
+    begun client edition command =
+        record { edition = edition; command = command; slices = 0; client = client; stamp = world.known client }
+
     in_order-event : (event : Event) (new : World) → Does event world new → IsInOrder lists number new
-    in_order-event (begins client command) new does = subst (λ (w : World). IsInOrder lists number w) (sym does.3)
-        (in_order-same (Some (record { command = command; slices = 0; client = client; stamp = world.known client }))
-        world.waits (λ job is.
-        let same : record { command = command; slices = 0; client = client; stamp = world.known client } ≡ job = cc in
+    in_order-event (begins client edition command) new does = subst (λ (w : World). IsInOrder lists number w) (sym does.3)
+        (in_order-same (Some (begun client edition command)) world.waits (λ job is.
+        let same : begun client edition command ≡ job = cc in
         subst (λ (j : Underway). j.stamp ≤ length world.log) same (order.known client)))
     in_order-event steps new does = at world.running refl does
       where
@@ -316,9 +325,9 @@ module _ (n : ℕ) (log after : Log) (p q : PartitionState) (world : World) (job
         let does = accepts.does in
         let serial : log ≡ accepts.log = some_same accepts.before_is in
         let grown : after ≡ world.log ++ entered (underway job) =
-        some_same accepts.after_is ∙ ap (λ log. log ++ entered_by job.command job.pass) (sym (is.log_is ∙ serial)) in
-        let kept : q.kept ≡ world.kept ++ kept_of job.command =
-        does.kept ∙ ap (λ kept. kept ++ kept_of job.command) (sym is.kept) in
+        some_same accepts.after_is ∙ ap (λ log. log ++ entered_by job.edition job.command job.pass) (sym (is.log_is ∙ serial)) in
+        let kept : q.kept ≡ world.kept ++ kept_of job.edition job.command =
+        does.kept ∙ ap (λ kept. kept ++ kept_of job.edition job.command) (sym is.kept) in
         let accepted : refusal_of world.load.items world.warehouse job.command (rows_of world) ≡ None =
         rw (is.load, is.warehouse, is.kept) does.accepted in
         step_to (with_accepted world (underway job)) (inr (inl (last.0, accepted, refl))) (record {

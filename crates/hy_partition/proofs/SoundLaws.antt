@@ -13,6 +13,7 @@ use Rattle.hy_commands.specs.declared.command.Command.{Command}
 use Rattle.hy_commands.specs.declared.command.Command.TheVariants as commands
 use Rattle.hy_commands.specs.declared.command.Commit.{Commit}
 use Rattle.hy_commands.specs.declared.command.Commit.TheVariants as commits
+use Rattle.hy_commands.specs.declared.edition.Edition.{Edition}
 use Rattle.hy_commands.specs.Commands.{is_reader, kept_of}
 use Rattle.hy_commands.specs.Growth.{HasGrownBy}
 use Rattle.hy_commands.specs.Invariant.{IsSoundWarehouse}
@@ -33,7 +34,7 @@ use Rattle.hy_partition.specs.Headline.{SpellsBeginning}
 use Rattle.hy_ledger.specs.Books.{BookState}
 use Rattle.hy_partition.specs.Jobs.{DoneState, Log, RunningJob, with_slice_done}
 use Rattle.hy_partition.specs.Limits.{most_kept}
-use Rattle.hy_partition.specs.Partition.{PartitionState, commits_of, layout_of, outcome_now, refusal_now, rows_after, rows_now}
+use Rattle.hy_partition.specs.Partition.{PartState, PartitionState, commits_of, layout_of, outcome_now, refusal_now, rows_after, rows_now}
 use Rattle.hy_partition.specs.Parts.{rows_with_part}
 use Rattle.hy_partition.specs.inside.Soundness.{HoldsPart, IsIdle, IsSound, IsStoreOf, Rests, Runs}
 use Rattle.hy_partition.proofs.ReplayLaws.{bounds-rows, grown-now, places-rows, replay-crossed, replay-kept_of, sound-rows, stays_in_bounds}
@@ -62,13 +63,13 @@ pub spells-store : {n : ℕ} {tables : Tables} {bytes : List (List (List ℕ))} 
 spells-store store = record { whole = store.store.tables; rows = store.rows }
 
 -- a command gives room to itself only where it doesn't only read
-kept-within : (command : Command) (kept : List Commit) (most : ℕ) → length kept ≤ most
-    → (is_reader command ≡ false → length kept < most) → length (kept ++ kept_of command) ≤ most
-kept-within command kept most within below =
+kept-within : (edition : Edition) (command : Command) (kept : List Commit) (most : ℕ) → length kept ≤ most
+    → (is_reader command ≡ false → length kept < most) → length (kept ++ kept_of edition command) ≤ most
+kept-within edition command kept most within below =
     elim (is_reader command) as (λ b. is_reader command ≡ b
-    → length (kept ++ cond b [] (commits.Local command ∷ [])) ≤ most) [
+    → length (kept ++ cond b [] (commits.Local edition command ∷ [])) ≤ most) [
       | true ↦ λ reads. omega (arith, within, ap length (append-nil kept))
-      | false ↦ λ writes. omega (arith, below writes, length-append kept (commits.Local command ∷ []))
+      | false ↦ λ writes. omega (arith, below writes, length-append kept (commits.Local edition command ∷ []))
     ] refl
 
 -- each command has a slice
@@ -86,22 +87,22 @@ module _ (n room : ℕ) (executor : ExecutorState) (p : PartitionState) (sound :
 
   pub rests : p.running ≡ None → p.part ≡ None → Rests n p
   rests idle no_part =
-      subst (λ (part : Option Command). MatchOption part (Rests n p) (HoldsPart n room p)) no_part (idles idle)
+      subst (λ (part : Option PartState). MatchOption part (Rests n p) (HoldsPart n room p)) no_part (idles idle)
 
-  pub holds : (command : Command) → p.running ≡ None → p.part ≡ Some command → HoldsPart n room p command
-  holds command idle part =
-      subst (λ (part : Option Command). MatchOption part (Rests n p) (HoldsPart n room p)) part (idles idle)
+  pub holds : (part : PartState) → p.running ≡ None → p.part ≡ Some part → HoldsPart n room p part
+  holds part idle is =
+      subst (λ (part : Option PartState). MatchOption part (Rests n p) (HoldsPart n room p)) is (idles idle)
 
   pub runs : (job : RunningJob) → p.running ≡ Some job → Runs n room executor p job
   runs job running =
       subst (λ (running : Option RunningJob). MatchOption running (IsIdle n room p) (Runs n room executor p)) running sound.job
 
   -- a part is done only where nothing runs
-  pub part_idle : (command : Command) → p.part ≡ Some command → p.running ≡ None
-  part_idle command part = at p.running sound.job
+  pub part_idle : (part : PartState) → p.part ≡ Some part → p.running ≡ None
+  part_idle part is = at p.running sound.job
     where
       none-some : p.part ≡ None → ⊥
-      none-some none = let both : None ≡ Some command = sym none ∙ part in absurd (cc)
+      none-some none = let both : None ≡ Some part = sym none ∙ is in absurd (cc)
 
       at : (running : Option RunningJob) → MatchOption running (IsIdle n room p) (Runs n room executor p)
           → running ≡ None
@@ -148,7 +149,7 @@ module _ (n room : ℕ) (executor : ExecutorState) (p : PartitionState) (sound :
     within = sound.within;
     limit = sound.limit;
     job = subst (λ (job : Option RunningJob). MatchOption job (IsIdle n room' p) (Runs n room' executor' p)) (sym idle)
-        (subst (λ (part : Option Command). MatchOption part (Rests n p) (HoldsPart n room' p)) (sym no_part)
+        (subst (λ (part : Option PartState). MatchOption part (Rests n p) (HoldsPart n room' p)) (sym no_part)
         (rests idle no_part));
   }
 
@@ -156,17 +157,17 @@ module _ (n room : ℕ) (executor : ExecutorState) (p : PartitionState) (sound :
   pub sound-begun : (room' : ℕ) (executor' : ExecutorState) (job : RunningJob)
       → p.running ≡ None → p.part ≡ None → p.finished ≡ None → job.slices ≡ 0 → executor'.layout ≡ executor.layout
       → begin_refusal_of executor.layout.warehouse job.command (stored n (owner_bytes p.space)).tables ≡ None
-      → (StaysInBounds executor.layout job.command (stored n (owner_bytes p.space)).tables
-      → IsUnderWay executor' job.command 0 (stored n (owner_bytes p.space)).tables (stored n (owner_bytes p.space)))
+      → (StaysInBounds executor.layout job.edition job.command (stored n (owner_bytes p.space)).tables
+      → IsUnderWay executor' job.edition job.command 0 (stored n (owner_bytes p.space)).tables (stored n (owner_bytes p.space)))
       → (is_reader job.command ≡ false → (length p.kept ≢ p.max_kept) × (1 ≤ room'))
       → IsSound n room' executor' (record p { running = Some job })
   sound-begun room' executor' job idle no_part no_reply fresh layout begins under_way room_for =
       let pages = (rests idle no_part).pages in
       let begins_now : begin_refusal_of p.warehouse job.command (rows_now p) ≡ None =
       rw (sound.layout, pages.rows) at begins in
-      let bounds : StaysInBounds executor.layout job.command (stored n (owner_bytes p.space)).tables =
+      let bounds : StaysInBounds executor.layout job.edition job.command (stored n (owner_bytes p.space)).tables =
       rw (sound.layout, pages.rows)
-      (stays_in_bounds p.load p.warehouse p.kept sound.load sound.warehouse job.command few begins_now) in
+      (stays_in_bounds p.load p.warehouse p.kept sound.load sound.warehouse job.edition job.command few begins_now) in
       let begun : Runs n room' executor' (record p { running = Some job }) job = record {
         no_part = no_part;
         begins = begins_now;
@@ -174,8 +175,10 @@ module _ (n room : ℕ) (executor : ExecutorState) (p : PartitionState) (sound :
         slices = omega (arith, fresh, first_slice job.command);
         store = pages.store;
         under_way =
-            subst (λ (done : ℕ). IsUnderWay executor' job.command done (rows_now p) (stored n (owner_bytes p.space))) (sym fresh)
-            (subst (λ (tables : Tables). IsUnderWay executor' job.command 0 tables (stored n (owner_bytes p.space))) pages.rows
+            subst (λ (done : ℕ).
+            IsUnderWay executor' job.edition job.command done (rows_now p) (stored n (owner_bytes p.space))) (sym fresh)
+            (subst (λ (tables : Tables).
+            IsUnderWay executor' job.edition job.command 0 tables (stored n (owner_bytes p.space))) pages.rows
             (under_way bounds));
         has_room = λ writes. (room_for writes).1;
         below_max = λ writes. omega (arith, sound.within, (room_for writes).0);
@@ -212,16 +215,16 @@ module _ (n room : ℕ) (executor : ExecutorState) (p : PartitionState) (sound :
       after : PartitionState
       after = record p { space = space; snapshots = snapshots }
 
-      idle : (part : Option Command) → MatchOption part (Rests n p) (HoldsPart n room p)
+      idle : (part : Option PartState) → MatchOption part (Rests n p) (HoldsPart n room p)
           → MatchOption part (Rests n after) (HoldsPart n room after)
       idle None was = record {
         undo = empty_log-still p.space space p.undo owner.table was.undo;
         pages = subst (λ (pages : List (List (List ℕ))). IsStoreOf n (rows_now p) pages) (sym owner.bytes) was.pages;
       }
-      idle (Some command) was = record {
+      idle (Some part) was = record {
         has_part = was.has_part;
-        pages = subst (λ (pages : List (List (List ℕ))). IsStoreOf n (rows_with_part p command) pages) (sym owner.bytes)
-            was.pages;
+        pages = subst (λ (pages : List (List (List ℕ))).
+            IsStoreOf n (rows_with_part p part.edition part.command) pages) (sym owner.bytes) was.pages;
         has_room = was.has_room;
         below_max = was.below_max;
       }
@@ -236,7 +239,7 @@ module _ (n room : ℕ) (executor : ExecutorState) (p : PartitionState) (sound :
         slices = was.slices;
         store = subst (λ (pages : List (List (List ℕ))). HasStore n pages) (sym owner.bytes) was.store;
         under_way = subst (λ (pages : List (List (List ℕ))).
-            IsUnderWay executor job.command job.slices (rows_now p) (stored n pages)) (sym owner.bytes) was.under_way;
+            IsUnderWay executor job.edition job.command job.slices (rows_now p) (stored n pages)) (sym owner.bytes) was.under_way;
         has_room = was.has_room;
         below_max = was.below_max;
       }
@@ -261,10 +264,10 @@ module _ (n room : ℕ) (executor : ExecutorState) (p : PartitionState) (sound :
       after : PartitionState
       after = record p { seen = seen }
 
-      idle : (part : Option Command) → MatchOption part (Rests n p) (HoldsPart n room p)
+      idle : (part : Option PartState) → MatchOption part (Rests n p) (HoldsPart n room p)
           → MatchOption part (Rests n after) (HoldsPart n room after)
       idle None was = record { undo = was.undo; pages = was.pages }
-      idle (Some command) was = record {
+      idle (Some part) was = record {
         has_part = was.has_part;
         pages = was.pages;
         has_room = was.has_room;
@@ -377,7 +380,7 @@ module _ (n room : ℕ) (executor : ExecutorState) (p : PartitionState) (sound :
       → IsUndoLog n space undo → owner_bytes space ≡ undone (owner_bytes p.space) p.undo → SameForChildren p.space space
       → IsSound n room executor' (record p { running = None; undo = undo; finished = finished; space = space })
   sound-refused executor' space undo finished job running layout none log bytes children =
-      subst (λ (part : Option Command). IsSound n room executor'
+      subst (λ (part : Option PartState). IsSound n room executor'
       (record p { running = None; part = part; undo = undo; finished = finished; space = space }))
       (sym (runs job running).no_part)
       (sound-undone room executor' space undo finished layout none log bytes children)
@@ -386,10 +389,10 @@ module _ (n room : ℕ) (executor : ExecutorState) (p : PartitionState) (sound :
   module _ (executor' : ExecutorState) (space : SpaceState) (job : RunningJob) (running : p.running ≡ Some job)
       (layout : executor'.layout ≡ executor.layout) (store : HasStore n (owner_bytes space))
       (under_way : (before : Tables)
-      → IsUnderWay executor job.command job.slices before (stored n (owner_bytes p.space))
-      → IsUnderWay executor' job.command (job.slices + 1) before (stored n (owner_bytes space)))
+      → IsUnderWay executor job.edition job.command job.slices before (stored n (owner_bytes p.space))
+      → IsUnderWay executor' job.edition job.command (job.slices + 1) before (stored n (owner_bytes space)))
       (children : SameForChildren p.space space) where
-    now_way : IsUnderWay executor' job.command (job.slices + 1) (rows_now p) (stored n (owner_bytes space))
+    now_way : IsUnderWay executor' job.edition job.command (job.slices + 1) (rows_now p) (stored n (owner_bytes space))
     now_way = under_way (rows_now p) (runs job running).under_way
 
     -- another one follows
@@ -437,14 +440,14 @@ module _ (n room : ℕ) (executor : ExecutorState) (p : PartitionState) (sound :
       accepted_now = slices-not_refused p.load.items p.warehouse job.command (rows_now p) begins known
 
       -- the rows are the command's
-      rows_done : (stored n (owner_bytes space)).tables ≡ (outcome_now p job.command).tables
+      rows_done : (stored n (owner_bytes space)).tables ≡ (outcome_now p job.edition job.command).tables
       rows_done =
           (rw (last, layout, sound.layout) at now_way.slices.rows)
-          ∙ slices-act p.load.items p.warehouse job.command (rows_now p) begins known
+          ∙ slices-act p.load.items p.warehouse job.edition job.command (rows_now p) begins known
 
       pub sound-accepted : (room' : ℕ) (undo : UndoLog) (seen : Log) (kept : List Commit) (book : BookState)
           (finished : Option DoneState)
-          → undo ≡ empty_log space → IsUndoLog n space undo → kept ≡ p.kept ++ kept_of job.command
+          → undo ≡ empty_log space → IsUndoLog n space undo → kept ≡ p.kept ++ kept_of job.edition job.command
           → IsSound n room' executor' (record p {
             seen = seen;
             kept = kept;
@@ -458,7 +461,7 @@ module _ (n room : ℕ) (executor : ExecutorState) (p : PartitionState) (sound :
           let was = runs job running in
           let after : PartitionState = record p {
             seen = seen;
-            kept = p.kept ++ kept_of job.command;
+            kept = p.kept ++ kept_of job.edition job.command;
             book = book;
             running = None;
             undo = undo;
@@ -468,11 +471,11 @@ module _ (n room : ℕ) (executor : ExecutorState) (p : PartitionState) (sound :
           let pages : IsStoreOf n (rows_now after) (owner_bytes space) = record {
             store = store;
             rows = rows_done
-                ∙ sym (replay-kept_of p.load p.warehouse (own_rows (layout_of p)) p.kept job.command);
+                ∙ sym (replay-kept_of p.load p.warehouse (own_rows (layout_of p)) p.kept job.edition job.command);
             indexes = now_way.slices.indexes;
           } in
           let sound_after : IsSound n room' executor' after = record {
-            snapshots = λ child. spells-kept_more n p after refl (kept_of job.command) refl child refl
+            snapshots = λ child. spells-kept_more n p after refl (kept_of job.edition job.command) refl child refl
                 (children.bytes child) (sound.snapshots child);
             live = subst (λ (bytes : List (List (List ℕ))). IsStoreOf n (rows_now after) bytes)
                 (sym (undone-none space undo none)) pages;
@@ -480,9 +483,9 @@ module _ (n room : ℕ) (executor : ExecutorState) (p : PartitionState) (sound :
             load = sound.load;
             warehouse = sound.warehouse;
             layout = layout ∙ sound.layout;
-            within = kept-within job.command p.kept p.max_kept sound.within was.below_max;
+            within = kept-within job.edition job.command p.kept p.max_kept sound.within was.below_max;
             limit = sound.limit;
-            job = subst (λ (part : Option Command). MatchOption part (Rests n after) (HoldsPart n room' after))
+            job = subst (λ (part : Option PartState). MatchOption part (Rests n after) (HoldsPart n room' after))
                 (sym was.no_part) (record { undo = none; pages = pages });
           } in
           subst (λ (kept : List Commit). IsSound n room' executor' (record p {
@@ -496,18 +499,18 @@ module _ (n room : ℕ) (executor : ExecutorState) (p : PartitionState) (sound :
           })) (sym longer) sound_after
 
   -- the part of a command over several warehouses was done, where nothing ran
-  pub sound-parted : (room' : ℕ) (executor' : ExecutorState) (space : SpaceState) (undo : UndoLog) (command : Command)
-      → p.running ≡ None → p.part ≡ None → HasPart (layout_of p) command → executor'.layout ≡ executor.layout
-      → HasStore n (owner_bytes space) → DoesPart executor.layout command (stored n (owner_bytes p.space))
+  pub sound-parted : (room' : ℕ) (executor' : ExecutorState) (space : SpaceState) (undo : UndoLog) (part : PartState)
+      → p.running ≡ None → p.part ≡ None → HasPart (layout_of p) part.command → executor'.layout ≡ executor.layout
+      → HasStore n (owner_bytes space) → DoesPart executor.layout part.edition part.command (stored n (owner_bytes p.space))
       (stored n (owner_bytes space)) → IsUndoLog n space undo
       → undone (owner_bytes space) undo ≡ undone (owner_bytes p.space) p.undo → SameForChildren p.space space
       → 1 ≤ room' → length p.kept < p.max_kept
-      → IsSound n room' executor' (record p { part = Some command; undo = undo; space = space })
-  sound-parted room' executor' space undo command idle no_part has_part layout store does log bytes children some_room few =
-      let after : PartitionState = record p { part = Some command; undo = undo; space = space } in
-      let rows : (stored n (owner_bytes space)).tables ≡ rows_with_part p command =
+      → IsSound n room' executor' (record p { part = Some part; undo = undo; space = space })
+  sound-parted room' executor' space undo part idle no_part has_part layout store does log bytes children some_room few =
+      let after : PartitionState = record p { part = Some part; undo = undo; space = space } in
+      let rows : (stored n (owner_bytes space)).tables ≡ rows_with_part p part.edition part.command =
       rw (sound.layout, (rests idle no_part).pages.rows) at does.rows in
-      let holding : HoldsPart n room' after command = record {
+      let holding : HoldsPart n room' after part = record {
         has_part = has_part;
         pages = record { store = store; rows = rows; indexes = does.indexes };
         has_room = some_room;
@@ -529,33 +532,35 @@ module _ (n room : ℕ) (executor : ExecutorState) (p : PartitionState) (sound :
 
   -- and is kept
   pub sound-part_kept : (room' : ℕ) (undo : UndoLog) (seen : Log) (kept : List Commit) (book : BookState)
-      (command : Command) (crossing : ℕ) → p.part ≡ Some command → undo ≡ empty_log p.space → IsUndoLog n p.space undo
-      → kept ≡ p.kept ++ commits.Cross crossing command ∷ []
+      (part : PartState) (crossing : ℕ) → p.part ≡ Some part → undo ≡ empty_log p.space → IsUndoLog n p.space undo
+      → kept ≡ p.kept ++ commits.Cross part.edition crossing part.command ∷ []
       → IsSound n room' executor (record p { seen = seen; kept = kept; book = book; part = None; undo = undo })
-  sound-part_kept room' undo seen kept book command crossing part none log longer =
-      let idle : p.running ≡ None = part_idle command part in
-      let was = holds command idle part in
+  sound-part_kept room' undo seen kept book part crossing is none log longer =
+      let idle : p.running ≡ None = part_idle part is in
+      let was = holds part idle is in
       let after : PartitionState = record p {
         seen = seen;
-        kept = p.kept ++ commits.Cross crossing command ∷ [];
+        kept = p.kept ++ commits.Cross part.edition crossing part.command ∷ [];
         book = book;
         part = None;
         undo = undo;
       } in
-      let rows : rows_with_part p command ≡ rows_now after =
-      sym (replay-crossed p.load p.warehouse (own_rows (layout_of p)) p.kept crossing command was.has_part.accepted) in
+      let rows : rows_with_part p part.edition part.command ≡ rows_now after =
+      sym (replay-crossed p.load p.warehouse (own_rows (layout_of p)) p.kept crossing part.edition part.command
+      was.has_part.accepted) in
       let pages : IsStoreOf n (rows_now after) (owner_bytes p.space) =
       subst (λ (tables : Tables). IsStoreOf n tables (owner_bytes p.space)) rows was.pages in
       let sound_after : IsSound n room' executor after = record {
-        snapshots = λ child. spells-kept_more n p after refl (commits.Cross crossing command ∷ []) refl child refl refl
-            (sound.snapshots child);
+        snapshots = λ child. spells-kept_more n p after refl (commits.Cross part.edition crossing part.command ∷ [])
+            refl child refl refl (sound.snapshots child);
         live = subst (λ (bytes : List (List (List ℕ))). IsStoreOf n (rows_now after) bytes)
             (sym (undone-none p.space undo none)) pages;
         undo_log = log;
         load = sound.load;
         warehouse = sound.warehouse;
         layout = sound.layout;
-        within = omega (arith, was.below_max, length-append p.kept (commits.Cross crossing command ∷ []));
+        within =
+            omega (arith, was.below_max, length-append p.kept (commits.Cross part.edition crossing part.command ∷ []));
         limit = sound.limit;
         job = subst (λ (job : Option RunningJob). MatchOption job (IsIdle n room' after) (Runs n room' executor after))
             (sym idle) (record { undo = none; pages = pages });
@@ -641,6 +646,6 @@ sound-new n room executor p kept running no_part none log snapshots children lim
       within = omega (arith, ap length kept);
       limit = limit;
       job = subst (λ (job : Option RunningJob). MatchOption job (IsIdle n room p) (Runs n room executor p)) (sym running)
-          (subst (λ (part : Option Command). MatchOption part (Rests n p) (HoldsPart n room p)) (sym no_part)
+          (subst (λ (part : Option PartState). MatchOption part (Rests n p) (HoldsPart n room p)) (sym no_part)
           (record { undo = none; pages = pages }));
     }

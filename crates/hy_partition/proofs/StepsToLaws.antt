@@ -92,7 +92,7 @@ ends-refused old new pass refusal other same ends = subst (λ (r : Refusal). End
 
 module _ (n room : ℕ) (executor : ExecutorState) (p : PartitionState) (sound : IsSound n room executor p)
     (job : RunningJob) (running : p.running ≡ Some job) where
-  way : IsUnderWay executor job.command job.slices (rows_now p) (stored n (owner_bytes p.space))
+  way : IsUnderWay executor job.edition job.command job.slices (rows_now p) (stored n (owner_bytes p.space))
   way = (runs n room executor p sound job running).under_way
 
   pub slices-running : job.slices < slice_count job.command
@@ -103,19 +103,19 @@ module _ (n room : ℕ) (executor : ExecutorState) (p : PartitionState) (sound :
   store-running = (runs n room executor p sound job running).store
 
   pub way-running : (before : Tables)
-      × IsUnderWay executor job.command job.slices before (stored n (owner_bytes p.space))
+      × IsUnderWay executor job.edition job.command job.slices before (stored n (owner_bytes p.space))
   way-running = (rows_now p, way)
 
   -- the slice answered nothing
   pub more-running : ((before : Tables)
-      → IsUnderWay executor job.command job.slices before (stored n (owner_bytes p.space))
-      → None ≡ answer_of executor.layout job.command job.slices before) → is_last job ≡ false
+      → IsUnderWay executor job.edition job.command job.slices before (stored n (owner_bytes p.space))
+      → None ≡ answer_of executor.layout job.edition job.command job.slices before) → is_last job ≡ false
   more-running answered = answered-more (is_last job) _ (answered (rows_now p) way)
 
   -- it answered, and was the last one
   pub last-running : (reply : Reply) → ((before : Tables)
-      → IsUnderWay executor job.command job.slices before (stored n (owner_bytes p.space))
-      → Some reply ≡ answer_of executor.layout job.command job.slices before)
+      → IsUnderWay executor job.edition job.command job.slices before (stored n (owner_bytes p.space))
+      → Some reply ≡ answer_of executor.layout job.edition job.command job.slices before)
       → job.slices + 1 ≡ slice_count job.command
   last-running reply answered =
       eqb-true (job.slices + 1) (slice_count job.command)
@@ -125,8 +125,8 @@ module _ (n room : ℕ) (executor : ExecutorState) (p : PartitionState) (sound :
       (writes : WritesStore n p.space mid p.undo log) where
     pub steps-more : (next : RunningJob) → next ≡ with_slice_done job
         → is_last job ≡ false
-        → ((before : Tables) → IsUnderWay executor job.command job.slices before (stored n (owner_bytes p.space))
-        → IsUnderWay executor' job.command (job.slices + 1) before (stored n (owner_bytes mid)))
+        → ((before : Tables) → IsUnderWay executor job.edition job.command job.slices before (stored n (owner_bytes p.space))
+        → IsUnderWay executor' job.edition job.command (job.slices + 1) before (stored n (owner_bytes mid)))
         → (same : Option Log) → StepsTo job same same p (record p { running = Some next; undo = log; space = mid }) progress.More
     steps-more next next_is more under_way same = (
       more,
@@ -152,14 +152,14 @@ module _ (n room : ℕ) (executor : ExecutorState) (p : PartitionState) (sound :
     -- the last slice keeps the command behind a serial list, and answers it
     pub steps-accepted : (undo : UndoLog) (serial after seen : Log) (kept : List Commit) (book : BookState) (reply : Reply)
         (finished : DoneState) → HasStore n (owner_bytes mid)
-        → ((before : Tables) → IsUnderWay executor job.command job.slices before (stored n (owner_bytes p.space))
-        → IsUnderWay executor' job.command (job.slices + 1) before (stored n (owner_bytes mid)))
-        → ((before : Tables) → IsUnderWay executor job.command job.slices before (stored n (owner_bytes p.space))
-        → Some reply ≡ answer_of executor.layout job.command job.slices before)
-        → undo ≡ empty_log mid → after ≡ serial ++ entered_by job.command job.pass
-        → seen ≡ serial ++ entered_by job.command job.pass → kept ≡ p.kept ++ kept_of job.command
+        → ((before : Tables) → IsUnderWay executor job.edition job.command job.slices before (stored n (owner_bytes p.space))
+        → IsUnderWay executor' job.edition job.command (job.slices + 1) before (stored n (owner_bytes mid)))
+        → ((before : Tables) → IsUnderWay executor job.edition job.command job.slices before (stored n (owner_bytes p.space))
+        → Some reply ≡ answer_of executor.layout job.edition job.command job.slices before)
+        → undo ≡ empty_log mid → after ≡ serial ++ entered_by job.edition job.command job.pass
+        → seen ≡ serial ++ entered_by job.edition job.command job.pass → kept ≡ p.kept ++ kept_of job.edition job.command
         → IsPrefix p.seen serial → IsPrefix job.pass.seen serial → book ≡ with_command p.book job.command
-        → finished ≡ accepted_answer job p.warehouse reply (serial ++ entered_by job.command job.pass)
+        → finished ≡ accepted_answer job p.warehouse reply (serial ++ entered_by job.edition job.command job.pass)
         → StepsTo job (Some serial) (Some after) p (record p {
           seen = seen;
           kept = kept;
@@ -171,15 +171,15 @@ module _ (n room : ℕ) (executor : ExecutorState) (p : PartitionState) (sound :
         }) progress.Finished
     steps-accepted undo serial after seen kept book reply finished store under_way answered none grown knows longer told
         client_told booked is =
-        let answer = subst (λ (layout : LayoutState). Some reply ≡ answer_of layout job.command job.slices (rows_now p)) sound.layout
-        (answered (rows_now p) way) in
+        let answer = subst (λ (layout : LayoutState).
+        Some reply ≡ answer_of layout job.edition job.command job.slices (rows_now p)) sound.layout (answered (rows_now p) way) in
         let last = answered-last (is_last job) reply _ answer in
         let accepted : refusal_now p job.command ≡ None =
         accepted_now n room executor p sound executor' mid job running layout store under_way writes.children
         (eqb-true (job.slices + 1) (slice_count job.command) last.0) in
-        let replied : reply ≡ (outcome_now p job.command).reply =
+        let replied : reply ≡ (outcome_now p job.edition job.command).reply =
         last.1 ∙ sym (ap (λ (o : Outcome). o.reply)
-        (act-accepted p.load.items p.warehouse job.command (rows_now p) accepted)) in
+        (act-accepted p.load.items p.warehouse job.edition job.command (rows_now p) accepted)) in
         inl (
           last.0,
           record {
@@ -197,7 +197,8 @@ module _ (n room : ℕ) (executor : ExecutorState) (p : PartitionState) (sound :
                 running = refl;
                 undo = none;
                 finished = ap Some (is
-                    ∙ ap (λ reply. accepted_answer job p.warehouse reply (serial ++ entered_by job.command job.pass)) replied);
+                    ∙ ap (λ reply. accepted_answer job p.warehouse reply
+                    (serial ++ entered_by job.edition job.command job.pass)) replied);
                 rest = record {
                   terms = refl;
                   drained = refl;

@@ -6,7 +6,6 @@ use Rattle.hy_rows.specs.Tables.{Lists}
 use Rattle.hy_passes.specs.Worlds.{KeptState}
 use Rattle.hy_ledger.specs.Books.{BookState}
 use Rattle.hy_tickets.specs.Desks.{DeskState, is_out, without}
-use Rattle.hy_commands.specs.declared.command.Command.{Command}
 use Rattle.hy_commands.specs.declared.command.Commit.{Commit}
 use Rattle.hy_commands.specs.declared.command.Commit.TheVariants as commits
 use Rattle.hy_commands.specs.Commands.{kept_of}
@@ -15,7 +14,7 @@ use Rattle.hy_undo.specs.UndoLog.{UndoLog}
 use Rattle.hy_tpcc.specs.Executor.{ExecutorState}
 use Rattle.hy_partition.specs.Accounts.{IsBookOf, with_command}
 use Rattle.hy_partition.specs.Jobs.{DoneState, RunningJob}
-use Rattle.hy_partition.specs.Partition.{PartitionState, commits_of, refusal_now}
+use Rattle.hy_partition.specs.Partition.{PartState, PartitionState, commits_of, refusal_now}
 use Rattle.hy_partition.specs.inside.Soundness.{IsSound, IsTied}
 use Rattle.hy_partition.specs.Parts.{with_part_entered}
 use Rattle.hy_partition.proofs.AccountLaws.{booked, booked-part, crossing-writes}
@@ -72,7 +71,7 @@ module _ (world : Lists) (list : KeptState Commit) (desk : DeskState) (p : Parti
   }
 
   -- the part of a command over several warehouses was done or undone
-  pub tied-parted : (room : ℕ) (running : Option RunningJob) (part : Option Command) (undo : UndoLog) (space : SpaceState)
+  pub tied-parted : (room : ℕ) (running : Option RunningJob) (part : Option PartState) (undo : UndoLog) (space : SpaceState)
       → IsTied world (record list { room = room }) desk
       (record p { running = running; part = part; undo = undo; space = space })
   tied-parted room running part undo space = record {
@@ -85,29 +84,36 @@ module _ (world : Lists) (list : KeptState Commit) (desk : DeskState) (p : Parti
   }
 
   -- and was kept
-  pub tied-part_kept : (n room : ℕ) (executor : ExecutorState) (list' : KeptState Commit) (command : Command)
+  pub tied-part_kept : (n room : ℕ) (executor : ExecutorState) (list' : KeptState Commit) (part : PartState)
       (crossing : ℕ) (kept : List Commit) (book : BookState) (undo : UndoLog) → IsSound n room executor p
-      → p.part ≡ Some command → list'.warehouse ≡ list.warehouse
-      → kept ≡ p.kept ++ commits.Cross crossing command ∷ [] → book ≡ with_part_entered p.warehouse p.book command
+      → p.part ≡ Some part → list'.warehouse ≡ list.warehouse
+      → kept ≡ p.kept ++ commits.Cross part.edition crossing part.command ∷ []
+      → book ≡ with_part_entered p.warehouse p.book part.command
       → IsTied world list' desk (record p { seen = list'.seen; kept = kept; book = book; part = None; undo = undo })
-  tied-part_kept n room executor list' command crossing kept book undo sound part same longer more =
-      let held = holds n room executor p sound command (part_idle n room executor p sound command part) part in
+  tied-part_kept n room executor list' part crossing kept book undo sound is same longer more =
+      let held = holds n room executor p sound part (part_idle n room executor p sound part is) is in
       record {
         load_is = tied.load_is;
         list_of = same ∙ tied.list_of;
         desk_of = tied.desk_of;
         tickets = tied.tickets;
-        within = omega (arith, tied.within, ap length longer, length-append p.kept (commits.Cross crossing command ∷ []));
+        within = omega (
+          arith,
+          tied.within,
+          ap length longer,
+          length-append p.kept (commits.Cross part.edition crossing part.command ∷ []),
+        );
         book = subst (λ commits. IsBookOf p.load p.warehouse commits book) (sym longer)
-            (subst (λ b. IsBookOf p.load p.warehouse (p.kept ++ commits.Cross crossing command ∷ []) b) (sym more)
-            (booked-part p.load p.warehouse p.kept p.book command crossing (sound_now n room executor p sound)
-            held.has_part.accepted (crossing-writes command held.has_part.crossing) tied.book));
+            (subst (λ b. IsBookOf p.load p.warehouse (p.kept ++ commits.Cross part.edition crossing part.command ∷ []) b)
+            (sym more)
+            (booked-part p.load p.warehouse p.kept p.book part.edition part.command crossing
+            (sound_now n room executor p sound) held.has_part.accepted (crossing-writes part.command held.has_part.crossing) tied.book));
       }
 
   -- a command was accepted
   pub tied-accepted : (n room : ℕ) (executor : ExecutorState) (list' : KeptState Commit) (job : RunningJob) (kept : List Commit)
       (book : BookState) (undo : UndoLog) (finished : Option DoneState) (space : SpaceState) → IsSound n room executor p
-      → refusal_now p job.command ≡ None → list'.warehouse ≡ list.warehouse → kept ≡ p.kept ++ kept_of job.command
+      → refusal_now p job.command ≡ None → list'.warehouse ≡ list.warehouse → kept ≡ p.kept ++ kept_of job.edition job.command
       → book ≡ with_command p.book job.command
       → IsTied world list' desk (record p {
         seen = list'.seen;
@@ -123,10 +129,10 @@ module _ (world : Lists) (list : KeptState Commit) (desk : DeskState) (p : Parti
     list_of = same ∙ tied.list_of;
     desk_of = tied.desk_of;
     tickets = tied.tickets;
-    within = omega (arith, tied.within, ap length longer, length-append p.kept (kept_of job.command));
+    within = omega (arith, tied.within, ap length longer, length-append p.kept (kept_of job.edition job.command));
     book = subst (λ commits. IsBookOf p.load p.warehouse commits book) (sym longer)
-        (subst (λ b. IsBookOf p.load p.warehouse (p.kept ++ kept_of job.command) b) (sym more)
-        (booked p.load p.warehouse p.kept p.book job.command (sound_now n room executor p sound) accepted tied.book));
+        (subst (λ b. IsBookOf p.load p.warehouse (p.kept ++ kept_of job.edition job.command) b) (sym more)
+        (booked p.load p.warehouse p.kept p.book job.edition job.command (sound_now n room executor p sound) accepted tied.book));
   }
 
   -- a child that no snapshot has is no ticket's number

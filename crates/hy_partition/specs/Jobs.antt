@@ -7,6 +7,7 @@ use Rattle.hy_schema.specs.declared.refusal.Refusal.{Refusal}
 use Rattle.hy_commands.specs.declared.command.Command.{Command}
 use Rattle.hy_commands.specs.declared.command.Command.TheVariants as commands
 use Rattle.hy_commands.specs.declared.command.Commit.{Commit}
+use Rattle.hy_commands.specs.declared.edition.Edition.{Edition}
 use Rattle.hy_commands.specs.declared.reply.Reply.{Reply}
 use Rattle.hy_commands.specs.declared.reply.Reply.TheVariants as replies
 use Rattle.hy_commands.specs.Commands.{is_reader, kept_of}
@@ -16,13 +17,15 @@ use Rattle.hy_slices.specs.Slices.{slice_count}
 abbrev pub Log : Type 0
 Log = List (Entry Commit)
 
--- a command that is to be done once, with the pass of the client who wants it
+-- a command that is to be done once, by an edition, with the pass of the client who wants it
 pub record JobState : Type 0 where
+  pub edition : Edition
   pub command : Command
   pub pass : PassState Commit
 
--- a command that runs, how many of its slices are done, and the pass of its client
+-- a command that runs, its edition, how many of its slices are done, and the pass of its client
 pub record RunningJob : Type 0 where
+  pub edition : Edition
   pub command : Command
   pub slices : ℕ
   pub pass : PassState Commit
@@ -35,7 +38,7 @@ pub record DoneState : Type 0 where
 
 -- a job that has begun, and with one slice more done
 abbrev pub begun : JobState → RunningJob
-begun job = record { command = job.command; slices = 0; pass = job.pass }
+begun job = record { edition = job.edition; command = job.command; slices = 0; pass = job.pass }
 
 abbrev pub with_slice_done : RunningJob → RunningJob
 with_slice_done job = record job { slices = job.slices + 1 }
@@ -48,8 +51,9 @@ is_last job = job.slices + 1 == slice_count job.command
 
 -- what it adds to the serial list, stamped with the number of commits that its client knew when it began: nothing where
 -- it only reads
-abbrev pub entered_by : Command → PassState Commit → Log
-entered_by command pass = map (λ commit. record { commit = commit; stamp = length pass.seen }) (kept_of command)
+abbrev pub entered_by : Edition → Command → PassState Commit → Log
+entered_by edition command pass =
+    map (λ commit. record { commit = commit; stamp = length pass.seen }) (kept_of edition command)
 
 -- the cents that it pays
 abbrev pub cents_of : Command → ℕ

@@ -4,6 +4,7 @@ use Rattle.hy_passes.specs.SerialList.{kept_of}
 use Rattle.hy_ledger.specs.Books.{BookState}
 use Rattle.hy_commands.specs.declared.command.Command.{Command}
 use Rattle.hy_commands.specs.declared.command.Commit.{Commit}
+use Rattle.hy_commands.specs.declared.edition.Edition.{Edition}
 use Rattle.hy_rows.specs.Tables.{Lists, Tables, of_warehouse}
 use Rattle.hy_commands.specs.Commands.{warehouses_of_commit}
 use Rattle.hy_commands.specs.Replay.{replay}
@@ -13,6 +14,11 @@ use Rattle.hy_layout.specs.Layout.{LayoutState}
 use Rattle.hy_space.specs.Space.{SpaceState}
 use Rattle.hy_undo.specs.UndoLog.{UndoLog}
 use Rattle.hy_partition.specs.Jobs.{DoneState, Log, RunningJob}
+
+-- a command over several warehouses whose part is done here, and its edition
+pub record PartState : Type 0 where
+  pub edition : Edition
+  pub command : Command
 
 -- the value of a partition
 pub record PartitionState : Type 0 where
@@ -28,7 +34,7 @@ pub record PartitionState : Type 0 where
   -- the job that runs, or the command over several warehouses whose part is done here and isn't kept yet; what either
   -- overwrote; and the answer that wasn't taken
   pub running : Option RunningJob
-  pub part : Option Command
+  pub part : Option PartState
   pub undo : UndoLog
   pub finished : Option DoneState
   -- the live pages with those of the open snapshots, and for each open snapshot its number of commits
@@ -67,9 +73,10 @@ undrained p = drop p.drained p.kept
 abbrev pub commits_of : PartitionState → ℕ → Option ℕ
 commits_of p child = slice_index_or p.snapshots child None
 
--- why the warehouse refuses a command, and what the command does to it, by the rows after all that is kept
+-- why the warehouse refuses a command, and what the command does to it by an edition, by the rows after all that is
+-- kept
 abbrev pub refusal_now : PartitionState → Command → Option Refusal
 refusal_now p command = refusal_of p.load.items p.warehouse command (rows_now p)
 
-abbrev pub outcome_now : PartitionState → Command → Outcome
-outcome_now p command = act p.load.items p.warehouse command (rows_now p)
+abbrev pub outcome_now : PartitionState → Edition → Command → Outcome
+outcome_now p edition command = act p.load.items p.warehouse edition command (rows_now p)

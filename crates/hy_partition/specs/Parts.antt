@@ -8,6 +8,7 @@ use Rattle.hy_schema.specs.declared.refusal.Refusal.{Refusal}
 use Rattle.hy_schema.specs.declared.refusal.Refusal.TheVariants as refusals
 use Rattle.hy_commands.specs.declared.command.Command.{Command}
 use Rattle.hy_commands.specs.declared.command.Commit.TheVariants as commits
+use Rattle.hy_commands.specs.declared.edition.Edition.{Edition}
 use Rattle.hy_commands.specs.declared.reply.Reply.{Reply}
 use Rattle.hy_commands.specs.Commands.{home_of}
 use Rattle.hy_commands.specs.Parts.{part}
@@ -21,9 +22,9 @@ use Rattle.hy_partition.specs.Jobs.{Log, share_of}
 use Rattle.hy_partition.specs.Partition.{PartitionState, layout_of, rows_now, terms_of}
 use Rattle.hy_partition.specs.Steps.{KeepsNothing}
 
--- the rows after the part of a command, behind all that is kept
-abbrev pub rows_with_part : PartitionState → Command → Tables
-rows_with_part p command = part p.load.items p.warehouse command (rows_now p)
+-- the rows after the part of a command by an edition, behind all that is kept
+abbrev pub rows_with_part : PartitionState → Edition → Command → Tables
+rows_with_part p edition command = part p.load.items p.warehouse edition command (rows_now p)
 
 -- what no part changes: the load, the warehouse, the limits, what was drained, the job that runs, the answer that
 -- wasn't taken, and every snapshot with its bytes
@@ -36,12 +37,12 @@ pub record KeepsBeside (old new : PartitionState) : Type 0 where
   pub children : SameForChildren old.space new.space
   pub max_frames : new.space.frames.max ≡ old.space.frames.max
 
--- the part of a command was done where nothing ran: undoing gives what the pages had. The warehouse whose customer the
--- command names has the reply to it
-pub record DoesPart (command : Command) (old new : PartitionState) (reply : Option Reply) : Type 0 where
-  pub part : new.part ≡ Some command
+-- the part of a command was done, by an edition, where nothing ran: undoing gives what the pages had. The warehouse whose
+-- customer the command names has the reply to it
+pub record DoesPart (edition : Edition) (command : Command) (old new : PartitionState) (reply : Option Reply) : Type 0 where
+  pub part : new.part ≡ Some (record { edition = edition; command = command })
   pub bytes : undone (owner_bytes new.space) new.undo ≡ owner_bytes old.space
-  pub reply_is : reply ≡ reply_of_part (layout_of old) command (rows_now old)
+  pub reply_is : reply ≡ reply_of_part (layout_of old) edition command (rows_now old)
   pub nothing : KeepsNothing old new
   pub beside : KeepsBeside old new
 
@@ -76,15 +77,15 @@ with_part_entered warehouse book command = if home_of command == warehouse then 
 abbrev pub share_of_part : ℕ → Command → Option ShareState
 share_of_part warehouse command = if home_of command == warehouse then share_of warehouse command else None
 
--- a part that was done is kept, under the number of its command among those of several warehouses: the pages and their
--- frames stay, and the partition was told the serial list, whose last commit it is
-pub record KeepsPart (command : Command) (number : ℕ) (log : Log) (old new : PartitionState) (share : Option ShareState)
-    : Type 0 where
+-- a part that was done is kept, with its edition and under the number of its command among those of several warehouses:
+-- the pages and their frames stay, and the partition was told the serial list, whose last commit it is
+pub record KeepsPart (edition : Edition) (command : Command) (number : ℕ) (log : Log) (old new : PartitionState)
+    (share : Option ShareState) : Type 0 where
   pub part : new.part ≡ None
   pub undo : new.undo ≡ empty_log new.space
   pub space : new.space ≡ old.space
   pub seen : new.seen ≡ log
-  pub kept : new.kept ≡ old.kept ++ commits.Cross number command ∷ []
+  pub kept : new.kept ≡ old.kept ++ commits.Cross edition number command ∷ []
   pub book : new.book ≡ with_part_entered old.warehouse old.book command
   pub share_is : share ≡ share_of_part old.warehouse command
   pub beside : KeepsBeside old new

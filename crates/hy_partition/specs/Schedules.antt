@@ -10,6 +10,7 @@ use Rattle.hy_rows.specs.Spelling.{tables_of}
 use Rattle.hy_rows.specs.Tables.{Lists, Tables, of_warehouse}
 use Rattle.hy_commands.specs.declared.command.Command.{Command}
 use Rattle.hy_commands.specs.declared.command.Commit.{Commit}
+use Rattle.hy_commands.specs.declared.edition.Edition.{Edition}
 use Rattle.hy_commands.specs.Commands.{kept_of, warehouses_of_commit}
 use Rattle.hy_commands.specs.Invariant.{MeetsOwnConditions}
 use Rattle.hy_commands.specs.Replay.{replay}
@@ -26,8 +27,10 @@ pub record Taken : Type 0 where
   pub commits : ℕ
   pub rows : Tables
 
--- a command that runs, how many of its slices are done, its client, and how many commits that client knew when it began
+-- a command that runs, its edition, how many of its slices are done, its client, and how many commits that client knew
+-- when it began
 pub record Underway : Type 0 where
+  pub edition : Edition
   pub command : Command
   pub slices : ℕ
   pub client : ℕ
@@ -68,10 +71,11 @@ fresh_world lists number = record {
 
 -- ---- events
 
--- a client's command begins; the command that runs does a step; its answer is taken; a client takes a snapshot under a
--- number; that under a number is closed; a client looks; a commit of other warehouses enters the serial list
+-- a client's command begins, by an edition; the command that runs does a step; its answer is taken; a client takes a
+-- snapshot under a number; that under a number is closed; a client looks; a commit of other warehouses enters the serial
+-- list
 pub data Event : Type 0 where
-  begins : ℕ → Command → Event
+  begins : ℕ → Edition → Command → Event
   steps : Event
   takes : Event
   forks : ℕ → ℕ → Event
@@ -93,13 +97,13 @@ with_slice world job = record world { running = Some (record job { slices = job.
 
 -- what an accepted command adds to the serial list
 abbrev pub entered : Underway → Log
-entered job = map (λ commit. record { commit = commit; stamp = job.stamp }) (kept_of job.command)
+entered job = map (λ commit. record { commit = commit; stamp = job.stamp }) (kept_of job.edition job.command)
 
 -- it was accepted, and its answer waits: its client knows all of the serial list
 abbrev pub with_accepted : World → Underway → World
 with_accepted world job = record world {
   log = world.log ++ entered job;
-  kept = world.kept ++ kept_of job.command;
+  kept = world.kept ++ kept_of job.edition job.command;
   known = with_known world.known job.client (world.log ++ entered job);
   running = None;
   waits = true;
@@ -124,10 +128,16 @@ DoesStep old new job =
 
 -- what an event does
 abbrev pub Does : Event → World → World → Type 0
-Does (begins client command) old new =
+Does (begins client edition command) old new =
     (old.running ≡ None) × (old.waits ≡ false) × (begin_refusal_of old.warehouse command (rows_of old) ≡ None)
     × (new ≡ record old {
-      running = Some (record { command = command; slices = 0; client = client; stamp = old.known client });
+      running = Some (record {
+        edition = edition;
+        command = command;
+        slices = 0;
+        client = client;
+        stamp = old.known client;
+      });
     })
 Does steps old new = MatchOption old.running ⊥ (DoesStep old new)
 Does takes old new = (old.waits ≡ true) × (new ≡ record old { waits = false })
@@ -184,8 +194,13 @@ IsTaken n commits bytes taken =
 
 -- a command that runs in a partition
 abbrev pub underway : RunningJob → Underway
-underway job =
-    record { command = job.command; slices = job.slices; client = job.pass.client; stamp = length job.pass.seen }
+underway job = record {
+  edition = job.edition;
+  command = job.command;
+  slices = job.slices;
+  client = job.pass.client;
+  stamp = length job.pass.seen;
+}
 
 -- a world is that of a partition, beside a journal with this serial list
 pub record IsWorldOf (n : ℕ) (log : Log) (p : PartitionState) (world : World) : Type 0 where

@@ -90,17 +90,17 @@ pub record AcceptsBehind (log : Log) (job : RunningJob) (old new : PartitionStat
   pub accepted : refusal_now old job.command ≡ None
   pub told : IsPrefix old.seen log
   pub client_told : IsPrefix job.pass.seen log
-  pub seen : new.seen ≡ log ++ entered_by job.command job.pass
-  pub kept : new.kept ≡ old.kept ++ kept_of job.command
+  pub seen : new.seen ≡ log ++ entered_by job.edition job.command job.pass
+  pub kept : new.kept ≡ old.kept ++ kept_of job.edition job.command
   pub book : new.book ≡ with_command old.book job.command
-  pub ends : Ends old new
-      (accepted_answer job old.warehouse (outcome_now old job.command).reply (log ++ entered_by job.command job.pass))
+  pub ends : Ends old new (accepted_answer job old.warehouse (outcome_now old job.edition job.command).reply
+      (log ++ entered_by job.edition job.command job.pass))
 
 -- the same, with the serial list before and after: it grew by just what was kept
 pub record Accepts (job : RunningJob) (before after : Option Log) (old new : PartitionState) : Type 0 where
   pub log : Log
   pub before_is : before ≡ Some log
-  pub after_is : after ≡ Some (log ++ entered_by job.command job.pass)
+  pub after_is : after ≡ Some (log ++ entered_by job.edition job.command job.pass)
   pub does : AcceptsBehind log job old new
 
 -- the slice behind so many of a command lacked a frame: its writes led to pages on which none was free, and from which

@@ -1,6 +1,7 @@
 -- A payment over two warehouses, which the checker computes: its part in a small partition of its home, which is kept or
 -- undone, what the customer's warehouse has of it, and what the words for these calls leave no room for.
 use Rattle.std.specs.Prelude.{◌≡◌, ℕ, ◌-◌, suc, pos, negsuc, true, false, Option, Some, None, List, [], ◌∷◌, codes, map, replicate, refl}
+use Rattle.std.specs.Fmt.{digits}
 use Rattle.std.proofs.Common.{zero, inl, inr, sym, ◌∙◌}
 use Rattle.std.proofs.lemmas.List.{append_cancel_left}
 use Rattle.hy_frames.specs.FrameTable.{Frame, empty_frame, free_of}
@@ -9,12 +10,14 @@ use Rattle.hy_rows.specs.declared.customer.Customer.{Customer}
 use Rattle.hy_rows.specs.declared.history.History.{History}
 use Rattle.hy_rows.specs.Rows.{history_bytes, warehouse_bytes}
 use Rattle.hy_rows.specs.Spelling.{tables_of}
-use Rattle.hy_rows.specs.Tables.{Lists, no_rows}
+use Rattle.hy_rows.specs.Tables.{Lists, Tables, no_rows}
 use Rattle.hy_schema.specs.declared.refusal.Refusal.TheVariants as refusals
 use Rattle.hy_commands.specs.declared.command.Command.{Command}
 use Rattle.hy_commands.specs.declared.command.Command.TheVariants as commands
 use Rattle.hy_commands.specs.declared.command.Commit.TheVariants as commits
 use Rattle.hy_commands.specs.declared.command.Who.TheVariants as who
+use Rattle.hy_commands.specs.declared.edition.Edition.{Edition}
+use Rattle.hy_commands.specs.declared.edition.Edition.TheVariants as editions
 use Rattle.hy_commands.specs.declared.reply.Reply.TheVariants as replies
 use Rattle.hy_commands.specs.WorkedSample.{bought, customer}
 use Rattle.hy_space.specs.Space.{SpaceState, child_bytes, owner_bytes}
@@ -155,7 +158,7 @@ done_pages = pages_on live_table
 
 abbrev done : PartitionState
 done = record resting {
-  part = Some paid_there;
+  part = Some (record { edition = editions.Second; command = paid_there });
   undo = record {
     counts = 2 ∷ replicate (segments - 1) 1;
     images =
@@ -170,11 +173,11 @@ resting_has_part : HasPart (layout_of resting) paid_there
 resting_has_part = record { accepted = refl; numbered = refl; named = refl; crossing = refl }
 
 -- the cents and the row are there, and no customer
-rows_of_the_home : rows_with_part resting paid_there
+rows_of_the_home : rows_with_part resting editions.Second paid_there
     ≡ record no_rows { warehouses = after ∷ []; history = paid_row ∷ [] }
 rows_of_the_home = refl
 
-done_spells : tables_of 64 (owner_bytes done.space) ≡ rows_with_part resting paid_there
+done_spells : tables_of 64 (owner_bytes done.space) ≡ rows_with_part resting editions.Second paid_there
 done_spells = refl
 
 -- the part has touched two pages, and undoing gives what the snapshot has
@@ -185,7 +188,7 @@ done_undone : Some (undone (owner_bytes done.space) done.undo) ≡ child_bytes d
 done_undone = refl
 
 -- the customer isn't one of here, so that another warehouse answers
-part_is_done : DoesPart paid_there resting done None
+part_is_done : DoesPart editions.Second paid_there resting done None
 part_is_done = record {
   part = refl;
   bytes = refl;
@@ -209,18 +212,18 @@ part_is_done = record {
 -- ---- it is kept, as the first commit of several warehouses
 
 abbrev log : Log
-log = record { commit = commits.Cross 1 paid_there; stamp = 0 } ∷ []
+log = record { commit = commits.Cross editions.Second 1 paid_there; stamp = 0 } ∷ []
 
 abbrev kept : PartitionState
 kept = record done {
   part = None;
   undo = empty_log done_pages;
   seen = log;
-  kept = commits.Cross 1 paid_there ∷ [];
+  kept = commits.Cross editions.Second 1 paid_there ∷ [];
   book = record { warehouse = 1; commits = 1; cents = 100 };
 }
 
-part_is_kept : KeepsPart paid_there 1 log done kept (Some (record { warehouse = 1; cents = 100 }))
+part_is_kept : KeepsPart editions.Second paid_there 1 log done kept (Some (record { warehouse = 1; cents = 100 }))
 part_is_kept = record {
   part = refl;
   undo = refl;
@@ -296,29 +299,74 @@ there_has_part : HasPart (layout_of there) paid_there
 there_has_part = record { accepted = refl; numbered = refl; named = refl; crossing = refl }
 
 -- the customer has paid, and nothing else changes
-rows_there : rows_with_part there paid_there ≡ record (rows_now there) {
+rows_there : rows_with_part there editions.Second paid_there ≡ record (rows_now there) {
   customers = record payer { balance = negsuc 1_099; ytd_payment = pos 1_100; payment_count = 2 } ∷ [];
 }
 rows_there = refl
 
-reply_there : reply_of_part (layout_of there) paid_there (rows_now there) ≡ Some (replies.Payment 3 (negsuc 1_099))
+reply_there : reply_of_part (layout_of there) editions.Second paid_there (rows_now there)
+    ≡ Some (replies.Payment 3 (negsuc 1_099))
 reply_there = refl
+
+-- ---- the same, where the customer's credit is bad: the part notes the payment in C_DATA, but in the first edition
+
+abbrev load_of_bad_credit : Lists
+load_of_bad_credit = record {
+  items = [];
+  tables = record no_rows {
+    warehouses = before ∷ record before { id = 2; name = codes "W2" } ∷ [];
+    customers = record payer { credit = codes "BC"; information = codes "old" } ∷ [];
+  };
+}
+
+abbrev bad_credit_there : PartitionState
+bad_credit_there = record there { load = load_of_bad_credit }
+
+abbrev notes_of : Tables → List (List ℕ)
+notes_of tables = map (λ (row : Customer). row.information) tables.customers
+
+noted_there : notes_of (rows_with_part bad_credit_there editions.Second paid_there) ≡ codes "3 4 2 2 1 100;old" ∷ []
+unfolding digits
+noted_there = refl
+
+not_noted_by_first_edition : notes_of (rows_with_part bad_credit_there editions.First paid_there) ≡ codes "old" ∷ []
+unfolding digits
+not_noted_by_first_edition = refl
+
+-- what is kept replays by its own edition
+replayed_there : map (λ edition. notes_of (rows_now (record bad_credit_there {
+  kept = commits.Cross edition 1 paid_there ∷ [];
+}))) (editions.First ∷ editions.Second ∷ []) ≡ (codes "old" ∷ []) ∷ (codes "3 4 2 2 1 100;old" ∷ []) ∷ []
+unfolding digits
+replayed_there = refl
 
 -- ---- what isn't so
 
+-- a part is kept with one edition
+one_edition : (one other : Edition) (log : Log) (old new : PartitionState) (share : Option ShareState)
+    → KeepsPart one paid_there 1 log old new share → KeepsPart other paid_there 1 log old new share → one ≡ other
+one_edition one other log old new share first second =
+    let both : commits.Cross one 1 paid_there ∷ [] ≡ commits.Cross other 1 paid_there ∷ [] =
+    append_cancel_left old.kept _ _ (sym first.kept ∙ second.kept) in same both
+  where
+    same : commits.Cross one 1 paid_there ∷ [] ≡ commits.Cross other 1 paid_there ∷ [] → one ≡ other
+    same both = cc
+
 -- a part is kept under one number
 one_number : (number other : ℕ) (log : Log) (old new : PartitionState) (share : Option ShareState)
-    → KeepsPart paid_there number log old new share → KeepsPart paid_there other log old new share → number ≡ other
+    → KeepsPart editions.Second paid_there number log old new share
+    → KeepsPart editions.Second paid_there other log old new share → number ≡ other
 one_number number other log old new share one two =
-    let both : commits.Cross number paid_there ∷ [] ≡ commits.Cross other paid_there ∷ [] =
+    let both : commits.Cross editions.Second number paid_there ∷ [] ≡ commits.Cross editions.Second other paid_there ∷ [] =
     append_cancel_left old.kept _ _ (sym one.kept ∙ two.kept) in same both
   where
-    same : commits.Cross number paid_there ∷ [] ≡ commits.Cross other paid_there ∷ [] → number ≡ other
+    same : commits.Cross editions.Second number paid_there ∷ [] ≡ commits.Cross editions.Second other paid_there ∷ []
+        → number ≡ other
     same both = cc
 
 -- a warehouse that isn't the home gives no share
 no_share_there : (number : ℕ) (known : Log) (new : PartitionState) (share : ShareState)
-    → KeepsPart paid_there number known there new (Some share) → ⊥
+    → KeepsPart editions.Second paid_there number known there new (Some share) → ⊥
 no_share_there number known new share keeps = let none : Some share ≡ None = keeps.share_is in absurd (cc)
 
 -- no part is refused because an item isn't there, nor because the list of commits is full

@@ -21,6 +21,7 @@ use Rattle.hy_commands.specs.declared.command.Command.{Command}
 use Rattle.hy_commands.specs.declared.command.Commit.{Commit}
 use Rattle.hy_commands.specs.declared.command.Commit.TheVariants as commits
 use Rattle.hy_commands.specs.declared.command.Who.TheVariants as who
+use Rattle.hy_commands.specs.declared.edition.Edition.TheVariants as editions
 use Rattle.hy_commands.specs.declared.reply.Reply.TheVariants as replies
 use Rattle.hy_commands.specs.Commands.{kept_of}
 use Rattle.hy_commands.specs.Invariant.{MeetsOwnConditions}
@@ -32,14 +33,15 @@ use Rattle.hy_undo.specs.Touched.{touched}
 use Rattle.hy_ledger.specs.Books.{new_book}
 use Rattle.hy_passes.specs.Worlds.{PassState, new_client}
 use Rattle.hy_partition.specs.Accounts.{with_command}
-use Rattle.hy_partition.specs.Jobs.{RunningJob, entered_by, is_last, refused_answer, share_of}
+use Rattle.hy_partition.specs.Jobs.{RunningJob, begun, entered_by, is_last, refused_answer, share_of}
 use Rattle.hy_partition.specs.Partition.{PartitionState, outcome_now, rows_now}
 use Rattle.hy_partition.specs.Headline.{Headline, SpellsBeginning}
 use Rattle.hy_partition.specs.Steps.{begin_refusal}
 
--- so many slices of a command are done, of a client who has seen nothing
+-- so many slices of a command are done, by the second edition, of a client who has seen nothing
 abbrev job : Command → ℕ → RunningJob
-job command slices = record { command = command; slices = slices; pass = new_client 0 }
+job command slices =
+    record { edition = editions.Second; command = command; slices = slices; pass = new_client 0 }
 
 -- ---- which command begins
 
@@ -65,7 +67,7 @@ abbrev pay : Command
 pay = payment (who.Number 1) 2_500
 
 abbrev full : PartitionState
-full = with_kept (commits.Local pay ∷ []) 1
+full = with_kept (commits.Local editions.Second pay ∷ []) 1
 
 -- a command that only reads begins on a full list, and another one doesn't
 reader_on_a_full_list : begin_refusal full (status 1) ≡ None
@@ -77,7 +79,7 @@ level_on_a_full_list = refl
 payment_on_a_full_list : begin_refusal full pay ≡ Some refusals.HistoryFull
 payment_on_a_full_list = refl
 
-payment_with_room : begin_refusal (with_kept (commits.Local pay ∷ []) 2) pay ≡ None
+payment_with_room : begin_refusal (with_kept (commits.Local editions.Second pay ∷ []) 2) pay ≡ None
 payment_with_room = refl
 
 -- what the warehouse refuses comes before that, and a job, a part or an answer that is there comes first
@@ -88,7 +90,9 @@ busy_with_a_job : begin_refusal (record full { running = Some (job (status 1) 0)
     ≡ Some refusals.Busy
 busy_with_a_job = refl
 
-busy_with_a_part : begin_refusal (record full { part = Some pay }) (status 1) ≡ Some refusals.Busy
+busy_with_a_part : begin_refusal
+    (record full { part = Some (record { edition = editions.Second; command = pay }) }) (status 1)
+    ≡ Some refusals.Busy
 busy_with_a_part = refl
 
 busy_with_an_answer : begin_refusal
@@ -96,30 +100,52 @@ busy_with_an_answer : begin_refusal
     ≡ Some refusals.Busy
 busy_with_an_answer = refl
 
+-- a job runs by its own edition
+begun_by_first_edition : begun (record { edition = editions.First; command = pay; pass = new_client 0 })
+    ≡ record (job pay 0) { edition = editions.First }
+begun_by_first_edition = refl
+
 -- ---- what is kept and answered
 
 -- a command that only reads adds nothing
-kept_of_reader : full.kept ++ kept_of (status 1) ≡ full.kept
+kept_of_reader : full.kept ++ kept_of editions.Second (status 1) ≡ full.kept
 kept_of_reader = refl
 
-kept_of_payment : full.kept ++ kept_of pay ≡ commits.Local pay ∷ commits.Local pay ∷ []
+kept_of_payment : full.kept ++ kept_of editions.Second pay
+    ≡ commits.Local editions.Second pay ∷ commits.Local editions.Second pay ∷ []
 kept_of_payment = refl
 
+-- a command is kept with its edition
+kept_of_first_edition : full.kept ++ kept_of editions.First pay
+    ≡ commits.Local editions.Second pay ∷ commits.Local editions.First pay ∷ []
+kept_of_first_edition = refl
+
 -- the reply is that behind all that is kept: -10.00 and two payments of 25.00
-second_reply : (outcome_now full pay).reply ≡ replies.Payment 1 (negsuc 5_999)
+second_reply : (outcome_now full editions.Second pay).reply ≡ replies.Payment 1 (negsuc 5_999)
 second_reply = refl
 
 -- ---- stamps, shares and accounts
 
 -- a client who has seen two commits
 abbrev knowing : PassState Commit
-knowing = record { client = 3; seen = record { commit = commits.Local pay; stamp = 0 } ∷ record { commit = commits.Local pay; stamp = 1 } ∷ []; looks = 1 }
+knowing = record {
+  client = 3;
+  seen =
+      record { commit = commits.Local editions.Second pay; stamp = 0 }
+      ∷ record { commit = commits.Local editions.Second pay; stamp = 1 } ∷ [];
+  looks = 1;
+}
 
 -- a payment enters with the number of commits that its client knew when it began; a command that only reads doesn't
-payment_is_stamped : entered_by pay knowing ≡ record { commit = commits.Local pay; stamp = 2 } ∷ []
+payment_is_stamped : entered_by editions.Second pay knowing
+    ≡ record { commit = commits.Local editions.Second pay; stamp = 2 } ∷ []
 payment_is_stamped = refl
 
-reader_enters_nothing : entered_by (status 1) knowing ≡ []
+first_edition_enters : entered_by editions.First pay knowing
+    ≡ record { commit = commits.Local editions.First pay; stamp = 2 } ∷ []
+first_edition_enters = refl
+
+reader_enters_nothing : entered_by editions.Second (status 1) knowing ≡ []
 reader_enters_nothing = refl
 
 -- a payment's share has its cents, a purchase's none, and a command that only reads has no share
@@ -242,7 +268,7 @@ pub small-written : overwritten (page_of_row (warehouse_bytes before)) 1 (wareho
 small-written = refl
 
 -- the live pages spell the rows after the slice
-pub small-live : tables_of 64 (owner_bytes small.space) ≡ after_slices [] 1 half_paid 1 (rows_now small)
+pub small-live : tables_of 64 (owner_bytes small.space) ≡ after_slices [] 1 editions.Second half_paid 1 (rows_now small)
 small-live = refl
 
 -- the owner maps frame 2 and not frame 1

@@ -7,6 +7,7 @@ use Rattle.hy_commands.specs.declared.command.Command.{Command}
 use Rattle.hy_commands.specs.declared.command.Commit.{Commit}
 use Rattle.hy_commands.specs.declared.command.Commit.TheVariants as commits
 use Rattle.hy_commands.specs.declared.command.Who.TheVariants as who
+use Rattle.hy_commands.specs.declared.edition.Edition.TheVariants as editions
 use Rattle.hy_commands.specs.WorkedSample.{items, payment, sample, status}
 use Rattle.std.specs.Option.{option_map}
 use Rattle.hy_passes.specs.declared.entry.Entry.{Entry}
@@ -22,9 +23,10 @@ lists = record { items = items; tables = sample }
 abbrev pay : Command
 pay = payment (who.Number 1) 2_500
 
--- so many slices of a command are done, of client 5, who had looked at nothing
+-- so many slices of a command are done, by the second edition, of client 5, who had looked at nothing
 abbrev job : Command → ℕ → Underway
-job command slices = record { command = command; slices = slices; client = 5; stamp = 0 }
+job command slices =
+    record { edition = editions.Second; command = command; slices = slices; client = 5; stamp = 0 }
 
 -- a snapshot with what is kept, under a number, which client 6 takes
 abbrev opened : World → ℕ → World
@@ -64,7 +66,8 @@ last = closed (record paid { waits = false }) 0
 
 abbrev events : List Event
 events =
-    forks 6 0 ∷ begins 5 (status 1) ∷ steps ∷ takes ∷ begins 5 pay ∷ steps ∷ forks 6 1 ∷ steps ∷ takes ∷ closes 0 ∷ []
+    forks 6 0 ∷ begins 5 editions.Second (status 1) ∷ steps ∷ takes ∷ begins 5 editions.Second pay ∷ steps ∷ forks 6 1
+    ∷ steps ∷ takes ∷ closes 0 ∷ []
 
 runs : Runs events (fresh_world lists 1) last
 runs = (first, inr (refl, refl), begun)
@@ -75,11 +78,12 @@ runs = (first, inr (refl, refl), begun)
     between : Runs (forks 6 1 ∷ steps ∷ takes ∷ closes 0 ∷ []) half last
     between = (opened half 1, inr (refl, refl), (paid, inr (inr (inl (refl, refl, refl))), after))
 
-    second : Runs (begins 5 pay ∷ steps ∷ forks 6 1 ∷ steps ∷ takes ∷ closes 0 ∷ []) idle last
+    second : Runs (begins 5 editions.Second pay ∷ steps ∷ forks 6 1 ∷ steps ∷ takes ∷ closes 0 ∷ []) idle last
     second = (paying, inr (refl, refl, refl, refl), (half, inr (inl (refl, refl)), between))
 
-    begun : Runs (begins 5 (status 1) ∷ steps ∷ takes ∷ begins 5 pay ∷ steps ∷ forks 6 1 ∷ steps ∷ takes ∷ closes 0 ∷ [])
-        first last
+    begun : Runs
+        (begins 5 editions.Second (status 1) ∷ steps ∷ takes ∷ begins 5 editions.Second pay ∷ steps ∷ forks 6 1 ∷ steps
+        ∷ takes ∷ closes 0 ∷ []) first last
     begun = (
       reading,
       inr (refl, refl, refl, refl),
@@ -87,15 +91,26 @@ runs = (first, inr (refl, refl), begun)
     )
 
 -- the payment entered the serial list, and its client knows that; who took the snapshots knows what was there then
-entered_at_last : last.log ≡ record { commit = commits.Local pay; stamp = 0 } ∷ []
+entered_at_last : last.log ≡ record { commit = commits.Local editions.Second pay; stamp = 0 } ∷ []
 entered_at_last = refl
 
 known_at_last : (last.known 5 ≡ 1) × (last.known 6 ≡ 0)
 known_at_last = (refl, refl)
 
+-- a command of the first edition is kept as a commit of the first edition
+abbrev by_first : Underway
+by_first = record (job pay 1) { edition = editions.First }
+
+kept_by_first : (with_accepted idle by_first).kept ≡ commits.Local editions.First pay ∷ []
+kept_by_first = refl
+
+entered_by_first : (with_accepted idle by_first).log
+    ≡ record { commit = commits.Local editions.First pay; stamp = 0 } ∷ []
+entered_by_first = refl
+
 -- another warehouse's commit enters, and a client looks: it knows both then
 elsewhere : Entry Commit
-elsewhere = record { commit = commits.Local (status 2); stamp = 1 }
+elsewhere = record { commit = commits.Local editions.Second (status 2); stamp = 1 }
 
 abbrev seen_elsewhere : World
 seen_elsewhere = record last { log = last.log ++ elsewhere ∷ []; known = with_known last.known 6 (last.log ++ elsewhere ∷ []) }
@@ -104,7 +119,7 @@ looked : seen_elsewhere.known 6 ≡ 2
 looked = refl
 
 -- one commit is kept; the snapshot that was taken between the slices has the loaded rows, and the first one is gone
-kept_at_last : last.kept ≡ commits.Local pay ∷ []
+kept_at_last : last.kept ≡ commits.Local editions.Second pay ∷ []
 kept_at_last = refl
 
 taken_between : last.open_at 1 ≡ Some (record { commits = 0; rows = sample })
@@ -124,8 +139,17 @@ not_kept (inr (inl ended)) = let never = ended.0 in absurd (cc)
 not_kept (inr (inr ended)) =
     let kept = ap (λ (w : World). length w.kept) ended in absurd (omega (arith, kept))
 
+-- one of the first edition isn't kept as one of the second
+not_kept_as_second : Does steps (record idle { running = Some by_first }) (with_accepted idle (job pay 1)) → ⊥
+not_kept_as_second (inl more) = let never = more.0 in absurd (cc)
+not_kept_as_second (inr (inl ended)) =
+    let kept : commits.Local editions.Second pay ∷ [] ≡ commits.Local editions.First pay ∷ [] =
+    ap (λ (w : World). w.kept) ended.2 in absurd (cc)
+not_kept_as_second (inr (inr ended)) =
+    let kept = ap (λ (w : World). length w.kept) ended in absurd (omega (arith, kept))
+
 -- a second command doesn't begin before the answer to the first is taken
-not_begun : Does (begins 5 pay) read (record read { running = Some (job pay 0) }) → ⊥
+not_begun : Does (begins 5 editions.Second pay) read (record read { running = Some (job pay 0) }) → ⊥
 not_begun does = let waits = does.1 in absurd (cc)
 
 -- a snapshot doesn't have other rows than those of all that is kept

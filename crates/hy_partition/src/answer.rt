@@ -12,7 +12,7 @@ ghost use Rattle.hy_partition.specs.Partition.{projection_of};
 ghost use Rattle.hy_partition.specs.Parts.{share_of_part, with_part_entered};
 
 use crate::job::{Done, Running};
-use hy_commands::{Command, Commit, Reply};
+use hy_commands::{Command, Commit, Edition, Reply};
 use hy_ledger::{Book, Share};
 use hy_passes::{Entry, Journal, KeptList, Pass};
 use hy_worlds::World;
@@ -41,21 +41,21 @@ pub fn accept<K: World>(
     requires room { is_reader running.command ≡ false → 1 ≤ kept.old.room }
     requires few_entered { book.old.commits < most_entered }
     requires small { cents_of running.command ≤ max_cents }
-    ensures log { journal.new.list.log ≡ journal.old.list.log ++ entered_by running.command running.pass }
+    ensures log { journal.new.list.log ≡ journal.old.list.log ++ entered_by running.edition running.command running.pass }
     ensures warehouse { kept.new.warehouse ≡ kept.old.warehouse }
-    ensures seen { kept.new.seen ≡ journal.old.list.log ++ entered_by running.command running.pass }
+    ensures seen { kept.new.seen ≡ journal.old.list.log ++ entered_by running.edition running.command running.pass }
     ensures told { IsPrefix kept.old.seen journal.old.list.log }
     ensures client_told { IsPrefix running.pass.seen journal.old.list.log }
-    ensures kept { projection_of kept.old.warehouse kept.new.seen ≡ projection_of kept.old.warehouse kept.old.seen ++ kept_of running.command }
+    ensures kept { projection_of kept.old.warehouse kept.new.seen ≡ projection_of kept.old.warehouse kept.old.seen ++ kept_of running.edition running.command }
     ensures book { book.new ≡ with_command book.old running.command }
     ensures done { result ≡ accepted_answer running book.old.warehouse reply
-        (journal.old.list.log ++ entered_by running.command running.pass) }
+        (journal.old.list.log ++ entered_by running.edition running.command running.pass) }
 {
-    let (command, pass) = running.part();
+    let (edition, command, pass) = running.part();
     if command.is_reader() {
         tell(kept, journal, pass, reply)
     } else {
-        keep(kept, book, journal, pass, command, reply)
+        keep(kept, book, journal, pass, edition, command, reply)
     }
 }
 
@@ -85,6 +85,7 @@ fn keep<K: World>(
     book: &mut Book<K>,
     journal: &mut Journal<Commit, K>,
     mut pass: Pass<Commit, K>,
+    edition: Edition,
     command: Command,
     reply: Reply,
 ) -> Done<K>
@@ -93,22 +94,22 @@ fn keep<K: World>(
     requires room { 1 ≤ kept.old.room }
     requires few_entered { book.old.commits < most_entered }
     requires small { cents_of command ≤ max_cents }
-    ensures log { journal.new.list.log ≡ journal.old.list.log ++ record { commit = commits.Local command; stamp = length pass.seen } ∷ [] }
+    ensures log { journal.new.list.log ≡ journal.old.list.log ++ record { commit = commits.Local edition command; stamp = length pass.seen } ∷ [] }
     ensures warehouse { kept.new.warehouse ≡ kept.old.warehouse }
-    ensures seen { kept.new.seen ≡ journal.old.list.log ++ record { commit = commits.Local command; stamp = length pass.seen } ∷ [] }
+    ensures seen { kept.new.seen ≡ journal.old.list.log ++ record { commit = commits.Local edition command; stamp = length pass.seen } ∷ [] }
     ensures told { IsPrefix kept.old.seen journal.old.list.log }
     ensures client_told { IsPrefix pass.seen journal.old.list.log }
-    ensures kept { projection_of kept.old.warehouse kept.new.seen ≡ projection_of kept.old.warehouse kept.old.seen ++ commits.Local command ∷ [] }
+    ensures kept { projection_of kept.old.warehouse kept.new.seen ≡ projection_of kept.old.warehouse kept.old.seen ++ commits.Local edition command ∷ [] }
     ensures book { book.new ≡ record book.old { commits = book.old.commits + 1; cents = book.old.cents + cents_of command } }
     ensures done { result ≡ record {
       reply = reply;
-      pass = record pass { seen = journal.old.list.log ++ record { commit = commits.Local command; stamp = length pass.seen } ∷ [] };
+      pass = record pass { seen = journal.old.list.log ++ record { commit = commits.Local edition command; stamp = length pass.seen } ∷ [] };
       share = Some (record { warehouse = book.old.warehouse; cents = cents_of command });
     } }
 {
     let share = book.enter(cents_of(&command));
     let stamp = pass.known();
-    let commit = Commit::Local(command);
+    let commit = Commit::Local(edition, command);
     kept.commit(journal, &mut pass, Entry { commit, stamp });
     Done::new(reply, pass, Some(share))
 }

@@ -1,10 +1,11 @@
 //! Jobs: commands that are handed to a partition, and their answers.
 
 ghost use Rattle.std.specs.Prelude.{◌≡◌, ◌+◌, ◌<◌};
+ghost use Rattle.hy_commands.specs.declared.edition.Edition.TheVariants as editions;
 ghost use Rattle.hy_slices.specs.Slices.{slice_count};
 ghost use Rattle.hy_partition.specs.Jobs.{begun, is_last, refused_answer, with_slice_done};
 
-use hy_commands::{Command, Commit, Reply};
+use hy_commands::{Command, Commit, Edition, Reply};
 use hy_ledger::Share;
 use hy_passes::Pass;
 use hy_rows::DISTRICTS_PER_WAREHOUSE;
@@ -12,29 +13,48 @@ use hy_schema::Refusal;
 use hy_worlds::World;
 use std::marker::Model;
 
-/// A command on its way to a partition, with the pass of the client who wants it. It can't be cloned, so that it is done
-/// once at most.
+/// A command on its way to a partition, with the edition of the transactions that does it and the pass of the client who
+/// wants it. It can't be cloned, so that it is done once at most.
 #[derive(Drop)]
 pub struct Job<K: World> {
+    edition: Edition,
     command: Command,
     pass: Pass<Commit, K>,
 }
 
-// Clauses see both.
+// Clauses see all of it.
 impl<K: World> Model for Job<K> {
     ghost use Rattle.hy_partition.specs.Jobs.{JobState};
 
     ghost Value = { JobState };
 
-    ghost view = { λ job. record { command = job.command; pass = job.pass } };
+    ghost view = { λ job. record { edition = job.edition; command = job.command; pass = job.pass } };
 }
 
 impl<K: World> Job<K> {
-    /// A job that runs a command for a client.
+    /// A job that runs a command for a client, by the second edition.
     pub fn new(command: Command, pass: Pass<Commit, K>) -> Job<K>
-        ensures { result ≡ record { command = command; pass = pass } }
+        ensures { result ≡ record { edition = editions.Second; command = command; pass = pass } }
     {
-        Job { command, pass }
+        Job::of_edition(Edition::Second, command, pass)
+    }
+
+    /// A job that runs a command by an edition: a recovery runs each command by that of its batch.
+    pub fn of_edition(edition: Edition, command: Command, pass: Pass<Commit, K>) -> Job<K>
+        ensures { result ≡ record { edition = edition; command = command; pass = pass } }
+    {
+        Job {
+            edition,
+            command,
+            pass,
+        }
+    }
+
+    /// The edition.
+    pub fn edition(&self) -> Edition
+        ensures { result ≡ self.now.edition }
+    {
+        self.edition
     }
 
     /// The command.
@@ -48,7 +68,11 @@ impl<K: World> Job<K> {
     pub fn open(self) -> (Command, Pass<Commit, K>)
         ensures { (result.0 ≡ self.command) × (result.1 ≡ self.pass) }
     {
-        let Job { command, pass } = self;
+        let Job {
+            edition: _,
+            command,
+            pass,
+        } = self;
         (command, pass)
     }
 
@@ -56,7 +80,11 @@ impl<K: World> Job<K> {
     pub fn refuse(self, refusal: Refusal) -> Done<K>
         ensures { result ≡ refused_answer self.pass refusal }
     {
-        let Job { command: _, pass } = self;
+        let Job {
+            edition: _,
+            command: _,
+            pass,
+        } = self;
         Done {
             reply: Reply::Refused(refusal),
             pass,
@@ -68,8 +96,13 @@ impl<K: World> Job<K> {
     pub(crate) fn begin(self) -> Running<K>
         ensures { result ≡ begun self }
     {
-        let Job { command, pass } = self;
+        let Job {
+            edition,
+            command,
+            pass,
+        } = self;
         Running {
+            edition,
             command,
             slices: 0,
             pass,
@@ -121,9 +154,10 @@ pub enum Progress {
     Finished,
 }
 
-/// A command that runs, how many of its slices are done, and its client's pass.
+/// A command that runs, its edition, how many of its slices are done, and its client's pass.
 #[derive(Drop)]
 pub struct Running<K: World> {
+    edition: Edition,
     command: Command,
     slices: u64,
     pass: Pass<Commit, K>,
@@ -135,10 +169,22 @@ impl<K: World> Model for Running<K> {
 
     ghost Value = { RunningJob };
 
-    ghost view = { λ running. record { command = running.command; slices = running.slices; pass = running.pass } };
+    ghost view = { λ running. record {
+      edition = running.edition;
+      command = running.command;
+      slices = running.slices;
+      pass = running.pass;
+    } };
 }
 
 impl<K: World> Running<K> {
+    /// The edition.
+    pub(crate) fn edition(&self) -> Edition
+        ensures { result ≡ self.now.edition }
+    {
+        self.edition
+    }
+
     /// The command.
     pub(crate) fn command(&self) -> &Command
         ensures { result.now ≡ self.now.command }
@@ -162,16 +208,17 @@ impl<K: World> Running<K> {
         self.slices += 1;
     }
 
-    /// The command, to be kept, and the pass.
-    pub(crate) fn part(self) -> (Command, Pass<Commit, K>)
-        ensures { (result.0 ≡ self.command) × (result.1 ≡ self.pass) }
+    /// The edition and the command, to be kept, and the pass.
+    pub(crate) fn part(self) -> (Edition, Command, Pass<Commit, K>)
+        ensures { (result.0 ≡ self.edition) × (result.1 ≡ self.command) × (result.2 ≡ self.pass) }
     {
         let Running {
+            edition,
             command,
             slices: _,
             pass,
         } = self;
-        (command, pass)
+        (edition, command, pass)
     }
 
     /// The answer to a job of which a slice was refused.
@@ -179,6 +226,7 @@ impl<K: World> Running<K> {
         ensures { result ≡ refused_answer self.pass refusal }
     {
         let Running {
+            edition: _,
             command: _,
             slices: _,
             pass,

@@ -3,6 +3,7 @@
 
 mod answer;
 mod job;
+mod part;
 mod partition;
 mod schedules;
 mod snapshot;

@@ -32,9 +32,10 @@ ghost use Rattle.hy_partition.specs.Steps.{begin_refusal, is_from, is_full, with
 
 use crate::answer::{accept, enter_part};
 use crate::job::{Done, Job, Progress, Running};
+use crate::part::Part;
 use crate::snapshot::Snapshot;
 use crate::world::Loaded;
-use hy_commands::{Command, Commit, Reply};
+use hy_commands::{Command, Commit, Edition, Reply};
 use hy_fill::filled_store;
 use hy_layout::Layout;
 use hy_ledger::{Balance, Book, Share};
@@ -58,7 +59,7 @@ pub struct Partition<const N: usize, K: Loaded> {
     max_kept: u64,
     drained: usize,
     running: Option<Running<K>>,
-    part: Option<Command>,
+    part: Option<Part>,
     undo: Undo<N>,
     finished: Option<Done<K>>,
     space: Space<N>,
@@ -197,10 +198,13 @@ impl<const N: usize, K: Loaded> Partition<N, K> {
             return Err(Refusal::NotRunning);
         };
         let done = running.slices();
-        match self
-            .executor
-            .slice(&mut self.space, &mut self.undo, running.command(), done)
-        {
+        match self.executor.slice(
+            &mut self.space,
+            &mut self.undo,
+            running.edition(),
+            running.command(),
+            done,
+        ) {
             Ok(None) => {
                 running.advance();
                 Ok(Progress::More)
@@ -228,10 +232,13 @@ impl<const N: usize, K: Loaded> Partition<N, K> {
             unreachable!();
         };
         let done = running.slices();
-        match self
-            .executor
-            .slice(&mut self.space, &mut self.undo, running.command(), done)
-        {
+        match self.executor.slice(
+            &mut self.space,
+            &mut self.undo,
+            running.edition(),
+            running.command(),
+            done,
+        ) {
             Ok(None) => unreachable!(),
             Ok(Some(reply)) => {
                 let done = accept(&mut self.kept, &mut self.book, journal, running, reply);
@@ -373,20 +380,20 @@ impl<const N: usize, K: Loaded> Partition<N, K> {
         self.kept.tell(journal);
     }
 
-    /// Does the part of a command over several warehouses, which the database doesn't refuse, and makes room for its
-    /// commit. The warehouse whose customer the command names answers the reply. A refusal undoes what was done: E2
-    /// where no frame is free, or E1.
-    pub fn do_part(&mut self, command: Command) -> Result<Option<Reply>, Refusal>
+    /// Does the part of a command over several warehouses, which the database doesn't refuse, by an edition, and makes
+    /// room for its commit. The warehouse whose customer the command names answers the reply. A refusal undoes what was
+    /// done: E2 where no frame is free, or E1.
+    pub fn do_part(&mut self, edition: Edition, command: Command) -> Result<Option<Reply>, Refusal>
         requires idle { (self.old.running ≡ None) × (self.old.part ≡ None) }
         requires has_part { HasPart (layout_of self.old) command }
         requires few { length self.old.kept < self.old.max_kept }
-        ensures done { IfOk result (DoesPart command self.old self.new) }
-        ensures pages { OnOk result (Spells N (owner_bytes self.new.space) (rows_with_part self.old command)) }
+        ensures done { IfOk result (DoesPart edition command self.old self.new) }
+        ensures pages { OnOk result (Spells N (owner_bytes self.new.space) (rows_with_part self.old edition command)) }
         ensures undone { OnErr result (HasNoPart self.old self.new) }
         ensures refused { IfErr result (IsWhyUndone self.old.space self.new.space) }
     {
-        put(&mut self.part, command);
-        let Some(command) = &self.part else {
+        put(&mut self.part, Part::new(edition, command));
+        let Some(part) = &self.part else {
             unreachable!();
         };
         match run_part(
@@ -394,7 +401,7 @@ impl<const N: usize, K: Loaded> Partition<N, K> {
             &self.executor,
             &mut self.space,
             &mut self.undo,
-            command,
+            part,
         ) {
             Ok(reply) => Ok(reply),
             Err(refusal) => {
@@ -417,18 +424,20 @@ impl<const N: usize, K: Loaded> Partition<N, K> {
     /// Keeps the part that is done, whose command has just entered the serial list under its number among those of
     /// several warehouses. Its home gives the share. Takes no memory.
     pub fn keep_part(&mut self, list: &mut SerialList<Commit, K>, number: u64) -> Option<Share<K>>
-        requires part { IsSomeAnd self.old.part (λ command. projection_of self.old.warehouse list.old.log
-            ≡ self.old.kept ++ commits.Cross number command ∷ []) }
+        requires part { IsSomeAnd self.old.part (λ part. projection_of self.old.warehouse list.old.log
+            ≡ self.old.kept ++ commits.Cross part.edition number part.command ∷ []) }
         ensures kept { IfSome self.old.part
-            (λ command. KeepsPart command number list.old.log self.old self.new result) }
+            (λ part. KeepsPart part.edition part.command number list.old.log self.old self.new result) }
         ensures log { list.new.log ≡ list.old.log }
         ensures behind { list.new.behind ≡ filter (λ w. not (w == self.old.warehouse)) list.old.behind }
     {
-        let Some(command) = self.part.take() else {
+        let Some(part) = self.part.take() else {
             unreachable!();
         };
+        let (edition, command) = part.open();
         let share = enter_part(&mut self.book, self.executor.layout().warehouse(), &command);
-        self.kept.enter(list, Commit::Cross(number, command));
+        self.kept
+            .enter(list, Commit::Cross(edition, number, command));
         self.undo.commit(&self.space);
         share
     }
@@ -604,24 +613,25 @@ fn run_part<const N: usize, K: Loaded>(
     executor: &Executor,
     space: &mut Space<N>,
     undo: &mut Undo<N>,
-    command: &Command,
+    part: &Part,
 ) -> Result<Option<Reply>, Refusal>
     requires writable { IsWritableStore N space.old undo.old }
     requires none { undo.old ≡ empty_log space.old }
     requires sound { IsSoundStore executor.now.layout (stored_in N space.old) }
-    requires part { HasPart executor.now.layout command.now }
+    requires part { HasPart executor.now.layout part.now.command }
     requires small { HasGrownBy 100_000_000 (stored_in N space.old).tables }
     ensures kept { kept.new ≡ record kept.old { room = kept.new.room } }
     ensures room { OnOk result (1 ≤ kept.new.room) }
-    ensures done { OnOk result (LeavesStore N space.old space.new (DoesStoredPart executor.now.layout command.now)) }
+    ensures done { OnOk result (LeavesStore N space.old space.new
+        (DoesStoredPart executor.now.layout part.now.edition part.now.command)) }
     ensures reply { IfOk result (λ reply. reply
-        ≡ reply_of_part executor.now.layout command.now (stored_in N space.old).tables) }
+        ≡ reply_of_part executor.now.layout part.now.edition part.now.command (stored_in N space.old).tables) }
     ensures writes { OnOk result (WritesStore N space.old space.new undo.old undo.new) }
     ensures undone { OnErr result (IsUndone N space.old space.new undo.new) }
     ensures refused { IfErr result (IsWhyUndone space.old space.new) }
 {
     kept.reserve()?;
-    match executor.run_part(space, undo, command) {
+    match executor.run_part(space, undo, part.edition(), part.command()) {
         Ok(reply) => Ok(reply),
         Err(refusal) => {
             space.sound();

@@ -34,7 +34,7 @@ pub fn calls_are_events()
         → Begins lists number frames commits p → IsWorldOf n [] p (fresh_world lists number) }
     ensures begin { (n : ℕ) (log : Log) (p q : PartitionState) (world : World) (job : JobState) → IsWorldOf n log p world
         → world.known job.pass.client ≡ length job.pass.seen → begin_refusal p job.command ≡ None → q ≡ with_job p job
-        → Leads n (begins job.pass.client job.command) world log q }
+        → Leads n (begins job.pass.client job.edition job.command) world log q }
     ensures step { (n : ℕ) (log after : Log) (p q : PartitionState) (world : World) (job : RunningJob)
         (progress : Progress) → IsWorldOf n log p world → p.running ≡ Some job
         → StepsTo job (Some log) (Some after) p q progress → Leads n steps world after q }

@@ -9,11 +9,12 @@ use Rattle.hy_tables.specs.Generated.{generated_lists}
 use Rattle.hy_commands.specs.declared.command.Command.{Command}
 use Rattle.hy_commands.specs.declared.command.Commit.{Commit}
 use Rattle.hy_commands.specs.declared.command.Commit.TheVariants as commits
+use Rattle.hy_commands.specs.declared.edition.Edition.TheVariants as editions
 use Rattle.hy_commands.specs.Commands.{is_reader}
 use Rattle.hy_commands.specs.Replay.{replay}
 use Rattle.hy_commands.specs.Transactions.{act, begin_refusal_of, refusal_of}
 use Rattle.hy_partition.specs.Jobs.{RunningJob}
-use Rattle.hy_partition.specs.Partition.{PartitionState, Terms, refusal_now, rows_now}
+use Rattle.hy_partition.specs.Partition.{PartState, PartitionState, Terms, refusal_now, rows_now}
 use Rattle.hy_partition.specs.Steps.{Begins, begin_refusal, is_busy, is_full}
 use Rattle.hy_program.specs.First.{IsFirstRefusal, IsPaid, IsPayRefusal, IsYtdAfter, first_command, first_payment, ytds_of}
 use Rattle.hy_program.specs.Generated.{generated, generated_items}
@@ -52,7 +53,7 @@ begin-begun : (p : PartitionState) (command : Command) (refusal : Refusal) → H
 begin-begun p command refusal b is =
     let busy : is_busy p ≡ false =
     ap (λ (r : Option RunningJob). is_some r || is_some p.part || is_some p.finished) b.running
-    ∙ ap (λ (part : Option Command). is_some part || is_some p.finished) b.part ∙ ap is_some b.finished in
+    ∙ ap (λ (part : Option PartState). is_some part || is_some p.finished) b.part ∙ ap is_some b.finished in
     let full : is_full p ≡ false =
     ap (λ (kept : List Commit). length kept == p.max_kept) b.kept ∙ ap (λ (t : Terms). 0 == t.max_kept) b.terms in
     let why = ap (λ (b : Bool). cond b (Some refusals.Busy) (option_or (begin_refusal_of p.warehouse command (rows_now p))
@@ -69,8 +70,8 @@ begin-begun p command refusal b is =
 pub ytd_after : (amount : ℕ) (p new : PartitionState) (ytd : ℤ) → HasBegun p → IsPaid (first_payment amount) p new → ytds_of (rows_now new) ≡ ytd ∷ [] → IsYtdAfter amount ytd
 ytd_after amount p new ytd b paid is =
     let command : Command = first_command amount in
-    let kept = paid.kept ∙ ap (λ (kept : List Commit). kept ++ commits.Local command ∷ []) b.kept in
-    let rows : rows_now new ≡ (act (generated_items 3) 1 command (of_warehouse 1 (generated 3))).tables =
+    let kept = paid.kept ∙ ap (λ (kept : List Commit). kept ++ commits.Local editions.Second command ∷ []) b.kept in
+    let rows : rows_now new ≡ (act (generated_items 3) 1 editions.Second command (of_warehouse 1 (generated 3))).tables =
     ap (λ (t : Terms). replay t.load t.warehouse (of_warehouse t.warehouse t.load.tables) new.kept) (paid.terms ∙ b.terms)
     ∙ ap (replay (generated_lists 1 3 1) 1 (of_warehouse 1 (generated 3))) kept in
     (sym (refusal-begun p command b) ∙ paid.accepted, sym (ap ytds_of rows) ∙ is)

@@ -13,7 +13,7 @@ use Rattle.hy_files.specs.declared.directory.FileFault.TheVariants as faults
 use Rattle.hy_files.specs.Directory.{KeepsOtherFiles, tables}
 use Rattle.hy_files.specs.Faults.{IsOfSystem, IsUnwritten}
 use Rattle.hy_files.specs.Files.{FilesByPath, KnownPaths}
-use Rattle.hy_commands.specs.declared.command.Commit.{Commit}
+use Rattle.hy_batches.specs.Batches.{Batch}
 use Rattle.hy_commands.specs.Commands.{number_of, warehouses_of_commit}
 use Rattle.hy_passes.specs.SerialList.{IsSerial}
 use Rattle.hy_partition.specs.Jobs.{Log}
@@ -31,14 +31,14 @@ use Rattle.hy_program.specs.Reading.{HasBoth, IsReadAllFault}
 use Rattle.hy_program.specs.Recover.{IsFound, IsHistoryOf, IsRecoverDone, IsRecoverFault, IsReplayed, IsSaveFault, IsSaved, IsUnsaved, IsUnwrittenIn, IsWhyLost, IsWhyUnreplayed, KeepsFolder, with_rows}
 
 -- what partitions that were recovered have kept is what the batches' lists come to
-kept-at : (lists : Lists) (frames most : ℕ) (batches : List (List (List Commit))) (log : Log) (place : ℕ) (found : Option PartitionState)
+kept-at : (lists : Lists) (frames most : ℕ) (batches : List Batch) (log : Log) (place : ℕ) (found : Option PartitionState)
     → IfSome found (IsRecovered lists frames most (joined batches place) (suc place))
     → IfSome found (λ p. p.kept ≡ projection_of (suc place) log) → (p : PartitionState) → found ≡ Some p
     → projection_of (suc place) log ≡ joined batches place
 kept-at lists frames most batches log place None recovered kept p is = absurd (cc)
 kept-at lists frames most batches log place (Some other) recovered kept p is = sym kept ∙ recovered.kept
 
-pub history_of : (lists : Lists) (frames most partitions : ℕ) (batches : List (List (List Commit))) (log : Log) (parts : List PartitionState)
+pub history_of : (lists : Lists) (frames most partitions : ℕ) (batches : List Batch) (log : Log) (parts : List PartitionState)
     → partitions ≡ length lists.tables.warehouses → AreRecovered lists frames most batches parts
     → IsOneHistory partitions log parts → IsHistoryOf lists batches log
 history_of lists frames most partitions batches log parts count recovered history = record {
@@ -59,7 +59,7 @@ some-behind lists log sound =
     omega (arith, count, sound.warehouses.whole)
 
 -- rows that are read from a snapshot of that database
-replayed : (lists : Lists) (batches : List (List (List Commit))) (log : Log) (all rows : Tables) → IsHistoryOf lists batches log
+replayed : (lists : Lists) (batches : List Batch) (log : Log) (all rows : Tables) → IsHistoryOf lists batches log
     → all ≡ all_rows (database_behind lists log) → first_broken (all_rows (database_behind lists log)) ≡ None → rows ≡ all
     → IsReplayed lists batches rows
 replayed lists batches log all rows history spelled consistent is = record {
@@ -69,7 +69,7 @@ replayed lists batches log all rows history spelled consistent is = record {
   consistent = ap first_broken (is ∙ spelled) ∙ consistent;
 }
 
-pub replayed_by : {E : Type 0} (lists : Lists) (batches : List (List (List Commit))) (log : Log) (all : Tables)
+pub replayed_by : {E : Type 0} (lists : Lists) (batches : List Batch) (log : Log) (all : Tables)
     → IsHistoryOf lists batches log → all ≡ all_rows (database_behind lists log)
     → first_broken (all_rows (database_behind lists log)) ≡ None → (result : Result Tables E) → IfOk result (λ rows. rows ≡ all)
     → IfOk result (IsReplayed lists batches)
@@ -78,7 +78,7 @@ replayed_by lists batches log all history spelled consistent (Ok rows) is =
 replayed_by lists batches log all history spelled consistent (Err why) is = tt
 
 -- why there is no snapshot of what was recovered
-pub unforked : (lists : Lists) (batches : List (List (List Commit))) (log : Log) (parts : List PartitionState) (why : Refusal)
+pub unforked : (lists : Lists) (batches : List Batch) (log : Log) (parts : List PartitionState) (why : Refusal)
     → GoesOn lists batches log → IsWhyUnforked parts why → IsWhyUnreplayed lists batches why
 unforked lists batches log parts why on (inl frame) = inr (frame.0, (on.0, on.1))
 unforked lists batches log parts why on (inr memory) = subst (λ it. IsWhyUnreplayed lists batches it) (sym memory) (inl tt)

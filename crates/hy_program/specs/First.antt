@@ -8,6 +8,7 @@ use Rattle.hy_commands.specs.declared.command.Payment.{Payment}
 use Rattle.hy_commands.specs.declared.command.Who.TheVariants as who
 use Rattle.hy_commands.specs.Transactions.{act, refusal_of}
 use Rattle.hy_commands.specs.declared.command.Commit.TheVariants as commits
+use Rattle.hy_commands.specs.declared.edition.Edition.TheVariants as editions
 use Rattle.hy_rows.specs.Tables.{Tables}
 use Rattle.hy_schema.specs.declared.refusal.Refusal.{Refusal}
 use Rattle.hy_schema.specs.declared.refusal.Refusal.TheVariants as refusals
@@ -43,7 +44,7 @@ ytds_of tables = map (λ row. row.ytd) tables.warehouses
 
 -- W_YTD of each warehouse after the payment
 abbrev pub ytds_after : ℕ → List ℤ
-ytds_after amount = ytds_of (act (generated_items 3) 1 (first_command amount) (generated 3)).tables
+ytds_after amount = ytds_of (act (generated_items 3) 1 editions.Second (first_command amount) (generated 3)).tables
 
 -- W_YTD of each warehouse of a snapshot with pages of 4,096 bytes
 abbrev pub ytds : SnapshotState → List ℤ
@@ -53,13 +54,13 @@ ytds snapshot = ytds_of (tables_of 4_096 snapshot.bytes)
 abbrev pub HasTwoSlices : RunningJob → Type 0
 HasTwoSlices job = (slice_count job.command ≡ 2) × (job.slices ≡ 0)
 
--- a payment was accepted and kept, and nothing else
+-- a payment was accepted and kept as one of the second edition, and nothing else
 pub record IsPaid (payment : Payment) (old new : PartitionState) : Type 0 where
   pub accepted : refusal_now old (commands.Payment payment) ≡ None
   pub terms : terms_of new ≡ terms_of old
   pub idle : new.running ≡ None
   pub undo : new.undo ≡ empty_log new.space
-  pub kept : new.kept ≡ old.kept ++ commits.Local (commands.Payment payment) ∷ []
+  pub kept : new.kept ≡ old.kept ++ commits.Local editions.Second (commands.Payment payment) ∷ []
 
 -- why the warehouse refuses the payment
 abbrev pub first_refusal_of : ℕ → Option Refusal

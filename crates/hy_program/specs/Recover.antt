@@ -14,9 +14,9 @@ use Rattle.hy_files.specs.declared.directory.FileFault.{FileFault}
 use Rattle.hy_files.specs.Directory.{AreFiles, KeepsOtherFiles, tables}
 use Rattle.hy_files.specs.Faults.{IsOfSystem, IsUnwritten}
 use Rattle.hy_files.specs.Files.{AddsPath, FilesByPath, KnownPaths}
-use Rattle.hy_commands.specs.declared.command.Commit.{Commit}
 use Rattle.hy_commands.specs.Commands.{number_of, warehouses_of_commit}
 use Rattle.hy_passes.specs.SerialList.{IsSerial}
+use Rattle.hy_batches.specs.Batches.{Batch}
 use Rattle.hy_batches.specs.Logs.{IsLog, Reads}
 use Rattle.hy_partition.specs.Jobs.{Log}
 use Rattle.hy_partition.specs.Partition.{projection_of}
@@ -33,12 +33,12 @@ use Rattle.hy_program.specs.Reading.{HasBoth, IsReadAllFault}
 -- ---- what is recovered
 
 -- a serial list of commits of a load's warehouses, of which each warehouse has what the batches' lists of it come to
-pub record IsHistoryOf (lists : Lists) (batches : List (List (List Commit))) (log : Log) : Type 0 where
+pub record IsHistoryOf (lists : Lists) (batches : List Batch) (log : Log) : Type 0 where
   pub serial : IsSerial warehouses_of_commit number_of (length lists.tables.warehouses) log
   pub kept : (place : ℕ) → place < length lists.tables.warehouses → projection_of (suc place) log ≡ joined batches place
 
 -- these are the rows of the database behind a list of the commits of batches, and meet the consistency conditions
-pub record IsReplayed (lists : Lists) (batches : List (List (List Commit))) (rows : Tables) : Type 0 where
+pub record IsReplayed (lists : Lists) (batches : List Batch) (rows : Tables) : Type 0 where
   pub log : Log
   pub history : IsHistoryOf lists batches log
   pub spelled : rows ≡ all_rows (database_behind lists log)
@@ -46,14 +46,14 @@ pub record IsReplayed (lists : Lists) (batches : List (List (List Commit))) (row
 
 -- the same for bytes that are a log of so many batches
 pub record IsBehind (lists : Lists) (bytes : List ℕ) (count : ℕ) (rows : Tables) : Type 0 where
-  pub batches : List (List (List Commit))
+  pub batches : List Batch
   pub rest : List ℕ
   pub whole : IsLog bytes batches rest
   pub counted : count ≡ length batches
   pub replayed : IsReplayed lists batches rows
 
 -- why batches can't be run again on a load, or there is no snapshot of what comes of them, for which a frame may lack
-abbrev pub IsWhyUnreplayed : Lists → List (List (List Commit)) → Refusal → Type 0
+abbrev pub IsWhyUnreplayed : Lists → List Batch → Refusal → Type 0
 IsWhyUnreplayed lists batches why =
     IsWhyUnrecovered lists batches 1_000_000 why ⊎ ((why ≡ refusals.NoFrame) × IsSoundLog lists batches)
 
@@ -61,7 +61,7 @@ IsWhyUnreplayed lists batches why =
 abbrev pub IsWhyLost : Lists → List ℕ → Refusal → Type 0
 IsWhyLost lists bytes why =
     Reads bytes (Err why)
-    ⊎ ((batches : List (List (List Commit))) × (rest : List ℕ) × IsLog bytes batches rest × IsWhyUnreplayed lists batches why)
+    ⊎ ((batches : List Batch) × (rest : List ℕ) × IsLog bytes batches rest × IsWhyUnreplayed lists batches why)
 
 -- ---- what is printed
 

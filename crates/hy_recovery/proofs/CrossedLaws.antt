@@ -18,6 +18,7 @@ use Rattle.hy_commands.specs.declared.command.Who.{Who}
 use Rattle.hy_commands.specs.declared.command.Who.TheVariants as who
 use Rattle.hy_commands.specs.declared.reply.Reply.{Reply}
 use Rattle.hy_commands.specs.declared.reply.Reply.TheVariants as replies
+use Rattle.hy_commands.specs.declared.edition.Edition.{Edition}
 use Rattle.hy_commands.specs.Customers.{customer_meant}
 use Rattle.hy_commands.specs.Parts.{Database, by_number, customer_home_of, database_of, is_by_number, refusal_in}
 use Rattle.hy_commands.specs.Transactions.{accepted, has_customer}
@@ -124,11 +125,11 @@ none-full command number (p ∷ rows) few =
 
 -- ---- the whole command
 
-module _ (lists : Lists) (number : ℕ) (command : Command) (pass : PassState Commit) (before after : Log)
+module _ (lists : Lists) (edition : Edition) (number : ℕ) (command : Command) (pass : PassState Commit) (before after : Log)
     (olds news : List PartitionState) (answer : DoneState) (can : CanRunCrossing lists number command before olds)
-    (crosses : Crosses lists (record { command = command; pass = pass }) before after olds news answer) where
+    (crosses : Crosses lists (record { edition = edition; command = command; pass = pass }) before after olds news answer) where
   abbrev job : JobState
-  job = record { command = command; pass = pass }
+  job = record { edition = edition; command = command; pass = pass }
 
   abbrev middle : List PartitionState
   middle = crosses.middle
@@ -171,11 +172,11 @@ module _ (lists : Lists) (number : ℕ) (command : Command) (pass : PassState Co
       ap (λ full. with_full full (refusal_in (database_behind lists before) command)) not-full
       ∙ ap (with_full false) unrefused
 
-  replies-not : (why : Refusal) → (act_on_all command (database_behind lists before)).reply ≡ replies.Refused why → ⊥
+  replies-not : (why : Refusal) → (act_on_all edition command (database_behind lists before)).reply ≡ replies.Refused why → ⊥
   replies-not why is =
       let database : Database = database_behind lists before in
-      accepted-reply database.items (customer_home_of command) command (customer_rows command database) why
-      (sym (ap (λ r. (whole_outcome r command database).reply) unrefused) ∙ is)
+      accepted-reply database.items (customer_home_of command) edition command (customer_rows command database) why
+      (sym (ap (λ r. (whole_outcome r edition command database).reply) unrefused) ∙ is)
 
   same-why : (one other : Refusal) → replies.Refused one ≡ replies.Refused other → one ≡ other
   same-why one other is = cc
@@ -203,13 +204,13 @@ module _ (lists : Lists) (number : ℕ) (command : Command) (pass : PassState Co
     ]
 
     abbrev commit : Commit
-    commit = commits.Cross number command
+    commit = commits.Cross edition number command
 
     entry-commit : (entry_of lists job before).commit ≡ commit
     entry-commit =
         let same : next_number before ≡ number = omega (arith, can.next) in
-        ap (λ n. commits.Cross n (kept_in (database_behind lists before) command)) same
-        ∙ ap (λ command. commits.Cross number command)
+        ap (λ n. commits.Cross edition n (kept_in (database_behind lists before) command)) same
+        ∙ ap (λ command. commits.Cross edition number command)
         (kept-same (database_behind lists before) command unrefused can.by_number)
 
     kept-here : (n : ℕ) (old between new : PartitionState) → TellsIfNamed command before n old between

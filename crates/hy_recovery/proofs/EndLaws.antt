@@ -4,7 +4,7 @@ use Rattle.std.specs.Prelude.{IfSome, slice_get}
 use Rattle.hy_rows.specs.Tables.{Lists}
 use Rattle.hy_schema.specs.declared.refusal.Refusal.{Refusal}
 use Rattle.hy_schema.specs.declared.refusal.Refusal.TheVariants as refusals
-use Rattle.hy_commands.specs.declared.command.Commit.{Commit}
+use Rattle.hy_batches.specs.Batches.{Batch}
 use Rattle.hy_partition.specs.Jobs.{Log}
 use Rattle.hy_partition.specs.Partition.{PartitionState}
 use Rattle.hy_crossing.specs.Crossings.{ArePartitions, HaveNoPart}
@@ -44,7 +44,7 @@ module _ (lists : Lists) (aim : Aim) (log : Log) (parts : List PartitionState) (
 
 -- ---- why there is no recovery
 
-module _ (lists : Lists) (batches : List (List (List Commit))) (most : ℕ) where
+module _ (lists : Lists) (batches : List Batch) (most : ℕ) where
   -- where all batches are sound and fit, a frame or memory lacks
   pub lacking-why : (why : Refusal) → IsSoundLog lists batches → NoneAreTooMany lists batches most → IsShortage why
       → IsWhyUnrecovered lists batches most why

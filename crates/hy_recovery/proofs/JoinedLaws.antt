@@ -9,7 +9,11 @@ use Rattle.hy_rows.specs.Limits.{max_warehouses}
 use Rattle.hy_rows.specs.Ranges.{is_between}
 use Rattle.hy_rows.specs.Tables.{Lists}
 use Rattle.hy_commands.specs.declared.command.Commit.{Commit}
-use Rattle.hy_batches.specs.Grammar.{are_lists, fits, is_batch, is_commit, is_list}
+use Rattle.hy_commands.specs.declared.edition.Edition.{Edition}
+use Rattle.hy_commands.specs.declared.edition.Edition.TheVariants as editions
+use Rattle.hy_commands.specs.Commands.{edition_of}
+use Rattle.hy_batches.specs.Batches.{Batch, is_edition, may_follow}
+use Rattle.hy_batches.specs.Grammar.{are_batches, are_batches_behind, are_lists, commit_fits, fits, is_allowed, is_batch, is_commit, is_list}
 use Rattle.hy_batches.proofs.ListLaws.{flat_map-taken}
 use Rattle.hy_partition.specs.Jobs.{Log}
 use Rattle.hy_partition.specs.Partition.{PartitionState, terms_of}
@@ -26,18 +30,18 @@ use Rattle.hy_sound.proofs.LogLaws.{sound-next}
 use Rattle.hy_sound.proofs.MergeLaws.{left-first}
 use Rattle.hy_sound.proofs.SoundLaws.{sound-from}
 use Rattle.hy_recovery.specs.Recovering.{AreRecovered, GoesOn, IsRecovered, NoneAreTooMany, joined}
-use Rattle.hy_recovery.specs.inside.Ways.{Aim, AreOnWay, AreThere, IsBound, Marked, Marks, crossings_in, untouched}
+use Rattle.hy_recovery.specs.inside.Ways.{Aim, AreOnWay, AreThere, IsBound, Marked, Marks, crossings_in, may_stand, untouched}
 use Rattle.hy_recovery.proofs.PlaceLaws.{at-place, each-from, get-some, get-within, pairs-at}
 
 -- ---- lists
 
-joined-cons : (batch : List (List Commit)) (batches : List (List (List Commit))) (place : ℕ)
-    → length (joined (batch ∷ batches) place) ≡ length (list_at batch place) + length (joined batches place)
+joined-cons : (batch : Batch) (batches : List Batch) (place : ℕ)
+    → length (joined (batch ∷ batches) place) ≡ length (list_at batch.lists place) + length (joined batches place)
 joined-cons batch batches place =
-    ap length (flat_map-cons (λ batch. list_at batch place) batch batches)
-    ∙ length-append (list_at batch place) (joined batches place)
+    ap length (flat_map-cons (λ (batch : Batch). list_at batch.lists place) batch batches)
+    ∙ length-append (list_at batch.lists place) (joined batches place)
 
-pub joined-taken : (count : ℕ) (batches : List (List (List Commit))) (place : ℕ)
+pub joined-taken : (count : ℕ) (batches : List Batch) (place : ℕ)
     → length (joined (take count batches) place) ≤ length (joined batches place)
 joined-taken zero batches place = omega arith
 joined-taken (suc count) [] place = omega arith
@@ -60,45 +64,63 @@ drop-at {Row = Row} rows place row at =
     from (first ∷ rows) zero at = let same : first ≡ row = cc in ap (λ first. first ∷ rows) same
     from (first ∷ rows) (suc place) at = from rows place at
 
-all-at : {Row : Type 0} (test : Row → _) (rows : List Row) (place : ℕ) (row : Row) → list_all test rows ≡ true
-    → slice_get rows place ≡ Some row → test row ≡ true
-all-at test [] place row all at = absurd (cc)
-all-at test (first ∷ rows) zero row all at =
-    let same : first ≡ row = cc in
-    ap test (sym same) ∙ (and_parts (test first) (list_all test rows) all).0
-all-at test (first ∷ rows) (suc place) row all at =
-    all-at test rows place row (and_parts (test first) (list_all test rows) all).1 at
+-- each batch of a log is one
+batch-at : (edition : Edition) (batches : List Batch) (place : ℕ) (batch : Batch)
+    → are_batches_behind edition batches ≡ true → slice_get batches place ≡ Some batch → is_batch batch ≡ true
+batch-at edition [] place batch all at = absurd (cc)
+batch-at edition (first ∷ batches) zero batch all at =
+    let same : first ≡ batch = cc in
+    let front = (and_parts (is_batch first && may_follow edition first.edition) (are_batches_behind first.edition batches)
+    all).0 in
+    ap is_batch (sym same) ∙ (and_parts (is_batch first) (may_follow edition first.edition) front).0
+batch-at edition (first ∷ batches) (suc place) batch all at =
+    batch-at first.edition batches place batch
+    (and_parts (is_batch first && may_follow edition first.edition) (are_batches_behind first.edition batches) all).1 at
 
-lists-allowed : (number : ℕ) (batch : List (List Commit)) (place : ℕ) → are_lists number batch ≡ true
-    → place < length batch → list_all (is_commit (number + place)) (list_at batch place) ≡ true
-lists-allowed number [] place are within = absurd (omega (arith, within))
-lists-allowed number (commits ∷ batch) zero are within =
+-- what may stand in a batch of an edition may stand in one of its own
+all-stand : (edition : Edition) (warehouse : ℕ) (commits : List Commit)
+    → list_all (is_commit edition warehouse) commits ≡ true → list_all (may_stand warehouse) commits ≡ true
+all-stand edition warehouse [] all = refl
+all-stand edition warehouse (commit ∷ commits) all =
+    let parts = and_parts (is_commit edition warehouse commit) (list_all (is_commit edition warehouse) commits) all in
+    let one = and_parts (is_edition (edition_of commit) edition && is_allowed warehouse commit) (commit_fits commit) parts.0 in
+    let allowed = (and_parts (is_edition (edition_of commit) edition) (is_allowed warehouse commit) one.0).1 in
+    let fits = one.1 in
+    let others = all-stand edition warehouse commits parts.1 in
+    rw (allowed, fits, others) refl
+
+lists-allowed : (edition : Edition) (number : ℕ) (lists : List (List Commit)) (place : ℕ)
+    → are_lists edition number lists ≡ true → place < length lists
+    → list_all (may_stand (number + place)) (list_at lists place) ≡ true
+lists-allowed edition number [] place are within = absurd (omega (arith, within))
+lists-allowed edition number (commits ∷ lists) zero are within =
     let same : number ≡ number + 0 = omega arith in
-    let here = (and_parts (is_list number commits) (are_lists (number + 1) batch) are).0 in
-    subst (λ n. list_all (is_commit n) commits ≡ true) same
-    (and_parts (fits 4 (length commits)) (list_all (is_commit number) commits) here).1
-lists-allowed number (commits ∷ batch) (suc place) are within =
+    let here = (and_parts (is_list edition number commits) (are_lists edition (number + 1) lists) are).0 in
+    subst (λ n. list_all (may_stand n) commits ≡ true) same
+    (all-stand edition number commits
+    (and_parts (fits 4 (length commits)) (list_all (is_commit edition number) commits) here).1)
+lists-allowed edition number (commits ∷ lists) (suc place) are within =
     let next : number + 1 + place ≡ number + suc place = omega arith in
-    subst (λ n. list_all (is_commit n) (list_at batch place) ≡ true) next
-    (lists-allowed (number + 1) batch place (and_parts (is_list number commits) (are_lists (number + 1) batch) are).1
-    (omega (arith, within)))
+    subst (λ n. list_all (may_stand n) (list_at lists place) ≡ true) next
+    (lists-allowed edition (number + 1) lists place
+    (and_parts (is_list edition number commits) (are_lists edition (number + 1) lists) are).1 (omega (arith, within)))
 
-pub batch-allowed : (batch : List (List Commit)) (place : ℕ) → is_batch batch ≡ true → place < length batch
-    → list_all (is_commit (suc place)) (list_at batch place) ≡ true
+pub batch-allowed : (batch : Batch) (place : ℕ) → is_batch batch ≡ true → place < length batch.lists
+    → list_all (may_stand (suc place)) (list_at batch.lists place) ≡ true
 batch-allowed batch place is within =
     let first : 1 + place ≡ suc place = omega arith in
-    subst (λ n. list_all (is_commit n) (list_at batch place) ≡ true) first
-    (lists-allowed 1 batch place
-    (and_parts (is_between 1 max_warehouses (length batch)) (are_lists 1 batch) is).1 within)
+    subst (λ n. list_all (may_stand n) (list_at batch.lists place) ≡ true) first
+    (lists-allowed batch.edition 1 batch.lists place
+    (and_parts (is_between 1 max_warehouses (length batch.lists)) (are_lists batch.edition 1 batch.lists) is).1 within)
 
 -- ---- on the way through a log
 
-abbrev pub aim_of : List (List (List Commit)) → ℕ → ℕ → ℕ → ℕ → Aim
+abbrev pub aim_of : List Batch → ℕ → ℕ → ℕ → ℕ → Aim
 aim_of batches frames most count last =
     record { frames = frames; most = most; goal = joined (take count batches); last = last }
 
 -- the batches before a place were run
-pub record AreRun (lists : Lists) (batches : List (List (List Commit))) (frames most place : ℕ) (log : Log)
+pub record AreRun (lists : Lists) (batches : List Batch) (frames most place : ℕ) (log : Log)
     (parts : List PartitionState) : Type 0 where
   pub last : ℕ
   pub total : ℕ
@@ -106,7 +128,7 @@ pub record AreRun (lists : Lists) (batches : List (List (List Commit))) (frames 
   pub done : AreSound lists 0 last (take place batches)
   pub later : AreSound lists last total (drop place batches)
 
-pub run-none : (lists : Lists) (batches : List (List (List Commit))) (frames most total : ℕ) (log : Log)
+pub run-none : (lists : Lists) (batches : List Batch) (frames most total : ℕ) (log : Log)
     (parts : List PartitionState) → AllBegin lists frames most parts → log ≡ [] → AreSound lists 0 total batches
     → AreRun lists batches frames most 0 log parts
 run-none lists batches frames most total log parts begin none sound = record {
@@ -130,22 +152,22 @@ run-none lists batches frames most total log parts begin none sound = record {
   later = sound;
 }
 
-module _ (lists : Lists) (batches : List (List (List Commit))) (frames most place : ℕ) (log : Log)
+module _ (lists : Lists) (batches : List Batch) (frames most place : ℕ) (log : Log)
     (parts : List PartitionState) (run : AreRun lists batches frames most place log parts)
-    (batch : List (List Commit)) (at : slice_get batches place ≡ Some batch) where
+    (batch : Batch) (at : slice_get batches place ≡ Some batch) where
   split : AreSound lists run.last run.total (batch ∷ drop (place + 1) batches)
   split = subst (λ rows. AreSound lists run.last run.total rows) (drop-at batches place batch at) run.later
 
   pub next_aim : Aim
   next_aim = aim_of batches frames most (place + 1) split.0
 
-  goal-is : (k : ℕ) → joined (take (place + 1) batches) k ≡ joined (take place batches) k ++ list_at batch k
-  goal-is k = flat_map-taken (λ batch. list_at batch k) batches place batch at
+  goal-is : (k : ℕ) → joined (take (place + 1) batches) k ≡ joined (take place batches) k ++ list_at batch.lists k
+  goal-is k = flat_map-taken (λ (batch : Batch). list_at batch.lists k) batches place batch at
 
-  left-is : (k : ℕ) → left_of (untouched batch) k ≡ list_at batch k
+  left-is : (k : ℕ) → left_of (untouched batch) k ≡ list_at batch.lists k
   left-is k = left-first (untouched batch) k refl
 
-  pub run-batch : list_all is_batch batches ≡ true → NoneAreTooMany lists batches most
+  pub run-batch : are_batches batches ≡ true → NoneAreTooMany lists batches most
       → AreOnWay lists next_aim (untouched batch) log parts
   unfolding next_aim
   run-batch are few = record {
@@ -158,7 +180,7 @@ module _ (lists : Lists) (batches : List (List (List Commit))) (frames most plac
           terms = is.terms;
           kept =
               ap (λ rows. p.kept ++ rows) (left-is k)
-              ∙ ap (λ rows. rows ++ list_at batch k) (sym (append-nil p.kept) ∙ is.kept)
+              ∙ ap (λ rows. rows ++ list_at batch.lists k) (sym (append-nil p.kept) ∙ is.kept)
               ∙ sym (goal-is k);
           drained = is.drained;
           rest = is.rest;
@@ -170,8 +192,8 @@ module _ (lists : Lists) (batches : List (List (List Commit))) (frames most plac
         let less = joined-taken (place + 1) batches k in
         omega arith;
     allowed = λ k within.
-        ap (list_all (is_commit (suc k))) (left-is k)
-        ∙ batch-allowed batch k (all-at is_batch batches place batch are at) within;
+        ap (list_all (may_stand (suc k))) (left-is k)
+        ∙ batch-allowed batch k (batch-at editions.First batches place batch are at) within;
     sound =
         subst (λ n. IsSoundFrom lists n split.0 (untouched batch)) (sym run.there.last)
         (sound-from lists run.last split.0 batch (untouched batch) refl left-is split.1);
@@ -190,7 +212,7 @@ module _ (lists : Lists) (batches : List (List (List Commit))) (frames most plac
 
 -- ---- at the end
 
-module _ (lists : Lists) (batches : List (List (List Commit))) (frames most place : ℕ) (log : Log)
+module _ (lists : Lists) (batches : List Batch) (frames most place : ℕ) (log : Log)
     (parts : List PartitionState) (run : AreRun lists batches frames most place log parts)
     (all : length batches ≤ place) where
   whole : take place batches ≡ batches
@@ -242,12 +264,12 @@ module _ (lists : Lists) (batches : List (List (List Commit))) (frames most plac
           }
 
 -- the commits of the batches before, and of the one at a place, are no more than all
-pub joined-next : (batches : List (List (List Commit))) (number place : ℕ) (batch : List (List Commit))
+pub joined-next : (batches : List Batch) (number place : ℕ) (batch : Batch)
     → slice_get batches number ≡ Some batch
-    → length (joined (take number batches) place) + length (list_at batch place) ≤ length (joined batches place)
+    → length (joined (take number batches) place) + length (list_at batch.lists place) ≤ length (joined batches place)
 joined-next batches number place batch at =
     let whole : length (joined (take (number + 1) batches) place)
-    ≡ length (joined (take number batches) place) + length (list_at batch place) =
-    ap length (flat_map-taken (λ batch. list_at batch place) batches number batch at)
-    ∙ length-append (joined (take number batches) place) (list_at batch place) in
+    ≡ length (joined (take number batches) place) + length (list_at batch.lists place) =
+    ap length (flat_map-taken (λ (batch : Batch). list_at batch.lists place) batches number batch at)
+    ∙ length-append (joined (take number batches) place) (list_at batch.lists place) in
     omega (arith, whole, joined-taken (number + 1) batches place)

@@ -15,6 +15,7 @@ use Rattle.hy_commands.specs.declared.command.Commit.{Commit}
 use Rattle.hy_commands.specs.declared.command.Commit.TheVariants as commits
 use Rattle.hy_commands.specs.declared.reply.Reply.{Reply}
 use Rattle.hy_commands.specs.declared.reply.Reply.TheVariants as replies
+use Rattle.hy_commands.specs.declared.edition.Edition.{Edition}
 use Rattle.hy_commands.specs.Commands.{is_in_range, is_reader, kept_of, warehouses_of}
 use Rattle.hy_commands.specs.Customers.{identity_of}
 use Rattle.hy_commands.specs.Parts.{customer_home_of, database_of, is_there, refusal_in, rows_of}
@@ -23,7 +24,7 @@ use Rattle.hy_commands.proofs.AcceptedLaws.{IsAcceptedIn, accepted-in}
 use Rattle.hy_commands.proofs.DatabaseLaws.{rows-load, there-load}
 use Rattle.hy_commands.proofs.SameCustomers.{has_customer-same, same-customers}
 use Rattle.hy_database.proofs.PartLaws.{named-customer_home}
-use Rattle.hy_batches.specs.Grammar.{command_fits, is_allowed, is_commit, names, names_several}
+use Rattle.hy_batches.specs.Grammar.{command_fits, is_allowed, names, names_several}
 use Rattle.hy_partition.specs.Jobs.{DoneState, JobState, Log, RunningJob, accepted_answer, begun, entered_by, refused_answer, told}
 use Rattle.hy_partition.specs.Partition.{PartitionState, outcome_now, refusal_now, rows_now, terms_of}
 use Rattle.hy_partition.specs.Steps.{Accepts, Ends, IsUnbegun, Refuses, begin_refusal, is_busy, is_full, with_job}
@@ -56,19 +57,20 @@ reads-not (commands.Delivery delivery) fits = refl
 reads-not (commands.OrderStatus status) fits = absurd (false≢true fits)
 reads-not (commands.StockLevel level) fits = absurd (false≢true fits)
 
-pub kept-one : (command : Command) → is_reader command ≡ false → kept_of command ≡ commits.Local command ∷ []
-kept-one command writes = ap (λ b. cond b [] (commits.Local command ∷ [])) writes
+pub kept-one : (edition : Edition) (command : Command) → is_reader command ≡ false
+    → kept_of edition command ≡ commits.Local edition command ∷ []
+kept-one edition command writes = ap (λ b. cond b [] (commits.Local edition command ∷ [])) writes
 
 not-false : (b : Bool) → not b ≡ true → b ≡ false
 not-false true is = absurd (cc)
 not-false false is = refl
 
-module _ (command : Command) (p : PartitionState) (can : CanRunLocal command p) where
+module _ (edition : Edition) (command : Command) (p : PartitionState) (can : CanRunLocal edition command p) where
   abbrev w : ℕ
   w = p.warehouse
 
-  both : (is_allowed w (commits.Local command) ≡ true) × (command_fits command ≡ true)
-  both = and_parts (is_allowed w (commits.Local command)) (command_fits command) can.allowed
+  both : (is_allowed w (commits.Local edition command) ≡ true) × (command_fits command ≡ true)
+  both = and_parts (is_allowed w (commits.Local edition command)) (command_fits command) can.allowed
 
   several : ((is_in_range command && names command w) ≡ true) × (not (names_several command) ≡ true)
   several = and_parts (is_in_range command && names command w) (not (names_several command)) both.0
@@ -130,20 +132,20 @@ module _ (command : Command) (p : PartitionState) (can : CanRunLocal command p) 
 
 -- ---- replies
 
-pub accepted-reply : (items : List Item) (warehouse : ℕ) (command : Command) (tables : Tables) (why : Refusal)
-    → (accepted items warehouse command tables).reply ≡ replies.Refused why → ⊥
-accepted-reply items warehouse (commands.NewOrder order) tables why is = absurd (cc)
-accepted-reply items warehouse (commands.Payment payment) tables why is = absurd (cc)
-accepted-reply items warehouse (commands.OrderStatus status) tables why is = absurd (cc)
-accepted-reply items warehouse (commands.Delivery delivery) tables why is = absurd (cc)
-accepted-reply items warehouse (commands.StockLevel level) tables why is = absurd (cc)
+pub accepted-reply : (items : List Item) (warehouse : ℕ) (edition : Edition) (command : Command) (tables : Tables) (why : Refusal)
+    → (accepted items warehouse edition command tables).reply ≡ replies.Refused why → ⊥
+accepted-reply items warehouse edition (commands.NewOrder order) tables why is = absurd (cc)
+accepted-reply items warehouse edition (commands.Payment payment) tables why is = absurd (cc)
+accepted-reply items warehouse edition (commands.OrderStatus status) tables why is = absurd (cc)
+accepted-reply items warehouse edition (commands.Delivery delivery) tables why is = absurd (cc)
+accepted-reply items warehouse edition (commands.StockLevel level) tables why is = absurd (cc)
 
 -- ---- how it ends
 
-module _ (command : Command) (pass : PassState Commit) (p ended new : PartitionState) (before after : Log)
-    (can : CanRunLocal command p) where
+module _ (edition : Edition) (command : Command) (pass : PassState Commit) (p ended new : PartitionState) (before after : Log)
+    (can : CanRunLocal edition command p) where
   abbrev job : JobState
-  job = record { command = command; pass = pass }
+  job = record { edition = edition; command = command; pass = pass }
 
   abbrev started : PartitionState
   started = with_job p job
@@ -174,15 +176,15 @@ module _ (command : Command) (pass : PassState Commit) (p ended new : PartitionS
       pub lacked : (why : Refusal) → done.reply ≡ replies.Refused why → IsShortage why
       lacked why refused = elim how [
         | inl accepts ↦
-            let none = unrefused command p can in
+            let none = unrefused edition command p can in
             let answer = answer-is _ accepts.does.ends.finished in
-            let reply : (outcome_now started command).reply ≡ replies.Refused why =
+            let reply : (outcome_now started edition command).reply ≡ replies.Refused why =
             sym (ap (λ (d : DoneState). d.reply) answer) ∙ refused in
-            absurd (accepted-reply p.load.items p.warehouse command (rows_now p) why
-            (sym (ap (λ r. (outcome_of r p.load.items p.warehouse command (rows_now p)).reply) none) ∙ reply))
+            absurd (accepted-reply p.load.items p.warehouse edition command (rows_now p) why
+            (sym (ap (λ r. (outcome_of r p.load.items p.warehouse edition command (rows_now p)).reply) none) ∙ reply))
         | inr refuses ↦ elim refuses.refused.reason [
           | inl item ↦
-              let some : None ≡ Some refusals.NoSuchItem = sym (unrefused command p can) ∙ item.1 in
+              let some : None ≡ Some refusals.NoSuchItem = sym (unrefused edition command p can) ∙ item.1 in
               absurd (cc)
           | inr other ↦ elim other [
             | inl frame ↦
@@ -215,14 +217,14 @@ module _ (command : Command) (pass : PassState Commit) (p ended new : PartitionS
           ]
         ]
 
-        pub keeps-one : KeepsOne (commits.Local command) p new
+        pub keeps-one : KeepsOne (commits.Local edition command) p new
         keeps-one =
             let does = accepts.does in
             record {
               terms = ap terms_of taken ∙ does.ends.rest.terms;
               kept =
                   ap (λ (p : PartitionState). p.kept) taken ∙ does.kept
-                  ∙ ap (λ rows. p.kept ++ rows) (kept-one command (writes command p can));
+                  ∙ ap (λ rows. p.kept ++ rows) (kept-one edition command (writes edition command p can));
               drained = ap (λ (p : PartitionState). p.drained) taken ∙ does.ends.rest.drained;
               rest = record {
                 running = ap (λ (p : PartitionState). p.running) taken ∙ does.ends.running;
@@ -233,14 +235,14 @@ module _ (command : Command) (pass : PassState Commit) (p ended new : PartitionS
               snapshots = ap (λ (p : PartitionState). p.snapshots) taken ∙ does.ends.rest.snapshots;
             }
 
-        pub enters-one : Enters (commits.Local command) before after
+        pub enters-one : Enters (commits.Local edition command) before after
         enters-one =
             let first : before ≡ accepts.log = some-same accepts.before_is in
-            let last : after ≡ accepts.log ++ entered_by command pass = some-same accepts.after_is in (
+            let last : after ≡ accepts.log ++ entered_by edition command pass = some-same accepts.after_is in (
               length pass.seen,
-              last ∙ ap (λ log. log ++ entered_by command pass) (sym first)
+              last ∙ ap (λ log. log ++ entered_by edition command pass) (sym first)
                   ∙ ap (λ rows. before ++ map (λ commit. record { commit = commit; stamp = length pass.seen }) rows)
-                  (kept-one command (writes command p can)),
+                  (kept-one edition command (writes edition command p can)),
             )
           where
             some-same : {one other : Log} → Some one ≡ Some other → one ≡ other

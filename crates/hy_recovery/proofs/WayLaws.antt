@@ -10,9 +10,10 @@ use Rattle.hy_passes.specs.declared.entry.Entry.{Entry}
 use Rattle.hy_commands.specs.declared.command.Command.{Command}
 use Rattle.hy_commands.specs.declared.command.Commit.{Commit}
 use Rattle.hy_commands.specs.declared.command.Commit.TheVariants as commits
+use Rattle.hy_commands.specs.declared.edition.Edition.{Edition}
 use Rattle.hy_commands.specs.Commands.{is_in_range, number_of, warehouses_of}
 use Rattle.hy_commands.specs.Parts.{is_by_number}
-use Rattle.hy_batches.specs.Grammar.{command_fits, commit_fits, is_allowed, is_commit, names, names_several}
+use Rattle.hy_batches.specs.Grammar.{command_fits, commit_fits, is_allowed, names, names_several}
 use Rattle.hy_partition.specs.Jobs.{Log}
 use Rattle.hy_partition.specs.Partition.{PartitionState, commits_of, terms_of}
 use Rattle.hy_crossing.specs.Crossings.{ArePartitions, HaveNoPart}
@@ -23,7 +24,7 @@ use Rattle.hy_sound.specs.Merges.{FindsCrossing, FindsNone, LacksCrossing, Merge
 use Rattle.hy_sound.specs.inside.Steps.{IsAtCrossing, IsSoundFrom}
 use Rattle.hy_sound.proofs.ListLaws.{next-first}
 use Rattle.hy_sound.proofs.SoundLaws.{known-crossing, leads-crossing, next-named, none-left, sound-local, unsound-lacking}
-use Rattle.hy_recovery.specs.inside.Ways.{Aim, AreOnWay, AreThere, CanRunCrossing, CanRunLocal, Enters, IsAtRest, IsBound, KeepsOne, KeepsSeen, KeepsWhereNamed, crossings_in}
+use Rattle.hy_recovery.specs.inside.Ways.{Aim, AreOnWay, AreThere, CanRunCrossing, CanRunLocal, Enters, IsAtRest, IsBound, KeepsOne, KeepsSeen, KeepsWhereNamed, crossings_in, may_stand}
 use Rattle.hy_recovery.proofs.PlaceLaws.{at-place, each-from, each-set, get-some, get-there, get-within, length-set, pairs-each}
 
 -- ---- numbers
@@ -34,16 +35,16 @@ crossings-more log entry =
     ap length (filter_map-append (λ (e : Entry Commit). number_of e.commit) log (entry ∷ []))
     ∙ length-append (filter_map (λ (e : Entry Commit). number_of e.commit) log) _
 
-pub crossings-local : (command : Command) (before after : Log) → Enters (commits.Local command) before after
+pub crossings-local : (edition : Edition) (command : Command) (before after : Log) → Enters (commits.Local edition command) before after
     → crossings_in after ≡ crossings_in before
-crossings-local command before after enters =
-    let entry : Entry Commit = record { commit = commits.Local command; stamp = enters.0 } in
+crossings-local edition command before after enters =
+    let entry : Entry Commit = record { commit = commits.Local edition command; stamp = enters.0 } in
     ap crossings_in enters.1 ∙ crossings-more before entry ∙ omega arith
 
-pub crossings-next : (number : ℕ) (command : Command) (before after : Log)
-    → Enters (commits.Cross number command) before after → crossings_in after ≡ suc (crossings_in before)
-crossings-next number command before after enters =
-    let entry : Entry Commit = record { commit = commits.Cross number command; stamp = enters.0 } in
+pub crossings-next : (edition : Edition) (number : ℕ) (command : Command) (before after : Log)
+    → Enters (commits.Cross edition number command) before after → crossings_in after ≡ suc (crossings_in before)
+crossings-next edition number command before after enters =
+    let entry : Entry Commit = record { commit = commits.Cross edition number command; stamp = enters.0 } in
     ap crossings_in enters.1 ∙ crossings-more before entry ∙ omega arith
 
 -- ---- what is known of partitions on their way
@@ -79,17 +80,17 @@ module _ (lists : Lists) (aim : Aim) (merge : MergeState) (log : Log) (parts : L
       omega (arith, whole, some, few, ap (λ t. t.max_kept) bound.terms)
 
   allowed-next : (place : ℕ) (commit : Commit) → place < count_of merge → next_of (left_of merge place) ≡ Some commit
-      → is_commit (suc place) commit ≡ true
+      → may_stand (suc place) commit ≡ true
   allowed-next place commit within next =
-      (and_parts (is_commit (suc place) commit) (list_all (is_commit (suc place)) (drop 1 (left_of merge place)))
-      (sym (ap (list_all (is_commit (suc place))) (next-first (left_of merge place) commit next))
+      (and_parts (may_stand (suc place) commit) (list_all (may_stand (suc place)) (drop 1 (left_of merge place)))
+      (sym (ap (list_all (may_stand (suc place))) (next-first (left_of merge place) commit next))
       ∙ way.allowed place within)).0
 
   -- ---- a commit of one warehouse is next
 
-  module _ (place : ℕ) (command : Command) (p : PartitionState) (within : place < count_of merge)
+  module _ (place : ℕ) (edition : Edition) (command : Command) (p : PartitionState) (within : place < count_of merge)
       (here : p ≡ slice_index_or parts place p)
-      (next : next_of (left_of merge place) ≡ Some (commits.Local command)) where
+      (next : next_of (left_of merge place) ≡ Some (commits.Local edition command)) where
     inside : place < length parts
     inside = omega (arith, within, way.lists_are)
 
@@ -99,24 +100,24 @@ module _ (lists : Lists) (aim : Aim) (merge : MergeState) (log : Log) (parts : L
     bound : IsBound lists aim (left_of merge place) place p
     bound = at-place (IsBound lists aim (left_of merge place) place) parts place p at (way.each place)
 
-    first : left_of merge place ≡ commits.Local command ∷ drop 1 (left_of merge place)
-    first = next-first (left_of merge place) (commits.Local command) next
+    first : left_of merge place ≡ commits.Local edition command ∷ drop 1 (left_of merge place)
+    first = next-first (left_of merge place) (commits.Local edition command) next
 
-    pub can-local : CanRunLocal command p
+    pub can-local : CanRunLocal edition command p
     can-local = record {
       rest = bound.rest;
       allowed =
-          ap (λ t. is_commit t.warehouse (commits.Local command)) bound.terms
-          ∙ allowed-next place (commits.Local command) within next;
+          ap (λ t. may_stand t.warehouse (commits.Local edition command)) bound.terms
+          ∙ allowed-next place (commits.Local edition command) within next;
       known =
           ap (λ t. is_known t.load command) bound.terms
           ∙ (and_parts (is_known lists command) (are_replayable lists (drop 1 (left_of merge place)))
           (sym (ap (are_replayable lists) first) ∙ way.sound.replayable place within)).0;
-      few = room place p (commits.Local command) at next;
+      few = room place p (commits.Local edition command) at next;
     }
 
     module _ (after : MergeState) (new : PartitionState) (later : Log)
-        (keeps : KeepsOne (commits.Local command) p new) (enters : Enters (commits.Local command) log later)
+        (keeps : KeepsOne (commits.Local edition command) p new) (enters : Enters (commits.Local edition command) log later)
         (count : count_of after ≡ count_of merge) (left : left_of after place ≡ drop 1 (left_of merge place))
         (others : (other : ℕ) → other ≢ place → left_of after other ≡ left_of merge other) where
       bound-new : IsBound lists aim (left_of after place) place new
@@ -124,8 +125,8 @@ module _ (lists : Lists) (aim : Aim) (merge : MergeState) (log : Log) (parts : L
         terms = keeps.terms ∙ bound.terms;
         kept =
             ap (λ rows. rows ++ left_of after place) keeps.kept
-            ∙ append_assoc p.kept (commits.Local command ∷ []) (left_of after place)
-            ∙ ap (λ rows. p.kept ++ commits.Local command ∷ rows) left
+            ∙ append_assoc p.kept (commits.Local edition command ∷ []) (left_of after place)
+            ∙ ap (λ rows. p.kept ++ commits.Local edition command ∷ rows) left
             ∙ ap (λ rows. p.kept ++ rows) (sym first) ∙ bound.kept;
         drained = keeps.drained ∙ bound.drained;
         rest = keeps.rest;
@@ -134,16 +135,16 @@ module _ (lists : Lists) (aim : Aim) (merge : MergeState) (log : Log) (parts : L
       }
 
       allowed-left : (k : ℕ) → k < count_of after → (same : Bool) → (k == place) ≡ same
-          → list_all (is_commit (suc k)) (left_of after k) ≡ true
+          → list_all (may_stand (suc k)) (left_of after k) ≡ true
       allowed-left k inside true is =
           let same : k ≡ place = eqb-true k place is in
-          subst (λ k. list_all (is_commit (suc k)) (left_of after k) ≡ true) (sym same)
-          (ap (list_all (is_commit (suc place))) left
-          ∙ (and_parts (is_commit (suc place) (commits.Local command))
-          (list_all (is_commit (suc place)) (drop 1 (left_of merge place)))
-          (sym (ap (list_all (is_commit (suc place))) first) ∙ way.allowed place within)).1)
+          subst (λ k. list_all (may_stand (suc k)) (left_of after k) ≡ true) (sym same)
+          (ap (list_all (may_stand (suc place))) left
+          ∙ (and_parts (may_stand (suc place) (commits.Local edition command))
+          (list_all (may_stand (suc place)) (drop 1 (left_of merge place)))
+          (sym (ap (list_all (may_stand (suc place))) first) ∙ way.allowed place within)).1)
       allowed-left k inside false is =
-          ap (list_all (is_commit (suc k))) (others k (eqb-false k place is))
+          ap (list_all (may_stand (suc k))) (others k (eqb-false k place is))
           ∙ way.allowed k (omega (arith, inside, count))
 
       pub way-local : AreOnWay lists aim after later (slice_set parts place new)
@@ -156,26 +157,27 @@ module _ (lists : Lists) (aim : Aim) (merge : MergeState) (log : Log) (parts : L
         few = λ k inside. way.few k (omega (arith, inside, length-set parts place new));
         allowed = λ k inside. allowed-left k inside (k == place) refl;
         sound =
-            subst (λ n. IsSoundFrom lists n aim.last after) (sym (crossings-local command log later enters))
-            (sound-local lists (crossings_in log) aim.last merge after place command count next left others way.sound);
+            subst (λ n. IsSoundFrom lists n aim.last after) (sym (crossings-local edition command log later enters))
+            (sound-local lists (crossings_in log) aim.last merge after place edition command count next left others way.sound);
       }
 
   -- ---- a commit of several warehouses is next
 
-  module _ (number : ℕ) (command : Command) (finds : FindsCrossing merge (crossings_in log) number command)
+  module _ (edition : Edition) (number : ℕ) (command : Command)
+      (finds : FindsCrossing merge (crossings_in log) edition number command)
       (stops : (place : ℕ) → place < count_of merge → IsAtCrossing (left_of merge place)) where
     next-here : (place : ℕ) → place < count_of merge → names command (suc place) ≡ true
-        → next_of (left_of merge place) ≡ Some (commits.Cross number command)
+        → next_of (left_of merge place) ≡ Some (commits.Cross edition number command)
     next-here place within named =
-        next-named lists (crossings_in log) number command merge finds aim.last way.sound place within (stops place within)
+        next-named lists (crossings_in log) edition number command merge finds aim.last way.sound place within (stops place within)
         named
 
-    fits : is_commit (suc finds.1.0) (commits.Cross number command) ≡ true
-    fits = allowed-next finds.1.0 (commits.Cross number command) finds.1.1.within finds.1.1.next
+    fits : may_stand (suc finds.1.0) (commits.Cross edition number command) ≡ true
+    fits = allowed-next finds.1.0 (commits.Cross edition number command) finds.1.1.within finds.1.1.next
 
-    allowed : is_allowed (suc finds.1.0) (commits.Cross number command) ≡ true
-    allowed = (and_parts (is_allowed (suc finds.1.0) (commits.Cross number command))
-        (commit_fits (commits.Cross number command)) fits).0
+    allowed : is_allowed (suc finds.1.0) (commits.Cross edition number command) ≡ true
+    allowed = (and_parts (is_allowed (suc finds.1.0) (commits.Cross edition number command))
+        (commit_fits (commits.Cross edition number command)) fits).0
 
     numbered : ((is_in_range command && names command (suc finds.1.0) && names_several command && nat_le 1 number) ≡ true)
         × (is_by_number command ≡ true)
@@ -193,28 +195,28 @@ module _ (lists : Lists) (aim : Aim) (merge : MergeState) (log : Log) (parts : L
     can-crossing = record {
       several = several;
       by_number = numbered.1;
-      known = known-crossing lists (crossings_in log) number command merge finds aim.last way.sound;
+      known = known-crossing lists (crossings_in log) edition number command merge finds aim.last way.sound;
       next = finds.0;
       rest = way-rest;
       few = λ place. each-from _ (slice_get parts place) (λ p at named.
-          room place p (commits.Cross number command) at
+          room place p (commits.Cross edition number command) at
           (next-here place (omega (arith, get-within parts place p at, way.lists_are)) named));
     }
 
     -- no list goes on otherwise
-    pub not-lacking : LacksCrossing number command merge → ⊥
+    pub not-lacking : LacksCrossing edition number command merge → ⊥
     not-lacking lacks =
-        unsound-lacking lists (crossings_in log) number command merge finds stops lacks aim.last way.sound
+        unsound-lacking lists (crossings_in log) edition number command merge finds stops lacks aim.last way.sound
 
     module _ (after : MergeState) (news : List PartitionState) (later : Log)
-        (passes : PassesCrossing number command merge after)
-        (keeps : Pairwise (KeepsWhereNamed command (commits.Cross number command)) 1 parts news)
-        (enters : Enters (commits.Cross number command) log later) where
+        (passes : PassesCrossing edition number command merge after)
+        (keeps : Pairwise (KeepsWhereNamed command (commits.Cross edition number command)) 1 parts news)
+        (enters : Enters (commits.Cross edition number command) log later) where
       same-count : length news ≡ length parts
-      same-count = pairs-count (KeepsWhereNamed command (commits.Cross number command)) 1 parts news keeps
+      same-count = pairs-count (KeepsWhereNamed command (commits.Cross edition number command)) 1 parts news keeps
 
       bound-after : (place : ℕ) (old new : PartitionState)
-          → KeepsWhereNamed command (commits.Cross number command) (suc place) old new → place < count_of merge
+          → KeepsWhereNamed command (commits.Cross edition number command) (suc place) old new → place < count_of merge
           → IsBound lists aim (left_of merge place) place old → IsBound lists aim (left_of after place) place new
       bound-after place old new keeps within was = elim keeps [
         | inl named ↦
@@ -223,7 +225,7 @@ module _ (lists : Lists) (aim : Aim) (merge : MergeState) (log : Log) (parts : L
               terms = k.terms ∙ was.terms;
               kept =
                   ap (λ rows. rows ++ left_of after place) k.kept
-                  ∙ append_assoc old.kept (commits.Cross number command ∷ []) (left_of after place)
+                  ∙ append_assoc old.kept (commits.Cross edition number command ∷ []) (left_of after place)
                   ∙ ap (λ rows. old.kept ++ rows) (sym (passes.named place within named.0)) ∙ was.kept;
               drained = k.drained ∙ was.drained;
               rest = k.rest;
@@ -245,18 +247,18 @@ module _ (lists : Lists) (aim : Aim) (merge : MergeState) (log : Log) (parts : L
       ]
 
       allowed-after : (k : ℕ) → k < count_of merge → (b : Bool) → names command (suc k) ≡ b
-          → list_all (is_commit (suc k)) (left_of after k) ≡ true
+          → list_all (may_stand (suc k)) (left_of after k) ≡ true
       allowed-after k within true named =
-          (and_parts (is_commit (suc k) (commits.Cross number command)) (list_all (is_commit (suc k)) (left_of after k))
-          (sym (ap (list_all (is_commit (suc k))) (passes.named k within named)) ∙ way.allowed k within)).1
+          (and_parts (may_stand (suc k) (commits.Cross edition number command)) (list_all (may_stand (suc k)) (left_of after k))
+          (sym (ap (list_all (may_stand (suc k))) (passes.named k within named)) ∙ way.allowed k within)).1
       allowed-after k within false other =
-          ap (list_all (is_commit (suc k))) (passes.others k within other) ∙ way.allowed k within
+          ap (list_all (may_stand (suc k))) (passes.others k within other) ∙ way.allowed k within
 
       pub way-crossing : AreOnWay lists aim after later news
       way-crossing = record {
         count = same-count ∙ way.count;
         lists_are = passes.count ∙ way.lists_are ∙ sym same-count;
-        each = pairs-each (KeepsWhereNamed command (commits.Cross number command))
+        each = pairs-each (KeepsWhereNamed command (commits.Cross edition number command))
             (λ k p. IsBound lists aim (left_of merge k) k p) (λ k p. IsBound lists aim (left_of after k) k p) parts news
             (λ place old new keeps at there was.
             bound-after place old new keeps (omega (arith, get-within parts place old at, way.lists_are)) was)
@@ -264,10 +266,10 @@ module _ (lists : Lists) (aim : Aim) (merge : MergeState) (log : Log) (parts : L
         few = λ k inside. way.few k (omega (arith, inside, same-count));
         allowed = λ k within. allowed-after k (omega (arith, within, passes.count)) (names command (suc k)) refl;
         sound =
-            let next : number ≡ crossings_in later = finds.0 ∙ sym (crossings-next number command log later enters) in
+            let next : number ≡ crossings_in later = finds.0 ∙ sym (crossings-next edition number command log later enters) in
             subst (λ n. IsSoundFrom lists n aim.last after) next
-            ((leads-crossing lists (crossings_in log) number command merge finds
-            (known-crossing lists (crossings_in log) number command merge finds aim.last way.sound) after passes).forth
+            ((leads-crossing lists (crossings_in log) edition number command merge finds
+            (known-crossing lists (crossings_in log) edition number command merge finds aim.last way.sound) after passes).forth
             aim.last way.sound);
       }
 
@@ -296,7 +298,7 @@ module _ (lists : Lists) (aim : Aim) (merge : MergeState) (log : Log) (parts : L
         subst (λ rows. IsBound lists aim rows place p) (sym (left place))
         (at-place (IsBound lists aim (left_of merge place) place) parts place p at (way.each place)));
     few = way.few;
-    allowed = λ k within. ap (list_all (is_commit (suc k))) (left k) ∙ way.allowed k (omega (arith, within, count));
+    allowed = λ k within. ap (list_all (may_stand (suc k))) (left k) ∙ way.allowed k (omega (arith, within, count));
     sound = record {
       in_step = record {
         crossings = way.sound.in_step.crossings;

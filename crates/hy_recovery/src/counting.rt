@@ -11,7 +11,7 @@ use hy_schema::Warehouse;
 
 /// How many commits the list at a place has; none where there is no such list.
 fn count_at(batch: &Batch, place: usize) -> usize
-    ensures { result ≡ length (list_at batch.now place) }
+    ensures { result ≡ length (list_at batch.now.lists place) }
 {
     if place >= batch.len() {
         return 0;

@@ -36,11 +36,11 @@ fn mark_all<const N: usize, K: Loaded>(parts: &mut Vec<Partition<N, K>>)
     }
 }
 
-/// The partitions of all warehouses of a load once the batches of a log were run again, with the journal and the pass of
-/// the client who runs them. Each has kept its lists of all batches, one behind another, as drained. Refused by the first
-/// of these: `LogMalformed` at the first batch that doesn't fit the load or those before it, as `check_log` says; E3
-/// where a warehouse would keep more than `max_kept` commits; E2; E1, which may come instead of each. Takes time in
-/// proportion to the commits, beside what `check_log` and `partitions_of` take.
+/// The partitions of all warehouses of a load once the batches of a log were run again, each by its edition, with the
+/// journal and the pass of the client who runs them. Each partition has kept its lists of all batches, one behind another,
+/// as drained. Refused by the first of these: `LogMalformed` at the first batch that doesn't fit the load or those before
+/// it, as `check_log` says; E3 where a warehouse would keep more than `max_kept` commits; E2; E1, which may come instead
+/// of each. Takes time in proportion to the commits, beside what `check_log` and `partitions_of` take.
 pub fn recover<const N: usize, K: Loaded>(
     alloc: Global,
     load: &Load,

@@ -14,7 +14,8 @@ use hy_schema::Refusal;
 use hy_sound::Merge;
 use std::alloc::Global;
 
-/// Runs the commits of one warehouse in the list at a place, up to the next one of several. E2 or E1.
+/// Runs the commits of one warehouse in the list at a place, each by its edition, up to the next one of several. E2 or
+/// E1.
 fn run_locals<const N: usize, K: Loaded>(
     parts: &mut Vec<Partition<N, K>>,
     journal: &mut Journal<Commit, K>,
@@ -33,8 +34,8 @@ fn run_locals<const N: usize, K: Loaded>(
     ensures client { IfOk result (λ after. after.client ≡ pass.client) }
     ensures refused { IfErr result IsShortage }
 {
-    'commits: while let Some(Commit::Local(command)) = merge.next(place) {
-        pass = run_local(&mut parts[place], journal, command.copy()?, pass)?;
+    'commits: while let Some(Commit::Local(edition, command)) = merge.next(place) {
+        pass = run_local(&mut parts[place], journal, *edition, command.copy()?, pass)?;
         merge.pass(place);
     }
     Ok(pass)
@@ -81,11 +82,11 @@ pub(crate) fn run_batch<const N: usize, K: Loaded>(
     'crossings: loop {
         pass = run_all_locals(parts, journal, &mut merge, pass)?;
         let last = journal.list.next_crossing() - 1;
-        let Some((number, command)) = merge.find_crossing(last) else {
+        let Some((edition, number, command)) = merge.find_crossing(last) else {
             return Ok(pass);
         };
-        pass = run_crossing(parts, journal, number, command.copy()?, pass)?;
-        if !merge.pass_crossing(number, command) {
+        pass = run_crossing(parts, journal, edition, number, command.copy()?, pass)?;
+        if !merge.pass_crossing(edition, number, command) {
             unreachable!();
         }
     }

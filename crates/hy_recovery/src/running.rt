@@ -9,7 +9,7 @@ ghost use Rattle.hy_crossing.specs.Crossings.{ArePartitions, HaveNoPart};
 ghost use Rattle.hy_crossing.specs.Lists.{Pairwise};
 ghost use Rattle.hy_recovery.specs.inside.Ways.{CanRunCrossing, CanRunLocal, Enters, IsShortage, KeepsOne, KeepsWhereNamed};
 
-use hy_commands::{Command, Commit, Reply};
+use hy_commands::{Command, Commit, Edition, Reply};
 use hy_crossing::cross;
 use hy_partition::{Done, Job, Loaded, Partition};
 use hy_passes::{Journal, Pass};
@@ -28,21 +28,22 @@ fn pass_of<K: Loaded>(done: Done<K>) -> Result<Pass<Commit, K>, Refusal>
     }
 }
 
-/// Runs a command of one warehouse, which keeps it. E2 or E1.
+/// Runs a command of one warehouse by an edition, and the warehouse keeps it. E2 or E1.
 pub(crate) fn run_local<const N: usize, K: Loaded>(
     part: &mut Partition<N, K>,
     journal: &mut Journal<Commit, K>,
+    edition: Edition,
     command: Command,
     pass: Pass<Commit, K>,
 ) -> Result<Pass<Commit, K>, Refusal>
-    requires can { CanRunLocal command part.old }
+    requires can { CanRunLocal edition command part.old }
     requires begins { begin_refusal part.old command ≡ None }
-    ensures kept { OnOk result (KeepsOne (commits.Local command) part.old part.new) }
-    ensures log { OnOk result (Enters (commits.Local command) journal.old.list.log journal.new.list.log) }
+    ensures kept { OnOk result (KeepsOne (commits.Local edition command) part.old part.new) }
+    ensures log { OnOk result (Enters (commits.Local edition command) journal.old.list.log journal.new.list.log) }
     ensures client { IfOk result (λ after. after.client ≡ pass.client) }
     ensures refused { IfErr result IsShortage }
 {
-    if let Err((_job, refusal)) = part.begin(Job::new(command, pass)) {
+    if let Err((_job, refusal)) = part.begin(Job::of_edition(edition, command, pass)) {
         return Err(refusal);
     }
     part.finish_running(journal);
@@ -52,10 +53,11 @@ pub(crate) fn run_local<const N: usize, K: Loaded>(
     pass_of(done)
 }
 
-/// Runs a command of several warehouses, which keep it under the next number. E2 or E1.
+/// Runs a command of several warehouses by an edition, and they keep it under the next number. E2 or E1.
 pub(crate) fn run_crossing<const N: usize, K: Loaded>(
     parts: &mut Vec<Partition<N, K>>,
     journal: &mut Journal<Commit, K>,
+    edition: Edition,
     number: u64,
     command: Command,
     pass: Pass<Commit, K>,
@@ -64,11 +66,11 @@ pub(crate) fn run_crossing<const N: usize, K: Loaded>(
     requires whole { HaveNoPart parts.old.items }
     requires can { CanRunCrossing K.load number command journal.old.list.log parts.old.items }
     ensures kept { OnOk result
-        (Pairwise (KeepsWhereNamed command (commits.Cross number command)) 1 parts.old.items parts.new.items) }
-    ensures log { OnOk result (Enters (commits.Cross number command) journal.old.list.log journal.new.list.log) }
+        (Pairwise (KeepsWhereNamed command (commits.Cross edition number command)) 1 parts.old.items parts.new.items) }
+    ensures log { OnOk result (Enters (commits.Cross edition number command) journal.old.list.log journal.new.list.log) }
     ensures client { IfOk result (λ after. after.client ≡ pass.client) }
     ensures refused { IfErr result IsShortage }
 {
-    let done = cross(parts, journal, Job::new(command, pass));
+    let done = cross(parts, journal, Job::of_edition(edition, command, pass));
     pass_of(done)
 }

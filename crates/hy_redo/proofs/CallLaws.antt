@@ -1,42 +1,41 @@
 -- Runs of calls.
-use Rattle.std.proofs.Common.{◌≡◌, ℕ, suc, ◌+◌, ◌<◌, ◌≤◌, ◌⊎◌, Bool, true, false, List, [], ◌∷◌, ◌++◌, length, map, take, Result, Ok, Err, refl, sym, ap, subst, ◌∙◌, append_assoc, arith, inl, inr, length-append}
+use Rattle.std.proofs.Common.{◌≡◌, ℕ, suc, ◌+◌, ◌<◌, ◌≤◌, Bool, true, false, List, [], ◌∷◌, ◌++◌, length, take, Result, Ok, Err, refl, sym, ap, subst, ◌∙◌, append_assoc, arith, inl, inr, length-append}
 use Rattle.std.specs.Prelude.{IsTrue}
-use Rattle.std.specs.List.{list_all}
 use Rattle.std.proofs.lemmas.Bool.{cases_lt, false≢true}
 use Rattle.std.proofs.lemmas.List.{append-nil, take-append-le, take_all, take_at}
 use Rattle.std.proofs.lemmas.List.Concat.{flat_map-append}
 use Rattle.hy_schema.specs.declared.refusal.Refusal.{Refusal}
 use Rattle.hy_schema.specs.declared.refusal.Refusal.TheVariants as refusals
-use Rattle.hy_commands.specs.declared.command.Commit.{Commit}
+use Rattle.hy_batches.specs.Batches.{Batch}
 use Rattle.hy_batches.specs.Encoding.{batch_bytes, log_bytes}
-use Rattle.hy_batches.specs.Grammar.{is_batch}
+use Rattle.hy_batches.specs.Grammar.{are_batches}
 use Rattle.hy_batches.proofs.LogLaws.{cut_log, log_is_read}
 use Rattle.hy_batches.specs.Logs.{IsLog}
-use Rattle.hy_redo.specs.Writers.{IsFront, Told, failed_behind, with_more, with_sync}
-use Rattle.hy_redo.specs.Calls.{Answers, AnswersBy, AreCalls, Call, IsCutShort, LogState, acknowledged, handed, log_behind, once}
-use Rattle.hy_redo.specs.Disk.{BeginsBehind, HaveCauses, LeaveBatches, MayLeave, ReadsFirst}
+use Rattle.hy_redo.specs.Writers.{IsFront, with_more, with_sync}
+use Rattle.hy_redo.specs.Calls.{Answers, AnswersBy, AreCalls, Call, LogState, acknowledged, handed, log_behind, once}
+use Rattle.hy_redo.specs.Disk.{BeginsBehind, HaveCauses, LeaveBatches, ReadsFirst}
 
 -- ---- why a call is refused
 
 abbrev Known : ℕ → LogState → Type 0
 Known base log = (base ≤ log.told.failures) × (log.has_failed ≡ true → base < log.told.failures)
 
-keeps_by : (failed : Bool) (base : ℕ) (old new : LogState) (lists : List (List Commit)) (answer : Result (Unit {0}) Refusal)
-    → AnswersBy failed old new lists answer → Known base old → Known base new
-keeps_by true base old new lists (Ok done) by known = absurd by
-keeps_by true base old new lists (Err refusal) by known = subst (Known base) (sym by.1) known
-keeps_by false base old new lists (Ok done) by known =
+keeps_by : (failed : Bool) (base : ℕ) (old new : LogState) (batch : Batch) (answer : Result (Unit {0}) Refusal)
+    → AnswersBy failed old new batch answer → Known base old → Known base new
+keeps_by true base old new batch (Ok done) by known = absurd by
+keeps_by true base old new batch (Err refusal) by known = subst (Known base) (sym by.1) known
+keeps_by false base old new batch (Ok done) by known =
     subst (Known base) (sym by) (known.0, λ failed. absurd (false≢true failed))
-keeps_by false base old new lists (Err refusal) by known =
+keeps_by false base old new batch (Err refusal) by known =
     let known_at = known.0 in
     subst (Known base) (sym by.changed) (omega arith, λ failed. omega arith)
 
-cause_by : (failed : Bool) (base : ℕ) (old new : LogState) (lists : List (List Commit)) (refusal : Refusal)
-    → old.has_failed ≡ failed → AnswersBy failed old new lists (Err refusal) → Known base old
+cause_by : (failed : Bool) (base : ℕ) (old new : LogState) (batch : Batch) (refusal : Refusal)
+    → old.has_failed ≡ failed → AnswersBy failed old new batch (Err refusal) → Known base old
     → (refusal ≡ refusals.LogFailed) × (base < new.told.failures)
-cause_by true base old new lists refusal is by known =
+cause_by true base old new batch refusal is by known =
     (by.0, subst (λ (log : LogState). base < log.told.failures) (sym by.1) (known.1 is))
-cause_by false base old new lists refusal is by known =
+cause_by false base old new batch refusal is by known =
     let known_at = known.0 in
     (by.refused, subst (λ (log : LogState). base < log.told.failures) (sym by.changed) (omega arith))
 
@@ -44,11 +43,11 @@ causes : (base : ℕ) (log : LogState) (calls : List Call) (call : Call) (refusa
     → AreCalls log (calls ++ call ∷ []) → call.answer ≡ Err refusal
     → (refusal ≡ refusals.LogFailed) × (base < call.log.told.failures)
 causes base log [] call refusal known are is =
-    cause_by log.has_failed base log call.log call.lists refusal refl
-    (subst (λ answer. Answers log call.log call.lists answer) is are.0) known
+    cause_by log.has_failed base log call.log call.batch refusal refl
+    (subst (λ answer. Answers log call.log call.batch answer) is are.0) known
 causes base log (other ∷ calls) call refusal known are is =
     causes base other.log calls call refusal
-    (keeps_by log.has_failed base log other.log other.lists other.answer are.0 known) are.1 is
+    (keeps_by log.has_failed base log other.log other.batch other.answer are.0 known) are.1 is
 
 pub have_causes : HaveCauses
 have_causes log calls call refusal well are is =
@@ -56,17 +55,17 @@ have_causes log calls call refusal well are is =
 
 -- ---- a log that has failed
 
-stays_once : (failed : Bool) (old new : LogState) (lists : List (List Commit)) (answer : Result (Unit {0}) Refusal)
-    → failed ≡ true → AnswersBy failed old new lists answer → (new ≡ old) × (once answer ≡ 0)
-stays_once false old new lists answer is by = absurd (false≢true is)
-stays_once true old new lists (Ok done) is by = absurd by
-stays_once true old new lists (Err refusal) is by = (by.1, refl)
+stays_once : (failed : Bool) (old new : LogState) (batch : Batch) (answer : Result (Unit {0}) Refusal)
+    → failed ≡ true → AnswersBy failed old new batch answer → (new ≡ old) × (once answer ≡ 0)
+stays_once false old new batch answer is by = absurd (false≢true is)
+stays_once true old new batch (Ok done) is by = absurd by
+stays_once true old new batch (Err refusal) is by = (by.1, refl)
 
 stays : (log : LogState) (calls : List Call) → log.has_failed ≡ true → AreCalls log calls
     → (log_behind log calls ≡ log) × (acknowledged calls ≡ 0)
 stays log [] failed are = (refl, refl)
 stays log (call ∷ calls) failed are =
-    let one = stays_once log.has_failed log call.log call.lists call.answer failed are.0 in
+    let one = stays_once log.has_failed log call.log call.batch call.answer failed are.0 in
     let later = stays call.log calls (ap (λ (log : LogState). log.has_failed) one.0 ∙ failed) are.1 in
     let none = one.1 in
     let none_later = later.1 in
@@ -74,54 +73,54 @@ stays log (call ∷ calls) failed are =
 
 -- ---- a batch more
 
-one_more : (first : List (List (List Commit))) (lists : List (List Commit))
-    → log_bytes (first ++ lists ∷ []) ≡ log_bytes first ++ batch_bytes lists
-one_more first lists =
-    flat_map-append batch_bytes first (lists ∷ []) ∙ ap (λ bytes. log_bytes first ++ bytes) (append-nil (batch_bytes lists))
+one_more : (first : List Batch) (batch : Batch)
+    → log_bytes (first ++ batch ∷ []) ≡ log_bytes first ++ batch_bytes batch
+one_more first batch =
+    flat_map-append batch_bytes first (batch ∷ []) ∙ ap (λ bytes. log_bytes first ++ bytes) (append-nil (batch_bytes batch))
 
-begins_behind : (first : List (List (List Commit))) (log new : LogState) (lists : List (List Commit)) → BeginsBehind first log
-    → new ≡ record { told = with_sync (with_more log.told (batch_bytes lists)); has_failed = false }
-    → BeginsBehind (first ++ lists ∷ []) new
-begins_behind first log new lists begins is =
-    let written : log.told.written ++ batch_bytes lists ≡ log_bytes (first ++ lists ∷ []) =
-    ap (λ bytes. bytes ++ batch_bytes lists) begins.written ∙ sym (one_more first lists) in
+begins_behind : (first : List Batch) (log new : LogState) (batch : Batch) → BeginsBehind first log
+    → new ≡ record { told = with_sync (with_more log.told (batch_bytes batch)); has_failed = false }
+    → BeginsBehind (first ++ batch ∷ []) new
+begins_behind first log new batch begins is =
+    let written : log.told.written ++ batch_bytes batch ≡ log_bytes (first ++ batch ∷ []) =
+    ap (λ bytes. bytes ++ batch_bytes batch) begins.written ∙ sym (one_more first batch) in
     let size = ap length written in
-    subst (λ log. BeginsBehind (first ++ lists ∷ []) log) (sym is)
+    subst (λ log. BeginsBehind (first ++ batch ∷ []) log) (sym is)
     (record { written = written; synced = omega arith; not_failed = refl })
 
-answers_well : (log new : LogState) (lists : List (List Commit)) (answer : Result (Unit {0}) Refusal)
-    → log.has_failed ≡ false → Answers log new lists answer → AnswersBy false log new lists answer
-answers_well log new lists answer is by = subst (λ failed. AnswersBy failed log new lists answer) is by
+answers_well : (log new : LogState) (batch : Batch) (answer : Result (Unit {0}) Refusal)
+    → log.has_failed ≡ false → Answers log new batch answer → AnswersBy false log new batch answer
+answers_well log new batch answer is by = subst (λ failed. AnswersBy failed log new batch answer) is by
 
 -- ---- what is written is the front of what was handed
 
-pushed : (first : List (List (List Commit))) (lists : List (List Commit)) (later : List (List (List Commit)))
-    → (first ++ lists ∷ []) ++ later ≡ first ++ lists ∷ later
-pushed first lists later = append_assoc first (lists ∷ []) later
+pushed : (first : List Batch) (batch : Batch) (later : List Batch)
+    → (first ++ batch ∷ []) ++ later ≡ first ++ batch ∷ later
+pushed first batch later = append_assoc first (batch ∷ []) later
 
-fronts : (first : List (List (List Commit))) (log : LogState) (calls : List Call) → BeginsBehind first log
+fronts : (first : List Batch) (log : LogState) (calls : List Call) → BeginsBehind first log
     → AreCalls log calls → IsFront (log_behind log calls).told.written (log_bytes (first ++ handed calls))
 fronts first log [] begins are =
     ([], ap log_bytes (append-nil first) ∙ (sym begins.written ∙ sym (append-nil log.told.written)))
 fronts first log (call ∷ calls) begins are =
-    next (λ begins. fronts (first ++ call.lists ∷ []) call.log calls begins are.1) call.answer
-    (answers_well log call.log call.lists call.answer begins.not_failed are.0)
+    next (λ begins. fronts (first ++ call.batch ∷ []) call.log calls begins are.1) call.answer
+    (answers_well log call.log call.batch call.answer begins.not_failed are.0)
   where
-    next : (BeginsBehind (first ++ call.lists ∷ []) call.log
-        → IsFront (log_behind call.log calls).told.written (log_bytes ((first ++ call.lists ∷ []) ++ handed calls)))
-        → (answer : Result (Unit {0}) Refusal) → AnswersBy false log call.log call.lists answer
-        → IsFront (log_behind call.log calls).told.written (log_bytes (first ++ call.lists ∷ handed calls))
+    next : (BeginsBehind (first ++ call.batch ∷ []) call.log
+        → IsFront (log_behind call.log calls).told.written (log_bytes ((first ++ call.batch ∷ []) ++ handed calls)))
+        → (answer : Result (Unit {0}) Refusal) → AnswersBy false log call.log call.batch answer
+        → IsFront (log_behind call.log calls).told.written (log_bytes (first ++ call.batch ∷ handed calls))
     next later (Ok done) by =
         subst (λ batches. IsFront (log_behind call.log calls).told.written (log_bytes batches))
-        (pushed first call.lists (handed calls))
-        (later (begins_behind first log call.log call.lists begins by))
+        (pushed first call.batch (handed calls))
+        (later (begins_behind first log call.log call.batch begins by))
     next later (Err refusal) by =
         let same = stays call.log calls (ap (λ (log : LogState). log.has_failed) by.changed) are.1 in
         let written : (log_behind call.log calls).told.written ≡ log_bytes first ++ by.front =
         ap (λ (log : LogState). log.told.written) (same.0 ∙ by.changed) ∙ ap (λ bytes. bytes ++ by.front) begins.written in
         let back = by.begins.0 ++ log_bytes (handed calls) in (
           back,
-          flat_map-append batch_bytes first (call.lists ∷ handed calls)
+          flat_map-append batch_bytes first (call.batch ∷ handed calls)
               ∙ (ap (λ bytes. log_bytes first ++ (bytes ++ log_bytes (handed calls))) by.begins.1
               ∙ (ap (λ bytes. log_bytes first ++ bytes) (append_assoc by.front by.begins.0 (log_bytes (handed calls)))
               ∙ (sym (append_assoc (log_bytes first) by.front back) ∙ ap (λ bytes. bytes ++ back) (sym written)))),
@@ -129,23 +128,23 @@ fronts first log (call ∷ calls) begins are =
 
 -- ---- what was acknowledged is synced
 
-abbrev least : List (List (List Commit)) → ℕ → List (List (List Commit)) → ℕ
+abbrev least : List Batch → ℕ → List Batch → ℕ
 least first more later = length (log_bytes (take (length first + more) (first ++ later)))
 
-least_none : (first later : List (List (List Commit))) (more : ℕ) → more ≡ 0
+least_none : (first later : List Batch) (more : ℕ) → more ≡ 0
     → least first more later ≡ length (log_bytes first)
 least_none first later more none =
     ap (λ batches. length (log_bytes batches))
     (ap (λ n. take n (first ++ later)) (omega arith) ∙ take_at first later (length first) refl)
 
-least_more : (first : List (List (List Commit))) (lists : List (List Commit)) (later : List (List (List Commit))) (more : ℕ)
-    → least (first ++ lists ∷ []) more later ≡ least first (1 + more) (lists ∷ later)
-least_more first lists later more =
-    let size = length-append first (lists ∷ []) in
-    ap (λ n. length (log_bytes (take n ((first ++ lists ∷ []) ++ later)))) (omega arith)
-    ∙ ap (λ batches. length (log_bytes (take (length first + (1 + more)) batches))) (pushed first lists later)
+least_more : (first : List Batch) (batch : Batch) (later : List Batch) (more : ℕ)
+    → least (first ++ batch ∷ []) more later ≡ least first (1 + more) (batch ∷ later)
+least_more first batch later more =
+    let size = length-append first (batch ∷ []) in
+    ap (λ n. length (log_bytes (take n ((first ++ batch ∷ []) ++ later)))) (omega arith)
+    ∙ ap (λ batches. length (log_bytes (take (length first + (1 + more)) batches))) (pushed first batch later)
 
-are_synced : (first : List (List (List Commit))) (log : LogState) (calls : List Call) (later : List (List (List Commit)))
+are_synced : (first : List Batch) (log : LogState) (calls : List Call) (later : List Batch)
     → BeginsBehind first log → AreCalls log calls
     → (least first (acknowledged calls) (handed calls ++ later) ≤ (log_behind log calls).told.synced)
     × (least first (acknowledged calls) (handed calls ++ later) ≤ length (log_behind log calls).told.written)
@@ -155,28 +154,28 @@ are_synced first log [] later begins are =
     let written = ap length begins.written in
     (omega arith, omega arith)
 are_synced first log (call ∷ calls) later begins are =
-    next (λ begins. are_synced (first ++ call.lists ∷ []) call.log calls later begins are.1) call.answer
-    (answers_well log call.log call.lists call.answer begins.not_failed are.0)
+    next (λ begins. are_synced (first ++ call.batch ∷ []) call.log calls later begins are.1) call.answer
+    (answers_well log call.log call.batch call.answer begins.not_failed are.0)
   where
-    next : (BeginsBehind (first ++ call.lists ∷ []) call.log
-        → (least (first ++ call.lists ∷ []) (acknowledged calls) (handed calls ++ later)
+    next : (BeginsBehind (first ++ call.batch ∷ []) call.log
+        → (least (first ++ call.batch ∷ []) (acknowledged calls) (handed calls ++ later)
         ≤ (log_behind call.log calls).told.synced)
-        × (least (first ++ call.lists ∷ []) (acknowledged calls) (handed calls ++ later)
+        × (least (first ++ call.batch ∷ []) (acknowledged calls) (handed calls ++ later)
         ≤ length (log_behind call.log calls).told.written))
-        → (answer : Result (Unit {0}) Refusal) → AnswersBy false log call.log call.lists answer
-        → (least first (once answer + acknowledged calls) (call.lists ∷ handed calls ++ later)
+        → (answer : Result (Unit {0}) Refusal) → AnswersBy false log call.log call.batch answer
+        → (least first (once answer + acknowledged calls) (call.batch ∷ handed calls ++ later)
         ≤ (log_behind call.log calls).told.synced)
-        × (least first (once answer + acknowledged calls) (call.lists ∷ handed calls ++ later)
+        × (least first (once answer + acknowledged calls) (call.batch ∷ handed calls ++ later)
         ≤ length (log_behind call.log calls).told.written)
     next behind (Ok done) by =
-        let more = behind (begins_behind first log call.log call.lists begins by) in
-        let same = least_more first call.lists (handed calls ++ later) (acknowledged calls) in (
+        let more = behind (begins_behind first log call.log call.batch begins by) in
+        let same = least_more first call.batch (handed calls ++ later) (acknowledged calls) in (
           subst (λ n. n ≤ (log_behind call.log calls).told.synced) same more.0,
           subst (λ n. n ≤ length (log_behind call.log calls).told.written) same more.1,
         )
     next behind (Err refusal) by =
         let rests = stays call.log calls (ap (λ (log : LogState). log.has_failed) by.changed) are.1 in
-        let same = least_none first (call.lists ∷ handed calls ++ later) (once (Err refusal) + acknowledged calls)
+        let same = least_none first (call.batch ∷ handed calls ++ later) (once (Err refusal) + acknowledged calls)
         (omega (arith, rests.1)) in
         let synced = begins.synced in
         let kept : (log_behind call.log calls).told.synced ≡ log.told.synced =
@@ -200,7 +199,7 @@ few (call ∷ calls) =
 
 handed-append : (calls more : List Call) → handed (calls ++ more) ≡ handed calls ++ handed more
 handed-append [] more = refl
-handed-append (call ∷ calls) more = ap (λ batches. call.lists ∷ batches) (handed-append calls more)
+handed-append (call ∷ calls) more = ap (λ batches. call.batch ∷ batches) (handed-append calls more)
 
 split : (log : LogState) (calls more : List Call) → AreCalls log (calls ++ more)
     → AreCalls log calls × AreCalls (log_behind log calls) more
@@ -210,16 +209,16 @@ split log (call ∷ calls) more are =
     let later = split call.log calls more are.1 in
     ((are.0, later.0), later.1, later.2)
 
-grows_by : (failed : Bool) (old new : LogState) (lists : List (List Commit)) (answer : Result (Unit {0}) Refusal)
-    → AnswersBy failed old new lists answer → length old.told.written ≤ length new.told.written
-grows_by true old new lists (Ok done) by = absurd by
-grows_by true old new lists (Err refusal) by =
+grows_by : (failed : Bool) (old new : LogState) (batch : Batch) (answer : Result (Unit {0}) Refusal)
+    → AnswersBy failed old new batch answer → length old.told.written ≤ length new.told.written
+grows_by true old new batch (Ok done) by = absurd by
+grows_by true old new batch (Err refusal) by =
     let same = ap (λ (log : LogState). length log.told.written) by.1 in
     omega arith
-grows_by false old new lists (Ok done) by =
-    let same = ap (λ (log : LogState). length log.told.written) by ∙ length-append old.told.written (batch_bytes lists) in
+grows_by false old new batch (Ok done) by =
+    let same = ap (λ (log : LogState). length log.told.written) by ∙ length-append old.told.written (batch_bytes batch) in
     omega arith
-grows_by false old new lists (Err refusal) by =
+grows_by false old new batch (Err refusal) by =
     let same = ap (λ (log : LogState). length log.told.written) by.changed ∙ length-append old.told.written by.front in
     omega arith
 
@@ -227,7 +226,7 @@ grows : (log : LogState) (calls : List Call) → AreCalls log calls
     → length log.told.written ≤ length (log_behind log calls).told.written
 grows log [] are = omega arith
 grows log (call ∷ calls) are =
-    let one = grows_by log.has_failed log call.log call.lists call.answer are.0 in
+    let one = grows_by log.has_failed log call.log call.batch call.answer are.0 in
     let later = grows call.log calls are.1 in
     omega arith
 
@@ -247,7 +246,7 @@ cut_front front whole size low is enough within =
       | inr less ↦ (size, enough, sym (ap (take size) is.1 ∙ take-append-le size front is.0 less))
     ]
 
-reads : (batches : List (List (List Commit))) (low many : ℕ) (left : List ℕ) → IsTrue (list_all is_batch batches)
+reads : (batches : List Batch) (low many : ℕ) (left : List ℕ) → IsTrue (are_batches batches)
     → low ≤ length batches → length (log_bytes (take low batches)) ≤ many → left ≡ take many (log_bytes batches)
     → ReadsFirst batches low left
 reads batches low many left whole few within is =

@@ -5,7 +5,7 @@ use Rattle.std.proofs.lemmas.Bool.{false≢true}
 use Rattle.std.specs.Prelude.{is_err, is_ok, if◌then◌else◌}
 use Rattle.hy_schema.specs.declared.refusal.Refusal.{Refusal}
 use Rattle.hy_schema.specs.declared.refusal.Refusal.TheVariants as refusals
-use Rattle.hy_commands.specs.declared.command.Commit.{Commit}
+use Rattle.hy_batches.specs.Batches.{Batch}
 use Rattle.hy_redo.specs.declared.out.Failed.{Failed}
 use Rattle.hy_redo.specs.Writers.{IsFront, Told, failed_behind, with_more}
 use Rattle.hy_redo.specs.Calls.{Answers, AnswersBy, IsCutShort, LogState}
@@ -72,9 +72,9 @@ pub cut_short : (start kept all end : Held) (bytes : List ℕ) → start.has_fai
 cut_short start kept all end bytes well nothing puts flushes none ends failed =
     cut_short_by all.has_failed start kept all end bytes well nothing puts flushes none ends failed refl
 
-pub answers_from : (old new : LogState) (lists : List (List Commit)) (answer : Result (Unit {0}) Refusal)
-    → old.has_failed ≡ false → AnswersBy false old new lists answer → Answers old new lists answer
-answers_from old new lists answer is by = subst (λ failed. AnswersBy failed old new lists answer) (sym is) by
+pub answers_from : (old new : LogState) (batch : Batch) (answer : Result (Unit {0}) Refusal)
+    → old.has_failed ≡ false → AnswersBy false old new batch answer → Answers old new batch answer
+answers_from old new batch answer is by = subst (λ failed. AnswersBy failed old new batch answer) (sym is) by
 
 -- bytes that found no memory
 pub kept : {E : Type 0} (answer : Result (Unit {0}) E) (more same : List ℕ) → is_err answer ≡ true

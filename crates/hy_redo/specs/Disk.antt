@@ -1,11 +1,10 @@
 -- What the disk may have when the power goes, and how it reads.
 use Rattle.std.specs.Prelude.{◌≡◌, ℕ, ◌+◌, ◌<◌, ◌≤◌, ◌⊎◌, false, IsTrue, List, [], ◌∷◌, ◌++◌, length, take, Result, Ok, Err}
-use Rattle.std.specs.List.{list_all}
 use Rattle.hy_schema.specs.declared.refusal.Refusal.{Refusal}
 use Rattle.hy_schema.specs.declared.refusal.Refusal.TheVariants as refusals
-use Rattle.hy_commands.specs.declared.command.Commit.{Commit}
+use Rattle.hy_batches.specs.Batches.{Batch}
 use Rattle.hy_batches.specs.Encoding.{log_bytes}
-use Rattle.hy_batches.specs.Grammar.{is_batch}
+use Rattle.hy_batches.specs.Grammar.{are_batches}
 use Rattle.hy_batches.specs.Logs.{IsLog, Reads}
 use Rattle.hy_redo.specs.Writers.{Told}
 use Rattle.hy_redo.specs.Calls.{AreCalls, Call, LogState, acknowledged, handed, log_behind}
@@ -17,24 +16,25 @@ abbrev pub MayLeave : Told → Told → List ℕ → Type 0
 MayLeave old new left = (size : ℕ) × (old.synced ≤ size) × (left ≡ take size new.written)
 
 -- bytes read as the first of these batches, at least so many, and nothing else is read from them but a want of memory
-abbrev pub ReadsFirst : List (List (List Commit)) → ℕ → List ℕ → Type 0
+abbrev pub ReadsFirst : List Batch → ℕ → List ℕ → Type 0
 ReadsFirst batches least left =
     (count : ℕ) × (rest : List ℕ) × (least ≤ count) × IsLog left (take count batches) rest
-    × ((read : Result (List (List (List Commit))) Refusal) → Reads left read
+    × ((read : Result (List Batch) Refusal) → Reads left read
     → (read ≡ Ok (take count batches)) ⊎ (read ≡ Err refusals.NoMemory))
 
 -- a log that begins behind whole batches that are synced, or behind nothing
-pub record BeginsBehind (batches : List (List (List Commit))) (log : LogState) : Type 0 where
+pub record BeginsBehind (batches : List Batch) (log : LogState) : Type 0 where
   pub written : log.told.written ≡ log_bytes batches
   pub synced : length (log_bytes batches) ≤ log.told.synced
   pub not_failed : log.has_failed ≡ false
 
--- However a run of calls went: a stop behind some of them, or at any later moment of the run, leaves the first of all batches
--- that the log was handed, behind those that were there; among them all that were acknowledged by then.
+-- However a run of calls went, whose batches may stand in a log behind those that were there, so that no edition falls: a
+-- stop behind some of them, or at any later moment of the run, leaves the first of all batches that the log was handed,
+-- behind those that were there; among them all that were acknowledged by then.
 abbrev pub LeaveBatches : Type 0
 LeaveBatches =
-    (first : List (List (List Commit))) (log : LogState) (calls more : List Call) (left : List ℕ) → BeginsBehind first log
-    → AreCalls log (calls ++ more) → IsTrue (list_all is_batch (first ++ handed (calls ++ more)))
+    (first : List Batch) (log : LogState) (calls more : List Call) (left : List ℕ) → BeginsBehind first log
+    → AreCalls log (calls ++ more) → IsTrue (are_batches (first ++ handed (calls ++ more)))
     → MayLeave (log_behind log calls).told (log_behind log (calls ++ more)).told left
     → ReadsFirst (first ++ handed (calls ++ more)) (length first + acknowledged calls) left
 

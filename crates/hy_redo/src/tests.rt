@@ -1,6 +1,7 @@
 use super::*;
-use hy_batches::{Batch, read_log};
+use hy_batches::{Batches, read_log};
 use hy_schema::Refusal;
+use std::alloc::{AllocError, Global};
 use std::marker::Model;
 use std::process::Abort;
 use std::test::*;
@@ -10,6 +11,19 @@ const SAMPLE: [u8; 43] = [
     0x48, 0x59, 0x42, 0x31, 0x1e, 0, 0, 0, 0, 0, 0, 0, 2, 1, 0, 0, 0, 0, 2, 1, 1, 1, 1, 0, 1, 0,
     0x64, 0, 0, 0, 1, 0, 0, 0, 0, 0, 0, 0, 0, 0, 0, 0, 0x45,
 ];
+
+/// The place of the byte of the mark that tells the edition.
+const EDITION: usize = 3;
+
+/// The sample, and behind it the same of the second edition, twice.
+fn three(alloc: Global) -> Result<Vec<u8>, AllocError> {
+    let mut second = SAMPLE;
+    second[EDITION] = 0x32;
+    let mut bytes = Vec::from_slice(alloc, &SAMPLE)?;
+    bytes.extend_from_slice(&second)?;
+    bytes.extend_from_slice(&second)?;
+    Ok(bytes)
+}
 
 /// A writer in memory that takes one byte at a time. One of its calls fails, the one behind so many, and none after it.
 #[derive(Drop)]
@@ -96,13 +110,14 @@ impl<'rt, R: Abort> LogOut for Memory<'rt, R> {
     }
 }
 
-/// Writes a batch three times over a writer that fails behind so many calls. A batch takes 44: 43 writes and a sync.
-fn stops_behind(rt: &(impl Abort + AllocGlobal), batch: &Batch, calls: u64) {
+/// Writes three batches over a writer that fails behind so many calls. A batch takes 44: 43 writes and a sync.
+fn stops_behind(rt: &(impl Abort + AllocGlobal), given: &Batches, calls: u64) {
+    assert_eq!(rt; given.count(), 3);
     let whole = calls / 44;
     let mut log = Log::new(rt.alloc(), Memory::new(rt, calls));
     for place in 0..3 {
-        let answer = log.write_batch(batch);
-        if place < whole {
+        let answer = log.write_batch(given.batch(place));
+        if (place as u64) < whole {
             assert_eq!(rt; answer, Ok(()));
         } else {
             assert_eq!(rt; answer, Err(Refusal::LogFailed));
@@ -117,28 +132,34 @@ fn stops_behind(rt: &(impl Abort + AllocGlobal), batch: &Batch, calls: u64) {
         panic!(rt; "no log");
     };
     assert_eq!(rt; batches.count(), (calls - whole) / 43);
+    for place in 0..batches.count().min(3) as usize {
+        assert_eq!(rt;
+            batches.batch(place).edition(),
+            given.batch(place).edition()
+        );
+    }
 }
 
 #[test]
 fn failure_refuses_from_then_on(rt: HostRuntime) -> Result<(), Fail> {
-    let batches = read_log(rt.alloc(), &SAMPLE)?;
-    assert_eq!(rt; batches.count(), 1);
+    let bytes = three(rt.alloc())?;
+    let batches = read_log(rt.alloc(), &bytes)?;
     for calls in 0..132 {
-        stops_behind(&rt, batches.batch(0), calls);
+        stops_behind(&rt, &batches, calls);
     }
     Ok(())
 }
 
 #[test]
 fn batches_are_acknowledged(rt: HostRuntime) -> Result<(), Fail> {
-    let batches = read_log(rt.alloc(), &SAMPLE)?;
-    assert_eq!(rt; batches.count(), 1);
-    let mut log = Log::new(rt.alloc(), Memory::new(&rt, 88));
+    let bytes = three(rt.alloc())?;
+    let batches = read_log(rt.alloc(), &bytes)?;
+    assert_eq!(rt; batches.count(), 3);
+    let mut log = Log::new(rt.alloc(), Memory::new(&rt, 132));
     log.write_batch(batches.batch(0))?;
-    log.write_batch(batches.batch(0))?;
-    assert_eq!(rt; log.out().synced, 86);
-    let mut twice = Vec::from_slice(rt.alloc(), &SAMPLE)?;
-    twice.extend_from_slice(&SAMPLE)?;
-    assert_eq!(rt; log.out().bytes, twice);
+    log.write_batch(batches.batch(1))?;
+    log.write_batch(batches.batch(2))?;
+    assert_eq!(rt; log.out().synced, 129);
+    assert_eq!(rt; log.out().bytes, bytes);
     Ok(())
 }

@@ -5,7 +5,7 @@ ghost use Rattle.std.specs.Prelude.{◌≡◌, length};
 use crate::logs::{payment, read, written};
 use crate::recovery_tests::{WIDE, recovered_of};
 use hy_batches::{Batches, Text, write_batch};
-use hy_commands::{Commit, Reply};
+use hy_commands::{Commit, Edition, Reply};
 use hy_crossing::are_partitions;
 use hy_forks::drain;
 use hy_loads::Load;
@@ -114,21 +114,30 @@ fn recovers_each_beginning<R: Abort + AllocGlobal>(rt: &R, bytes: &[u8]) {
 
 #[test]
 fn a_log_is_cut_anywhere(rt: HostRuntime) {
-    let text = written(&rt, 2, 3);
-    recovers_each_beginning(&rt, text.bytes().expect(&rt, "memory lasts"));
+    for edition in [Edition::First, Edition::Second] {
+        let text = written(&rt, edition, 2, 3);
+        recovers_each_beginning(&rt, text.bytes().expect(&rt, "memory lasts"));
+    }
+}
+
+/// A log of an edition whose third batch is cut off goes on, behind a recovery, with a batch of the second edition.
+fn lives_twice<R: Abort + AllocGlobal>(rt: &R, edition: Edition) {
+    let text = written(rt, edition, 2, 3);
+    let bytes = text.bytes().expect(rt, "memory lasts");
+    assert!(rt; bytes.len() == 129);
+    let batches = read(rt, first(rt, bytes, 100));
+    assert!(rt; batches.bytes() == 86);
+    let more = second_batch(rt, &batches);
+    let more = more.bytes().expect(rt, "memory lasts");
+    let new = written(rt, Edition::Second, 2, 1);
+    assert!(rt; more == new.bytes().expect(rt, "memory lasts"));
+    let mut all = Vec::from_slice(rt.alloc(), first(rt, bytes, 86)).expect(rt, "bytes");
+    all.extend_from_slice(more).expect(rt, "bytes");
+    recovers_each_beginning(rt, &all);
 }
 
 #[test]
 fn second_life(rt: HostRuntime) {
-    let text = written(&rt, 2, 3);
-    let bytes = text.bytes().expect(&rt, "memory lasts");
-    assert!(&rt; bytes.len() == 129);
-    let batches = read(&rt, first(&rt, bytes, 100));
-    assert!(&rt; batches.bytes() == 86);
-    let more = second_batch(&rt, &batches);
-    let mut all = Vec::from_slice(rt.alloc(), first(&rt, bytes, 86)).expect(&rt, "bytes");
-    all.extend_from_slice(more.bytes().expect(&rt, "memory lasts"))
-        .expect(&rt, "bytes");
-    assert!(&rt; all.as_slice() == bytes);
-    recovers_each_beginning(&rt, &all);
+    lives_twice(&rt, Edition::First);
+    lives_twice(&rt, Edition::Second);
 }

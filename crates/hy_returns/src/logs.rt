@@ -1,12 +1,20 @@
 //! For tests: logs of payments, orders and deliveries.
 
 use hy_batches::{Batch, Batches, Text, read_log, write_batch};
-use hy_commands::{Command, Commit, Delivery, Payment, Purchase, PurchaseLine, PurchaseLines, Who};
+use hy_commands::{
+    Command, Commit, Delivery, Edition, Payment, Purchase, PurchaseLine, PurchaseLines, Who,
+};
 use std::alloc::Global;
 use std::process::Abort;
 
-/// A batch of so many warehouses, with these commits, each in the list of a warehouse.
-pub fn page(rt: &impl Abort, alloc: Global, count: u64, commits: Vec<(u64, Commit)>) -> Batch {
+/// A batch of an edition and of so many warehouses, with these commits, each in the list of a warehouse.
+pub fn page(
+    rt: &impl Abort,
+    alloc: Global,
+    edition: Edition,
+    count: u64,
+    commits: Vec<(u64, Commit)>,
+) -> Batch {
     let mut lists = Vec::new(alloc);
     for _ in 0..count {
         lists.push(Vec::new(alloc)).expect(rt, "a list");
@@ -16,7 +24,7 @@ pub fn page(rt: &impl Abort, alloc: Global, count: u64, commits: Vec<(u64, Commi
         assert!(rt; place < lists.len());
         lists[place].push(commit).expect(rt, "a commit");
     }
-    Batch::new(lists)
+    Batch::new(edition, lists)
 }
 
 /// Writes a batch behind others.
@@ -76,15 +84,21 @@ pub fn read<R: Abort + AllocGlobal>(rt: &R, bytes: &[u8]) -> Batches {
     }
 }
 
-/// A log of so many batches, each with a payment of 1.00 in the first of so many warehouses.
-pub fn written<R: Abort + AllocGlobal>(rt: &R, warehouses: u64, count: u64) -> Text {
+/// A log of so many batches of an edition, each with a payment of 1.00 in the first of so many warehouses.
+pub fn written<R: Abort + AllocGlobal>(
+    rt: &R,
+    edition: Edition,
+    warehouses: u64,
+    count: u64,
+) -> Text {
     let mut text = Text::new(rt.alloc());
     for _ in 0..count {
         let mut commits = Vec::new(rt.alloc());
         commits
-            .push((1, Commit::Local(payment(1, 1, 1, 100))))
+            .push((1, Commit::Local(edition, payment(1, 1, 1, 100))))
             .expect(rt, "a commit");
-        write(&mut text, &page(rt, rt.alloc(), warehouses, commits));
+        let page = page(rt, rt.alloc(), edition, warehouses, commits);
+        write(&mut text, &page);
     }
     text
 }

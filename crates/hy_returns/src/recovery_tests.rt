@@ -4,7 +4,7 @@ ghost use Rattle.std.specs.Prelude.{◌≡◌, length};
 
 use crate::logs::{delivery, order, page, payment, read, write};
 use hy_batches::{Batch, Batches, Text};
-use hy_commands::{Command, Commit};
+use hy_commands::{Command, Commit, Edition};
 use hy_loads::Load;
 use hy_partition::{Loaded, Partition};
 use hy_passes::{Journal, Kit, Pass, make};
@@ -129,6 +129,16 @@ pub fn recovered_of<R: Abort + AllocGlobal>(
     recover_in::<Brand, R>(rt, &load, kit, batches, limits)
 }
 
+/// A commit of one warehouse.
+fn alone(command: Command) -> Commit {
+    Commit::Local(Edition::Second, command)
+}
+
+/// One of several warehouses, with its number.
+fn numbered(number: u64, command: Command) -> Commit {
+    Commit::Cross(Edition::Second, number, command)
+}
+
 /// A batch with these commits.
 fn batch<R: Abort + AllocGlobal, const N: usize>(
     rt: &R,
@@ -136,7 +146,7 @@ fn batch<R: Abort + AllocGlobal, const N: usize>(
     commits: [(u64, Commit); N],
 ) -> Batch {
     let commits = Vec::from_array(rt.alloc(), commits).expect(rt, "commits");
-    page(rt, rt.alloc(), count, commits)
+    page(rt, rt.alloc(), Edition::Second, count, commits)
 }
 
 /// A payment over warehouses 1 and 2 with a number, in both lists.
@@ -145,15 +155,15 @@ fn crossing<R: Abort + AllocGlobal>(rt: &R, number: u64) -> Batch {
         rt,
         3,
         [
-            (1, Commit::Cross(number, payment(1, 2, 1, 500))),
-            (2, Commit::Cross(number, payment(1, 2, 1, 500))),
+            (1, numbered(number, payment(1, 2, 1, 500))),
+            (2, numbered(number, payment(1, 2, 1, 500))),
         ],
     )
 }
 
 /// A payment in warehouse 1.
 fn local<R: Abort + AllocGlobal>(rt: &R, customer: u64) -> Batch {
-    batch(rt, 3, [(1, Commit::Local(payment(1, 1, customer, 100)))])
+    batch(rt, 3, [(1, alone(payment(1, 1, customer, 100)))])
 }
 
 /// What is seen of a database.
@@ -188,14 +198,14 @@ fn lists_are_merged(rt: HostRuntime) {
         &rt,
         3,
         [
-            (1, Commit::Local(order(&rt, alloc, 1, 20, 1))),
-            (1, Commit::Cross(2, order(&rt, alloc, 3, 7, 1))),
-            (1, Commit::Local(delivery(1))),
-            (2, Commit::Cross(1, payment(3, 2, 3, 250))),
-            (2, Commit::Local(payment(2, 2, 2, 100))),
-            (3, Commit::Cross(1, payment(3, 2, 3, 250))),
-            (3, Commit::Local(delivery(3))),
-            (3, Commit::Cross(2, order(&rt, alloc, 3, 7, 1))),
+            (1, alone(order(&rt, alloc, 1, 20, 1))),
+            (1, numbered(2, order(&rt, alloc, 3, 7, 1))),
+            (1, alone(delivery(1))),
+            (2, numbered(1, payment(3, 2, 3, 250))),
+            (2, alone(payment(2, 2, 2, 100))),
+            (3, numbered(1, payment(3, 2, 3, 250))),
+            (3, alone(delivery(3))),
+            (3, numbered(2, order(&rt, alloc, 3, 7, 1))),
         ],
     );
     let some = recovered(&rt, &[mixed], WIDE);
@@ -216,14 +226,14 @@ fn numbers_go_on(rt: HostRuntime) {
 
 #[test]
 fn lists_agree(rt: HostRuntime) {
-    let one = batch(&rt, 3, [(1, Commit::Cross(1, payment(1, 2, 1, 500)))]);
+    let one = batch(&rt, 3, [(1, numbered(1, payment(1, 2, 1, 500)))]);
     fails_at(&rt, &[one], 0);
     let another = batch(
         &rt,
         3,
         [
-            (1, Commit::Cross(1, payment(1, 2, 1, 500))),
-            (2, Commit::Cross(1, payment(1, 2, 1, 501))),
+            (1, numbered(1, payment(1, 2, 1, 500))),
+            (2, numbered(1, payment(1, 2, 1, 501))),
         ],
     );
     fails_at(&rt, &[another], 0);
@@ -231,10 +241,10 @@ fn lists_agree(rt: HostRuntime) {
         &rt,
         3,
         [
-            (1, Commit::Cross(1, payment(1, 2, 1, 500))),
-            (1, Commit::Cross(2, payment(1, 2, 2, 500))),
-            (2, Commit::Cross(2, payment(1, 2, 2, 500))),
-            (2, Commit::Cross(1, payment(1, 2, 1, 500))),
+            (1, numbered(1, payment(1, 2, 1, 500))),
+            (1, numbered(2, payment(1, 2, 2, 500))),
+            (2, numbered(2, payment(1, 2, 2, 500))),
+            (2, numbered(1, payment(1, 2, 1, 500))),
         ],
     );
     fails_at(&rt, &[turned], 0);
@@ -247,16 +257,16 @@ fn commands_fit_the_load(rt: HostRuntime) {
     fails_at(&rt, &[local(&rt, 4)], 0);
     fails_at(
         &rt,
-        &[batch(&rt, 2, [(1, Commit::Local(payment(1, 1, 1, 100)))])],
+        &[batch(&rt, 2, [(1, alone(payment(1, 1, 1, 100)))])],
         0,
     );
     fails_at(&rt, &[batch(&rt, 4, [])], 0);
     fails_at(
         &rt,
-        &[batch(&rt, 3, [(1, Commit::Local(order(&rt, alloc, 1, 21, 1)))])],
+        &[batch(&rt, 3, [(1, alone(order(&rt, alloc, 1, 21, 1)))])],
         0,
     );
-    let away = batch(&rt, 3, [(1, Commit::Cross(1, payment(1, 4, 1, 500)))]);
+    let away = batch(&rt, 3, [(1, numbered(1, payment(1, 4, 1, 500)))]);
     fails_at(&rt, &[away], 0);
 }
 

@@ -231,7 +231,7 @@ terms-step old new job does = elim does [
 
 terms-event : (event : Event) (old new : World) → Does event old new
     → (new.load ≡ old.load) × (new.warehouse ≡ old.warehouse)
-terms-event (begins client command) old new does =
+terms-event (begins client edition command) old new does =
     (ap (λ (w : World). w.load) does.3, ap (λ (w : World). w.warehouse) does.3)
 terms-event steps old new does = by old.running does
   where

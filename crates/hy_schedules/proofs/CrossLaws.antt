@@ -63,10 +63,10 @@ module _ (n : ℕ) (log after : Log) (p q : PartitionState) (world : World) (is 
         let does = accepts.does in
         let serial : log ≡ accepts.log = same_Some log accepts.log accepts.before_is in
         let grown : after ≡ world.log ++ entered (underway job) =
-        same_Some after (accepts.log ++ entered_by job.command job.pass) accepts.after_is
-        ∙ ap (λ log. log ++ entered_by job.command job.pass) (sym (is.log_is ∙ serial)) in
-        let kept : q.kept ≡ world.kept ++ kept_of job.command =
-        does.kept ∙ ap (λ kept. kept ++ kept_of job.command) (sym is.kept) in
+        same_Some after (accepts.log ++ entered_by job.edition job.command job.pass) accepts.after_is
+        ∙ ap (λ log. log ++ entered_by job.edition job.command job.pass) (sym (is.log_is ∙ serial)) in
+        let kept : q.kept ≡ world.kept ++ kept_of job.edition job.command =
+        does.kept ∙ ap (λ kept. kept ++ kept_of job.edition job.command) (sym is.kept) in
         let accepted : refusal_of world.load.items world.warehouse job.command (rows_of world) ≡ None =
         rw (is.load, is.warehouse, is.kept) does.accepted in
         record {
@@ -347,7 +347,7 @@ module _ (n : ℕ) (lists : Lists) (job : JobState) (log after : Log) (parts new
 
     -- refused, no part of it is left
     crosses-refused : RefusesAll lists job does.log after does.middle news answer
-        → LeadsAll n (crosses job.pass.client job.command) whole after news
+        → LeadsAll n (crosses job.pass.client job.edition job.command) whole after news
     crosses-refused refuses = (
       ended_whole,
       record { several = several; ended = ended_whole; ends = from.ends; does = inl refl },
@@ -376,7 +376,7 @@ module _ (n : ℕ) (lists : Lists) (job : JobState) (log after : Log) (parts new
 
     -- accepted, it enters all lists that it names
     crosses-accepted : AcceptsAll lists job does.log after does.middle news answer
-        → LeadsAll n (crosses job.pass.client job.command) whole after news
+        → LeadsAll n (crosses job.pass.client job.edition job.command) whole after news
     crosses-accepted accepts = (
       next,
       record { several = several; ended = ended_whole; ends = from.ends; does = inr (accepted, refl) },
@@ -389,7 +389,7 @@ module _ (n : ℕ) (lists : Lists) (job : JobState) (log after : Log) (parts new
     )
       where
         entry : Entry Commit
-        entry = entry_behind ended_whole job.command (whole.known job.pass.client)
+        entry = entry_behind ended_whole job.edition job.command (whole.known job.pass.client)
 
         next : Whole
         next = with_entry ended_whole job.pass.client entry
@@ -402,11 +402,11 @@ module _ (n : ℕ) (lists : Lists) (job : JobState) (log after : Log) (parts new
 
         entry_is : entry_of lists job does.log ≡ entry
         entry_is =
-            sym (ap (λ (l : Lists). crossing_entry (kept_in (database_behind l ended_whole.log) job.command)
+            sym (ap (λ (l : Lists). crossing_entry job.edition (kept_in (database_behind l ended_whole.log) job.command)
             (whole.known job.pass.client) ended_whole.log) load
-            ∙ ap (λ (list : Log). crossing_entry (kept_in (database_behind lists list) job.command)
+            ∙ ap (λ (list : Log). crossing_entry job.edition (kept_in (database_behind lists list) job.command)
             (whole.known job.pass.client) list) from.log_is
-            ∙ ap (λ stamp. crossing_entry (kept_in (database_behind lists does.log) job.command) stamp does.log) known)
+            ∙ ap (λ stamp. crossing_entry job.edition (kept_in (database_behind lists does.log) job.command) stamp does.log) known)
 
         log_is : next.log ≡ after
         log_is =
@@ -442,7 +442,7 @@ module _ (n : ℕ) (lists : Lists) (job : JobState) (log after : Log) (parts new
               (place-carried n does.log after ended_whole next number p place refl log_is was))
         ]
 
-    pub leads-cross : LeadsAll n (crosses job.pass.client job.command) whole after news
+    pub leads-cross : LeadsAll n (crosses job.pass.client job.edition job.command) whole after news
     leads-cross = elim does.does [
       | inl accepts ↦ crosses-accepted accepts
       | inr refuses ↦ crosses-refused refuses

@@ -15,6 +15,7 @@ use Rattle.hy_rows.specs.Tables.{Lists}
 use Rattle.hy_commands.specs.declared.command.Command.{Command}
 use Rattle.hy_commands.specs.declared.command.Commit.{Commit}
 use Rattle.hy_commands.specs.declared.command.Commit.TheVariants as commits
+use Rattle.hy_commands.specs.declared.edition.Edition.{Edition}
 use Rattle.hy_commands.specs.Commands.{is_reader, kept_of, number_of, warehouses_of, warehouses_of_commit}
 use Rattle.hy_commands.specs.Replay.{rows_after}
 use Rattle.hy_commands.specs.Transactions.{refusal_of}
@@ -28,12 +29,13 @@ use Rattle.hy_schedules.specs.Schedules.{Ends, is_local}
 
 -- nothing, or a commit that names one warehouse alone, with a stamp that is respected
 pub record IsEntered (number : ℕ) (log log' : Log) (kept kept' : List Commit) : Type 0 where
+  pub edition : Edition
   pub command : Command
   pub stamp : ℕ
   pub named : warehouses_of command ≡ number ∷ []
   pub within : stamp ≤ length log
-  pub log_is : log' ≡ log ++ record { commit = commits.Local command; stamp = stamp } ∷ []
-  pub kept_is : kept' ≡ kept ++ commits.Local command ∷ []
+  pub log_is : log' ≡ log ++ record { commit = commits.Local edition command; stamp = stamp } ∷ []
+  pub kept_is : kept' ≡ kept ++ commits.Local edition command ∷ []
 
 abbrev pub Adds : ℕ → Log → Log → List Commit → List Commit → Type 0
 Adds number log log' kept kept' = ((log' ≡ log) × (kept' ≡ kept)) ⊎ IsEntered number log log' kept kept'
@@ -70,7 +72,7 @@ module _ (number : ℕ) (log log' : Log) (kept kept' : List Commit) (adds : Adds
         omega (
           arith,
           ap length more.log_is,
-          length-append log (record { commit = commits.Local more.command; stamp = more.stamp } ∷ []),
+          length-append log (record { commit = commits.Local more.edition more.command; stamp = more.stamp } ∷ []),
         )
   ]
 
@@ -79,7 +81,7 @@ module _ (number : ℕ) (log log' : Log) (kept kept' : List Commit) (adds : Adds
   added-here is = elim adds [
     | inl same ↦ same.1 ∙ is ∙ ap (projection_of number) (sym same.0)
     | inr more ↦
-        let entry : Entry Commit = record { commit = commits.Local more.command; stamp = more.stamp } in
+        let entry : Entry Commit = record { commit = commits.Local more.edition more.command; stamp = more.stamp } in
         more.kept_is ∙ ap (λ kept. kept ++ entry.commit ∷ []) is
         ∙ sym (kept-adds warehouses_of_commit number log entry
         (ap (λ named. list_any (λ one. one == number) named) more.named
@@ -91,7 +93,7 @@ module _ (number : ℕ) (log log' : Log) (kept kept' : List Commit) (adds : Adds
   added-elsewhere other apart = elim adds [
     | inl same ↦ ap (projection_of other) same.0
     | inr more ↦
-        let entry : Entry Commit = record { commit = commits.Local more.command; stamp = more.stamp } in
+        let entry : Entry Commit = record { commit = commits.Local more.edition more.command; stamp = more.stamp } in
         ap (projection_of other) more.log_is
         ∙ kept-skips warehouses_of_commit other log entry
         (ap (λ named. list_any (λ one. one == other) named) more.named
@@ -103,7 +105,7 @@ module _ (number : ℕ) (log log' : Log) (kept kept' : List Commit) (adds : Adds
     | inl same ↦ subst (λ (list : List Commit). HasRows load number list taken) (sym same.1) has
     | inr more ↦
         subst (λ (list : List Commit). HasRows load number list taken) (sym more.kept_is)
-        (rows-more load number kept (commits.Local more.command ∷ []) taken has)
+        (rows-more load number kept (commits.Local more.edition more.command ∷ []) taken has)
   ]
 
   -- the serial list is one still
@@ -113,7 +115,7 @@ module _ (number : ℕ) (log log' : Log) (kept kept' : List Commit) (adds : Adds
   added-serial warehouses there serial = elim adds [
     | inl same ↦ subst (λ (list : Log). IsSerial warehouses_of_commit number_of warehouses list) (sym same.0) serial
     | inr more ↦
-        let entry : Entry Commit = record { commit = commits.Local more.command; stamp = more.stamp } in
+        let entry : Entry Commit = record { commit = commits.Local more.edition more.command; stamp = more.stamp } in
         subst (λ (list : Log). IsSerial warehouses_of_commit number_of warehouses list) (sym more.log_is)
         (serial-more warehouses_of_commit number_of warehouses log entry serial
         (rw (more.named, le-leb 1 number there.0, le-leb number warehouses there.1) refl)
@@ -124,15 +126,16 @@ module _ (number : ℕ) (log log' : Log) (kept kept' : List Commit) (adds : Adds
 -- what an accepted command adds
 adds-accepted : (world : World) (job : Underway)
     → refusal_of world.load.items world.warehouse job.command (rows_of world) ≡ None → job.stamp ≤ length world.log
-    → Adds world.warehouse world.log (world.log ++ entered job) world.kept (world.kept ++ kept_of job.command)
+    → Adds world.warehouse world.log (world.log ++ entered job) world.kept (world.kept ++ kept_of job.edition job.command)
 adds-accepted world job accepted stamped =
     elim (is_reader job.command) as (λ b.
     Adds world.warehouse world.log
     (world.log ++ map (λ commit. record { commit = commit; stamp = job.stamp })
-    (cond b [] (commits.Local job.command ∷ [])))
-    world.kept (world.kept ++ cond b [] (commits.Local job.command ∷ []))) [
+    (cond b [] (commits.Local job.edition job.command ∷ [])))
+    world.kept (world.kept ++ cond b [] (commits.Local job.edition job.command ∷ []))) [
       | true ↦ inl (append-nil world.log, append-nil world.kept)
       | false ↦ inr (record {
+        edition = job.edition;
         command = job.command;
         stamp = job.stamp;
         named = named-accepted world.load.items world.warehouse job.command (rows_of world) accepted;
@@ -221,10 +224,10 @@ module _ (old : World) (stamped : ForSome old.running (λ job. job.stamp ≤ len
   ]
 
   pub step-event : (event : Event) (new : World) → is_local event ≡ true → Does event old new → IsStep old new
-  step-event (begins client command) new is_here does = subst (λ (w : World). IsStep old w) (sym does.3)
-      (step-same (Some (record { command = command; slices = 0; client = client; stamp = old.known client })) old.waits
+  step-event (begins client edition command) new is_here does = subst (λ (w : World). IsStep old w) (sym does.3)
+      (step-same (Some (record { edition = edition; command = command; slices = 0; client = client; stamp = old.known client })) old.waits
       old.known known (λ job is.
-      let same : record { command = command; slices = 0; client = client; stamp = old.known client } ≡ job = cc in
+      let same : record { edition = edition; command = command; slices = 0; client = client; stamp = old.known client } ≡ job = cc in
       subst (λ (j : Underway). j.stamp ≤ length old.log) same (known client)))
   step-event steps new is_here does = by old.running refl does
     where

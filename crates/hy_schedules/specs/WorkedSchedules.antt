@@ -18,6 +18,7 @@ use Rattle.hy_commands.specs.declared.command.Commit.{Commit}
 use Rattle.hy_commands.specs.declared.command.Commit.TheVariants as commits
 use Rattle.hy_commands.specs.declared.command.PurchaseLine.{PurchaseLine}
 use Rattle.hy_commands.specs.declared.command.Who.TheVariants as who
+use Rattle.hy_commands.specs.declared.edition.Edition.TheVariants as editions
 use Rattle.hy_commands.specs.Commands.{number_of}
 use Rattle.hy_commands.specs.WorkedSample.{customers, district, each, items, stock, up_to, warehouse}
 use Rattle.hy_partition.specs.Schedules as one
@@ -75,7 +76,7 @@ missing = purchase (line 2 2 ∷ line 3 2 ∷ line 4 2 ∷ line 21 2 ∷ [])
 -- ---- the wholes between the events
 
 abbrev job : ℕ → Underway
-job slices = record { command = pay; slices = slices; client = 5; stamp = 0 }
+job slices = record { edition = editions.Second; command = pay; slices = slices; client = 5; stamp = 0 }
 
 abbrev start : Whole
 start = fresh_whole lists
@@ -86,13 +87,13 @@ paying slices = record start { places = record fresh_place { running = Some (job
 -- the payment is accepted, and its answer waits
 abbrev paid : Whole
 paid = record start {
-  log = record { commit = commits.Local pay; stamp = 0 } ∷ [];
-  known = with_known start.known 5 (record { commit = commits.Local pay; stamp = 0 } ∷ []);
-  places = record fresh_place { kept = commits.Local pay ∷ []; waits = true } ∷ fresh_place ∷ [];
+  log = record { commit = commits.Local editions.Second pay; stamp = 0 } ∷ [];
+  known = with_known start.known 5 (record { commit = commits.Local editions.Second pay; stamp = 0 } ∷ []);
+  places = record fresh_place { kept = commits.Local editions.Second pay ∷ []; waits = true } ∷ fresh_place ∷ [];
 }
 
 abbrev bought : Whole
-bought = with_entry paid 6 (entry_behind paid order 0)
+bought = with_entry paid 6 (entry_behind paid editions.Second order 0)
 
 -- client 7 has a snapshot, under number 5 in warehouse 1 and 6 in warehouse 2
 abbrev children : ℕ → ℕ
@@ -115,12 +116,12 @@ last = with_places (without_snapshot children) looked
 
 abbrev events : List EventOfAll
 events =
-    at 1 (begins 5 pay) ∷ at 1 steps ∷ crosses 6 order ∷ forks_all 7 children ∷ drains ∷ crosses 6 missing ∷ looks 5
+    at 1 (begins 5 editions.Second pay) ∷ at 1 steps ∷ crosses 6 editions.Second order ∷ forks_all 7 children ∷ drains ∷ crosses 6 editions.Second missing ∷ looks 5
     ∷ closes_all children ∷ []
 
 -- ---- each event happens
 
-begun : DoesAll (at 1 (begins 5 pay)) start (paying 0)
+begun : DoesAll (at 1 (begins 5 editions.Second pay)) start (paying 0)
 begun = (
   refl,
   record {
@@ -147,7 +148,7 @@ half_done = (
 )
 
 -- the payment, of which a slice was left, is accepted before the purchase is
-crossed : DoesAll (crosses 6 order) (paying 1) bought
+crossed : DoesAll (crosses 6 editions.Second order) (paying 1) bought
 crossed = record {
   several = refl;
   ended = paid;
@@ -158,7 +159,7 @@ crossed = record {
     first : ChangesPlace Ends 1 (paying 1) paid
     first = record {
       before = record fresh_place { running = Some (job 1) };
-      after = record fresh_place { kept = commits.Local pay ∷ []; waits = true };
+      after = record fresh_place { kept = commits.Local editions.Second pay ∷ []; waits = true };
       there = refl;
       change = inl (refl, refl);
       drained = refl;
@@ -185,7 +186,7 @@ taken = (free, refl)
     free (suc (suc (suc number))) = tt
 
 -- nothing runs, and nothing enters
-refused : DoesAll (crosses 6 missing) drained drained
+refused : DoesAll (crosses 6 editions.Second missing) drained drained
 refused = record {
   several = refl;
   ended = drained;
@@ -225,18 +226,18 @@ closed = (are_open, refl)
 runs : RunsAll events start last
 runs = (paying 0, inr begun, (paying 1, inr half_done, (bought, inr crossed, (forked, inr taken, afterwards))))
   where
-    afterwards : RunsAll (drains ∷ crosses 6 missing ∷ looks 5 ∷ closes_all children ∷ []) forked last
+    afterwards : RunsAll (drains ∷ crosses 6 editions.Second missing ∷ looks 5 ∷ closes_all children ∷ []) forked last
     afterwards = (drained, inr refl, (drained, inr refused, (looked, inr refl, (last, inr closed, refl))))
 
 -- ---- what is seen
 
 -- the payment stands before the purchase, which has the first number; both clients had looked at nothing
 entered_at_last : last.log
-    ≡ record { commit = commits.Local pay; stamp = 0 } ∷ record { commit = commits.Cross 1 order; stamp = 0 } ∷ []
+    ≡ record { commit = commits.Local editions.Second pay; stamp = 0 } ∷ record { commit = commits.Cross editions.Second 1 order; stamp = 0 } ∷ []
 entered_at_last = refl
 
-kept_at_last : (kept_at last.places 1 ≡ commits.Local pay ∷ commits.Cross 1 order ∷ [])
-    × (kept_at last.places 2 ≡ commits.Cross 1 order ∷ [])
+kept_at_last : (kept_at last.places 1 ≡ commits.Local editions.Second pay ∷ commits.Cross editions.Second 1 order ∷ [])
+    × (kept_at last.places 2 ≡ commits.Cross editions.Second 1 order ∷ [])
 kept_at_last = (refl, refl)
 
 known_before : (drained.known 5 ≡ 1) × (drained.known 6 ≡ 2) × (drained.known 7 ≡ 2) × (drained.known 8 ≡ 0)
@@ -281,7 +282,7 @@ not_local : (new : Whole) → DoesAll (at 1 (one.looks 5)) paid new → ⊥
 not_local new does = let here = does.0 in absurd (cc)
 
 -- a command that names one warehouse isn't one over several
-not_several : (new : Whole) → DoesAll (crosses 5 pay) start new → ⊥
+not_several : (new : Whole) → DoesAll (crosses 5 editions.Second pay) start new → ⊥
 not_several new does = let several = does.several in absurd (cc)
 
 -- a drain of one warehouse alone
@@ -340,11 +341,11 @@ idle_stays number old new place there idle changes =
     replaced (suc before) places there = set_same places before there
 
 -- so a purchase that begins there enters behind the serial list of that moment
-entered_only : (new : Whole) → DoesAll (crosses 6 order) paid new
-    → (new ≡ paid) ⊎ (new ≡ with_entry paid 6 (entry_behind paid order 0))
+entered_only : (new : Whole) → DoesAll (crosses 6 editions.Second order) paid new
+    → (new ≡ paid) ⊎ (new ≡ with_entry paid 6 (entry_behind paid editions.Second order 0))
 entered_only new does = elim does.does [
   | inl refused ↦ inl (refused ∙ ended)
-  | inr accepts ↦ inr (accepts.1 ∙ ap (λ (w : Whole). with_entry w 6 (entry_behind w order 0)) ended)
+  | inr accepts ↦ inr (accepts.1 ∙ ap (λ (w : Whole). with_entry w 6 (entry_behind w editions.Second order 0)) ended)
 ]
   where
     first : does.ends.0 ≡ paid
@@ -358,15 +359,15 @@ entered_only new does = elim does.does [
         ∙ first
 
 -- a purchase that one of its warehouses doesn't keep
-not_kept : DoesAll (crosses 6 order) paid (record bought { places = place_in paid 1 ∷ place_in bought 2 ∷ [] }) → ⊥
+not_kept : DoesAll (crosses 6 editions.Second order) paid (record bought { places = place_in paid 1 ∷ place_in bought 2 ∷ [] }) → ⊥
 not_kept does = elim (entered_only _ does) [
   | inl same ↦ let entered = ap (λ (w : Whole). length w.log) same in absurd (omega (arith, entered))
   | inr same ↦ let kept = ap (λ (w : Whole). length (kept_at w.places 1)) same in absurd (omega (arith, kept))
 ]
 
 -- one that has the number 2, where it is the first over several warehouses
-not_numbered : DoesAll (crosses 6 order) paid
-    (with_entry paid 6 (record { commit = commits.Cross 2 order; stamp = 0 })) → ⊥
+not_numbered : DoesAll (crosses 6 editions.Second order) paid
+    (with_entry paid 6 (record { commit = commits.Cross editions.Second 2 order; stamp = 0 })) → ⊥
 not_numbered does = elim (entered_only _ does) [
   | inl same ↦ let entered = ap (λ (w : Whole). length w.log) same in absurd (omega (arith, entered))
   | inr same ↦ let numbers = ap numbers_in same in absurd (omega (arith, numbers))
@@ -376,11 +377,11 @@ not_numbered does = elim (entered_only _ does) [
     numbers_in whole = fold (λ total (entry : Entry Commit). total + unwrap_or (number_of entry.commit) 0) 0 whole.log
 
 -- one before which the payment, of which a slice is left, didn't end
-not_before : DoesAll (crosses 6 order) (paying 1) (with_entry (paying 1) 6 (entry_behind (paying 1) order 0)) → ⊥
+not_before : DoesAll (crosses 6 editions.Second order) (paying 1) (with_entry (paying 1) 6 (entry_behind (paying 1) editions.Second order 0)) → ⊥
 not_before does = elim does.does [
   | inl same ↦ let runs = ap runs_in same ∙ ap runs_in ended ∙ idle in absurd (cc)
   | inr same ↦
-      let runs = ap runs_in same.1 ∙ ap (λ (w : Whole). runs_in (with_entry w 6 (entry_behind w order 0))) ended
+      let runs = ap runs_in same.1 ∙ ap (λ (w : Whole). runs_in (with_entry w 6 (entry_behind w editions.Second order 0))) ended
       ∙ idle in
       absurd (cc)
 ]

@@ -17,7 +17,7 @@ ghost use Rattle.hy_forks.specs.Drains.{DrainsHere, TellsHere};
 ghost use Rattle.hy_forks.specs.Forks.{ClosesHere, ForksAll, IsUnforked};
 ghost use Rattle.hy_schedules.specs.Schedules.{DoesAll, EventOfAll, HasSnapshotOf, IsWholeOf, KeepsEverything, LeadsAll, RunsAll, Whole, at, children_of, closes_all, crosses, drains, forks_all, fresh_whole, looks, place_at};
 
-use hy_commands::{Command, Commit, StockLevel};
+use hy_commands::{Command, Commit, Edition, StockLevel};
 use hy_partition::calls_are_events;
 use hy_passes::projections_agree;
 
@@ -39,7 +39,7 @@ pub fn every_schedule_of_all()
         district: 1,
         threshold: 10,
     };
-    projections_agree(&Commit::Local(Command::StockLevel(level)));
+    projections_agree(&Commit::Local(Edition::Second, Command::StockLevel(level)));
 }
 
 /// Does nothing: its contract says that the calls on the partitions of all warehouses are events of the model. What a
@@ -55,7 +55,7 @@ pub fn calls_of_all_are_events()
     ensures begin { (n place : ℕ) (log : Log) (parts news : List PartitionState) (whole : Whole) (job : JobState)
         → IsWholeOf n log parts whole → place < length parts → whole.known job.pass.client ≡ length job.pass.seen
         → ChangesAt (λ p q. (begin_refusal p job.command ≡ None) × (q ≡ with_job p job)) place parts news
-        → LeadsAll n (at (suc place) (begins job.pass.client job.command)) whole log news }
+        → LeadsAll n (at (suc place) (begins job.pass.client job.edition job.command)) whole log news }
     ensures step { (n place : ℕ) (log after : Log) (parts news : List PartitionState) (whole : Whole) (job : RunningJob)
         (progress : Progress) → IsWholeOf n log parts whole → place < length parts
         → ChangesAt (λ p q. (p.running ≡ Some job) × StepsTo job (Some log) (Some after) p q progress) place parts news
@@ -78,7 +78,7 @@ pub fn calls_of_all_are_events()
         (answer : DoneState) (whole : Whole) → IsWholeOf n log parts whole → IsLoad lists → ArePartitions lists parts
         → nat_lt 1 (length (warehouses_of job.command)) ≡ true
         → whole.known job.pass.client ≡ length job.pass.seen → Crosses lists job log after parts news answer
-        → LeadsAll n (crosses job.pass.client job.command) whole after news }
+        → LeadsAll n (crosses job.pass.client job.edition job.command) whole after news }
     ensures fork_all { (n : ℕ) (kit : Origin) (log known : Log) (client : ℕ) (parts news : List PartitionState)
         (whole : Whole) (snapshots : List SnapshotState) → IsWholeOf n log parts whole
         → ForksAll n kit log known parts news snapshots

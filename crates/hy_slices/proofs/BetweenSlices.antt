@@ -11,6 +11,7 @@ use Rattle.hy_commands.specs.declared.command.Payment.{Payment}
 use Rattle.hy_commands.specs.declared.command.Purchase.{Purchase}
 use Rattle.hy_commands.specs.declared.command.PurchaseLine.{PurchaseLine}
 use Rattle.hy_commands.specs.declared.command.StockLevel.{StockLevel}
+use Rattle.hy_commands.specs.declared.edition.Edition.{Edition}
 use Rattle.hy_commands.specs.Deliveries.{oldest}
 use Rattle.hy_commands.specs.Invariant.{IsSoundWarehouse}
 use Rattle.hy_commands.specs.NewOrders.{order_number}
@@ -26,9 +27,9 @@ use Rattle.hy_slices.proofs.WholeLaws.{IsPlacing, number-headed_next, placing-he
 
 -- ---- a purchase
 
-module _ (items : List Item) (number : ℕ) (order : Purchase) (tables : Tables) (sound : IsSoundWarehouse items number tables) (begins : Begins number (commands.NewOrder order) tables) where
+module _ (items : List Item) (number : ℕ) (edition : Edition) (order : Purchase) (tables : Tables) (sound : IsSoundWarehouse items number tables) (begins : Begins number (commands.NewOrder order) tables) where
   abbrev after : ℕ → Tables
-  after done = after_slices items number (commands.NewOrder order) done tables
+  after done = after_slices items number edition (commands.NewOrder order) done tables
 
   pub number-slices : (done : ℕ) → order_number order (after (suc done)) ≡ order_number order tables + 1
   number-slices zero =
@@ -54,24 +55,26 @@ module _ (items : List Item) (number : ℕ) (order : Purchase) (tables : Tables)
 
 -- ---- a payment
 
-whole-payment : (items : List Item) (number : ℕ) (payment : Payment) (tables : Tables) (done : ℕ)
+whole-payment : (items : List Item) (number : ℕ) (edition : Edition) (payment : Payment) (tables : Tables) (done : ℕ)
     → IsSoundWarehouse items number tables → begin_refusal_of number (commands.Payment payment) tables ≡ None
-    → done ≤ 2 → IsWholeWarehouse items number (after_slices items number (commands.Payment payment) done tables)
-whole-payment items number payment tables zero sound begins within = whole-sound items number tables sound
-whole-payment items number payment tables (suc zero) sound begins within =
-    whole-sound items number (after_slices items number (commands.Payment payment) 1 tables)
+    → done ≤ 2
+    → IsWholeWarehouse items number (after_slices items number edition (commands.Payment payment) done tables)
+whole-payment items number edition payment tables zero sound begins within = whole-sound items number tables sound
+whole-payment items number edition payment tables (suc zero) sound begins within =
+    whole-sound items number (after_slices items number edition (commands.Payment payment) 1 tables)
     (sound-paid_in items number payment (payer payment tables).id tables (begun-payment number payment tables begins)
     sound)
-whole-payment items number payment tables (suc (suc zero)) sound begins within =
-    whole-sound items number (after_slices items number (commands.Payment payment) 2 tables)
-    (sound-paid items number payment (payer payment tables).id tables (begun-payment number payment tables begins) sound)
-whole-payment items number payment tables (suc (suc (suc done))) sound begins within = absurd (omega arith)
+whole-payment items number edition payment tables (suc (suc zero)) sound begins within =
+    whole-sound items number (after_slices items number edition (commands.Payment payment) 2 tables)
+    (sound-paid items number edition payment (payer payment tables).id tables
+    (begun-payment number payment tables begins) sound)
+whole-payment items number edition payment tables (suc (suc (suc done))) sound begins within = absurd (omega arith)
 
 -- ---- a delivery
 
-module _ (items : List Item) (number : ℕ) (delivery : Delivery) (tables : Tables) (sound : IsSoundWarehouse items number tables) (begins : begin_refusal_of number (commands.Delivery delivery) tables ≡ None) where
+module _ (items : List Item) (number : ℕ) (edition : Edition) (delivery : Delivery) (tables : Tables) (sound : IsSoundWarehouse items number tables) (begins : begin_refusal_of number (commands.Delivery delivery) tables ≡ None) where
   abbrev delivered : ℕ → Tables
-  delivered done = after_slices items number (commands.Delivery delivery) done tables
+  delivered done = after_slices items number edition (commands.Delivery delivery) done tables
 
   pub sound-slices : (done : ℕ) → IsSoundWarehouse items number (delivered done)
   sound-slices zero = sound
@@ -97,34 +100,36 @@ module _ (items : List Item) (number : ℕ) (delivery : Delivery) (tables : Tabl
 
 -- ---- commands that only read
 
-pub status-slices : (items : List Item) (number : ℕ) (status : OrderStatus) (tables : Tables) (done : ℕ)
-    → after_slices items number (commands.OrderStatus status) done tables ≡ tables
-status-slices items number status tables zero = refl
-status-slices items number status tables (suc done) = status-slices items number status tables done
+pub status-slices : (items : List Item) (number : ℕ) (edition : Edition) (status : OrderStatus) (tables : Tables)
+    (done : ℕ)
+    → after_slices items number edition (commands.OrderStatus status) done tables ≡ tables
+status-slices items number edition status tables zero = refl
+status-slices items number edition status tables (suc done) = status-slices items number edition status tables done
 
-pub level-slices : (items : List Item) (number : ℕ) (level : StockLevel) (tables : Tables) (done : ℕ)
-    → after_slices items number (commands.StockLevel level) done tables ≡ tables
-level-slices items number level tables zero = refl
-level-slices items number level tables (suc done) = level-slices items number level tables done
+pub level-slices : (items : List Item) (number : ℕ) (edition : Edition) (level : StockLevel) (tables : Tables)
+    (done : ℕ)
+    → after_slices items number edition (commands.StockLevel level) done tables ≡ tables
+level-slices items number edition level tables zero = refl
+level-slices items number edition level tables (suc done) = level-slices items number edition level tables done
 
 -- ---- all commands
 
-pub whole-slices : (items : List Item) (number : ℕ) (command : Command) (tables : Tables) (done : ℕ)
+pub whole-slices : (items : List Item) (number : ℕ) (edition : Edition) (command : Command) (tables : Tables) (done : ℕ)
     → IsSoundWarehouse items number tables → Begins number command tables
     → done ≤ slice_count command → has_items_before items command done ≡ true
-    → IsWholeWarehouse items number (after_slices items number command done tables)
-whole-slices items number (commands.NewOrder order) tables zero sound begins within known =
+    → IsWholeWarehouse items number (after_slices items number edition command done tables)
+whole-slices items number edition (commands.NewOrder order) tables zero sound begins within known =
     whole-sound items number tables sound
-whole-slices items number (commands.NewOrder order) tables (suc done) sound begins within known =
-    (placing-slices items number order tables sound begins done known).whole
-whole-slices items number (commands.Payment payment) tables done sound begins within known =
-    whole-payment items number payment tables done sound (alone-payment number payment tables begins) within
-whole-slices items number (commands.OrderStatus status) tables done sound begins within known =
-    subst (IsWholeWarehouse items number) (sym (status-slices items number status tables done))
+whole-slices items number edition (commands.NewOrder order) tables (suc done) sound begins within known =
+    (placing-slices items number edition order tables sound begins done known).whole
+whole-slices items number edition (commands.Payment payment) tables done sound begins within known =
+    whole-payment items number edition payment tables done sound (alone-payment number payment tables begins) within
+whole-slices items number edition (commands.OrderStatus status) tables done sound begins within known =
+    subst (IsWholeWarehouse items number) (sym (status-slices items number edition status tables done))
     (whole-sound items number tables sound)
-whole-slices items number (commands.Delivery delivery) tables done sound begins within known =
-    whole-sound items number (after_slices items number (commands.Delivery delivery) done tables)
-    (sound-slices items number delivery tables sound (alone-delivery number delivery tables begins) done)
-whole-slices items number (commands.StockLevel level) tables done sound begins within known =
-    subst (IsWholeWarehouse items number) (sym (level-slices items number level tables done))
+whole-slices items number edition (commands.Delivery delivery) tables done sound begins within known =
+    whole-sound items number (after_slices items number edition (commands.Delivery delivery) done tables)
+    (sound-slices items number edition delivery tables sound (alone-delivery number delivery tables begins) done)
+whole-slices items number edition (commands.StockLevel level) tables done sound begins within known =
+    subst (IsWholeWarehouse items number) (sym (level-slices items number edition level tables done))
     (whole-sound items number tables sound)

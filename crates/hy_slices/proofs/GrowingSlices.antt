@@ -21,6 +21,7 @@ use Rattle.hy_commands.specs.declared.command.Delivery.{Delivery}
 use Rattle.hy_commands.specs.declared.command.Payment.{Payment}
 use Rattle.hy_commands.specs.declared.command.Purchase.{Purchase}
 use Rattle.hy_commands.specs.declared.command.PurchaseLine.{PurchaseLine}
+use Rattle.hy_commands.specs.declared.edition.Edition.{Edition}
 use Rattle.hy_commands.specs.Commands.{is_line_in_range}
 use Rattle.hy_commands.specs.Growth.{HasGrownBy, IsDistrictUpTo}
 use Rattle.hy_commands.specs.Invariant.{IsSoundWarehouse}
@@ -49,9 +50,9 @@ All-at P rows place row is all =
 module _ (items : List Item) (fits : ItemsFit items) (number : ℕ) (near : number ≤ 16) (n : ℕ) (tables : Tables) (sound : IsSoundWarehouse items number tables) (grown : HasGrownBy n tables) where
   -- ---- a purchase
 
-  module _ (order : Purchase) (begins : Begins number (commands.NewOrder order) tables) where
+  module _ (edition : Edition) (order : Purchase) (begins : Begins number (commands.NewOrder order) tables) where
     abbrev after : ℕ → Tables
-    after done = after_slices items number (commands.NewOrder order) done tables
+    after done = after_slices items number edition (commands.NewOrder order) done tables
 
     number-small : order_number order tables ≤ 1_000_000_000 + n
     number-small =
@@ -95,7 +96,7 @@ module _ (items : List Item) (fits : ItemsFit items) (number : ℕ) (near : numb
         let both = and_parts (has_items_before items (commands.NewOrder order) (suc done))
         (has_item_at items (commands.NewOrder order) (suc done)) known in
         let few = (bounds 5 15 (length order.lines) ((begun-purchase number order tables begins).0).count).1 in
-        let next = number-slices items number order tables sound begins done in
+        let next = number-slices items number edition order tables sound begins done in
         growing-line done (after (suc done)) (line_behind order done) (omega (arith, few)) refl both.1
         (omega (arith, next, number-small)) (growing-purchase done (omega arith) both.0)
 
@@ -109,13 +110,14 @@ module _ (items : List Item) (fits : ItemsFit items) (number : ℕ) (near : numb
 
   -- ---- a payment
 
-  grown-payment : (payment : Payment) (done : ℕ) → begin_refusal_of number (commands.Payment payment) tables ≡ None
-      → done ≤ 2 → HasGrownBy (n + 1) (after_slices items number (commands.Payment payment) done tables)
-  grown-payment payment zero begins within = grown-later n tables grown
-  grown-payment payment (suc done) begins within =
+  grown-payment : (edition : Edition) (payment : Payment) (done : ℕ)
+      → begin_refusal_of number (commands.Payment payment) tables ≡ None
+      → done ≤ 2 → HasGrownBy (n + 1) (after_slices items number edition (commands.Payment payment) done tables)
+  grown-payment edition payment zero begins within = grown-later n tables grown
+  grown-payment edition payment (suc done) begins within =
       let passed = begun-payment number payment tables begins in
       let customer : ℕ = (payer payment tables).id in
-      let paid = grown-paid payment (payer payment tables).id tables n passed.amount passed.moment
+      let paid = grown-paid edition payment (payer payment tables).id tables n passed.amount passed.moment
       (payer-small payment tables n (10 * n) grown.customers) grown in
       let later = grown-later n tables grown in
       rest done (omega (arith, within)) paid record {
@@ -130,49 +132,55 @@ module _ (items : List Item) (fits : ItemsFit items) (number : ℕ) (near : numb
       }
     where
       rest : (done : ℕ) → done ≤ 1
-          → HasGrownBy (n + 1) (after_slices items number (commands.Payment payment) 2 tables)
-          → HasGrownBy (n + 1) (after_slices items number (commands.Payment payment) 1 tables)
-          → HasGrownBy (n + 1) (after_slices items number (commands.Payment payment) (suc done) tables)
+          → HasGrownBy (n + 1) (after_slices items number edition (commands.Payment payment) 2 tables)
+          → HasGrownBy (n + 1) (after_slices items number edition (commands.Payment payment) 1 tables)
+          → HasGrownBy (n + 1) (after_slices items number edition (commands.Payment payment) (suc done) tables)
       rest zero within all first = first
       rest (suc zero) within all first = all
       rest (suc (suc done)) within all first = absurd (omega arith)
 
   -- ---- a delivery
 
-  module _ (delivery : Delivery) (begins : begin_refusal_of number (commands.Delivery delivery) tables ≡ None) where
+  module _ (edition : Edition) (delivery : Delivery)
+      (begins : begin_refusal_of number (commands.Delivery delivery) tables ≡ None) where
     growing-delivery : (done : ℕ)
-        → IsGrowing (n + 1) (10 * n + done) (15 * n) (after_slices items number (commands.Delivery delivery) done tables)
+        → IsGrowing (n + 1) (10 * n + done) (15 * n)
+        (after_slices items number edition (commands.Delivery delivery) done tables)
     growing-delivery zero =
         growing-later (n + 1) (10 * n) (10 * n + 0) (15 * n) (15 * n) tables (omega arith) (omega arith)
         (growing-start n tables grown)
     growing-delivery (suc done) =
         let passed = begun-delivery number delivery tables begins in
-        let before : Tables = after_slices items number (commands.Delivery delivery) done tables in
+        let before : Tables = after_slices items number edition (commands.Delivery delivery) done tables in
         growing-later (n + 1) (10 * n + done + 1) (10 * n + suc done) (15 * n) (15 * n)
-        (after_slices items number (commands.Delivery delivery) (suc done) tables) (omega arith) (omega arith)
+        (after_slices items number edition (commands.Delivery delivery) (suc done) tables) (omega arith) (omega arith)
         (growing-delivered_in items number delivery passed.carrier passed.moment (n + 1) (10 * n + done) (15 * n) before
-        (done + 1) (sound-slices items number delivery tables sound begins done) (growing-delivery done))
+        (done + 1) (sound-slices items number edition delivery tables sound begins done) (growing-delivery done))
 
     grown-delivery : (done : ℕ) → done ≤ 10
-        → HasGrownBy (n + 1) (after_slices items number (commands.Delivery delivery) done tables)
+        → HasGrownBy (n + 1) (after_slices items number edition (commands.Delivery delivery) done tables)
     grown-delivery done within =
-        growing-end (n + 1) (10 * n + done) (15 * n) (after_slices items number (commands.Delivery delivery) done tables)
+        growing-end (n + 1) (10 * n + done) (15 * n)
+        (after_slices items number edition (commands.Delivery delivery) done tables)
         (omega (arith, within)) (omega arith) (growing-delivery done)
 
   -- ---- all commands
 
-  pub grown-slices : (command : Command) (done : ℕ) → Begins number command tables
+  pub grown-slices : (edition : Edition) (command : Command) (done : ℕ) → Begins number command tables
       → done ≤ slice_count command → has_items_before items command done ≡ true
-      → HasGrownBy (n + 1) (after_slices items number command done tables)
-  grown-slices (commands.NewOrder order) done begins within known = grown-purchase order begins done within known
-  grown-slices (commands.Payment payment) done begins within known =
-      grown-payment payment done (alone-payment number payment tables begins) within
-  grown-slices (commands.OrderStatus status) done begins within known =
-      subst (HasGrownBy (n + 1)) (sym (status-slices items number status tables done)) (grown-later n tables grown)
-  grown-slices (commands.Delivery delivery) done begins within known =
-      grown-delivery delivery (alone-delivery number delivery tables begins) done within
-  grown-slices (commands.StockLevel level) done begins within known =
-      subst (HasGrownBy (n + 1)) (sym (level-slices items number level tables done)) (grown-later n tables grown)
+      → HasGrownBy (n + 1) (after_slices items number edition command done tables)
+  grown-slices edition (commands.NewOrder order) done begins within known =
+      grown-purchase edition order begins done within known
+  grown-slices edition (commands.Payment payment) done begins within known =
+      grown-payment edition payment done (alone-payment number payment tables begins) within
+  grown-slices edition (commands.OrderStatus status) done begins within known =
+      subst (HasGrownBy (n + 1)) (sym (status-slices items number edition status tables done))
+      (grown-later n tables grown)
+  grown-slices edition (commands.Delivery delivery) done begins within known =
+      grown-delivery edition delivery (alone-delivery number delivery tables begins) done within
+  grown-slices edition (commands.StockLevel level) done begins within known =
+      subst (HasGrownBy (n + 1)) (sym (level-slices items number edition level tables done))
+      (grown-later n tables grown)
 
 -- ---- loads
 
@@ -195,12 +203,12 @@ number-near load is_load number between =
     (is_load.warehouses.each (number - 1)) in
     omega (arith, ends.0, (bounds 1 16 (row.0).id (allowed-at (columns_of table.Warehouse) (warehouse_values row.0) right.0 0)).1, right.1)
 
-pub grown-between : (load : Lists) → IsLoad load → (number : ℕ) (commits : List Commit) (command : Command) (done : ℕ)
-    → HasWarehouse load number → Begins number command (rows_after load number commits)
+pub grown-between : (load : Lists) → IsLoad load → (number : ℕ) (commits : List Commit) (edition : Edition)
+    (command : Command) (done : ℕ) → HasWarehouse load number → Begins number command (rows_after load number commits)
     → done ≤ slice_count command → has_items_before load.items command done ≡ true
     → HasGrownBy (length commits + 1)
-    (after_slices load.items number command done (rows_after load number commits))
-grown-between load is_load number commits command done between begins within known =
+    (after_slices load.items number edition command done (rows_after load number commits))
+grown-between load is_load number commits edition command done between begins within known =
     grown-slices load.items (items-fit load is_load) number (number-near load is_load number between) (length commits)
     (rows_after load number commits) (sound-rows load number commits is_load between)
-    (grown-rows load number commits is_load between) command done begins within known
+    (grown-rows load number commits is_load between) edition command done begins within known

@@ -20,6 +20,7 @@ use Rattle.hy_commands.specs.declared.command.Command.{Command}
 use Rattle.hy_commands.specs.declared.command.Command.TheVariants as commands
 use Rattle.hy_commands.specs.declared.command.Purchase.{Purchase}
 use Rattle.hy_commands.specs.declared.command.PurchaseLine.{PurchaseLine}
+use Rattle.hy_commands.specs.declared.edition.Edition.{Edition}
 use Rattle.hy_commands.specs.NewOrders.{has_item, line_row, line_rows, order_number, ordered, sold_line, supplied, with_next_order}
 use Rattle.hy_commands.specs.Parts.{part}
 use Rattle.hy_commands.specs.Transactions.{accepted, act, begin_refusal_of, has_items, outcome_of, refusal_of}
@@ -121,18 +122,19 @@ module _ (items : List Item) (number : ℕ) (order : Purchase) (tables : Tables)
       (sym (line_rows-push items order (order_number order tables) 1 place lines line is)))
       (sym (fold-filter-push (sold_line number order) (λ line. line.supply_warehouse == number) tables.stock lines line))
 
-  pub with_lines-slices : (done : ℕ) → done ≤ length order.lines
-      → after_slices items number (commands.NewOrder order) (suc done) tables ≡ with_lines (take done order.lines)
-  with_lines-slices zero within =
+  pub with_lines-slices : (edition : Edition) (done : ℕ) → done ≤ length order.lines
+      → after_slices items number edition (commands.NewOrder order) (suc done) tables
+      ≡ with_lines (take done order.lines)
+  with_lines-slices edition zero within =
       ap (λ (order_lines : List OrderLine). record (headed order tables) { order_lines = order_lines })
       (sym (append-nil tables.order_lines))
-  with_lines-slices (suc done) within =
+  with_lines-slices edition (suc done) within =
       let more = take-more order.lines done (omega arith) in
       let line : PurchaseLine = more.0 in
       let before : List PurchaseLine = take done order.lines in
       let place : 1 + length before ≡ done + 1 = omega (arith, length-take-le done order.lines (omega arith)) in
       ap₂ (λ (tables : Tables) (line : Option PurchaseLine). with_line items number order (done + 1) tables line)
-      (with_lines-slices done (omega arith)) more.1
+      (with_lines-slices edition done (omega arith)) more.1
       ∙ ap (λ taken. lined items number order taken (done + 1) (with_lines before) line)
       (number-headed order tables)
       ∙ with_lines-push before line (done + 1) place
@@ -151,12 +153,13 @@ module _ (items : List Item) (number : ℕ) (order : Purchase) (tables : Tables)
       ∙ sym (list_all-append (has_item items) before (more.0 ∷ []))
       ∙ ap (list_all (has_item items)) (sym more.2)
 
-  pub purchase-slices : after_slices items number (commands.NewOrder order) (length order.lines + 1) tables
-      ≡ (accepted items number (commands.NewOrder order) tables).tables
-  purchase-slices =
+  pub purchase-slices : (edition : Edition)
+      → after_slices items number edition (commands.NewOrder order) (length order.lines + 1) tables
+      ≡ (accepted items number edition (commands.NewOrder order) tables).tables
+  purchase-slices edition =
       let last : length order.lines + 1 ≡ suc (length order.lines) = omega arith in
-      ap (λ done. after_slices items number (commands.NewOrder order) done tables) last
-      ∙ with_lines-slices (length order.lines) (omega arith)
+      ap (λ done. after_slices items number edition (commands.NewOrder order) done tables) last
+      ∙ with_lines-slices edition (length order.lines) (omega arith)
       ∙ ap with_lines (take-length order.lines)
 
   pub purchase-known : has_items_before items (commands.NewOrder order) (length order.lines + 1)
@@ -169,13 +172,15 @@ module _ (items : List Item) (number : ℕ) (order : Purchase) (tables : Tables)
 
 -- ---- all commands
 
-pub slices-accepted : (items : List Item) (number : ℕ) (command : Command) (tables : Tables)
-    → after_slices items number command (slice_count command) tables ≡ (accepted items number command tables).tables
-slices-accepted items number (commands.NewOrder order) tables = purchase-slices items number order tables
-slices-accepted items number (commands.Payment payment) tables = refl
-slices-accepted items number (commands.OrderStatus status) tables = refl
-slices-accepted items number (commands.Delivery delivery) tables = refl
-slices-accepted items number (commands.StockLevel level) tables = refl
+pub slices-accepted : (items : List Item) (number : ℕ) (edition : Edition) (command : Command) (tables : Tables)
+    → after_slices items number edition command (slice_count command) tables
+    ≡ (accepted items number edition command tables).tables
+slices-accepted items number edition (commands.NewOrder order) tables =
+    purchase-slices items number order tables edition
+slices-accepted items number edition (commands.Payment payment) tables = refl
+slices-accepted items number edition (commands.OrderStatus status) tables = refl
+slices-accepted items number edition (commands.Delivery delivery) tables = refl
+slices-accepted items number edition (commands.StockLevel level) tables = refl
 
 slices-known : (items : List Item) (number : ℕ) (command : Command) (tables : Tables)
     → has_items_before items command (slice_count command) ≡ has_items items command
@@ -215,23 +220,25 @@ slices-refused items number command tables done begins unknown =
     refusal-begun items number command tables false begins
     (false_from_ne_true (has_items items command) (λ known. unknown (slice-known items command done known)))
 
-pub slices-act : (items : List Item) (number : ℕ) (command : Command) (tables : Tables)
+pub slices-act : (items : List Item) (number : ℕ) (edition : Edition) (command : Command) (tables : Tables)
     → begin_refusal_of number command tables ≡ None → has_items_before items command (slice_count command) ≡ true
-    → after_slices items number command (slice_count command) tables ≡ (act items number command tables).tables
-slices-act items number command tables begins known =
-    slices-accepted items number command tables
-    ∙ ap (λ refusal. (outcome_of refusal items number command tables).tables)
+    → after_slices items number edition command (slice_count command) tables
+    ≡ (act items number edition command tables).tables
+slices-act items number edition command tables begins known =
+    slices-accepted items number edition command tables
+    ∙ ap (λ refusal. (outcome_of refusal items number edition command tables).tables)
     (sym (slices-not_refused items number command tables begins known))
 
 -- at the home of a purchase they are the home's part of it
-pub slices-part : (items : List Item) (number : ℕ) (command : Command) (tables : Tables)
+pub slices-part : (items : List Item) (number : ℕ) (edition : Edition) (command : Command) (tables : Tables)
     → BeginsPart number command tables
-    → after_slices items number command (slice_count command) tables ≡ part items number command tables
-slices-part items number (commands.NewOrder order) tables home =
-    purchase-slices items number order tables
+    → after_slices items number edition command (slice_count command) tables
+    ≡ part items number edition command tables
+slices-part items number edition (commands.NewOrder order) tables home =
+    purchase-slices items number order tables edition
     ∙ ap (λ b. supplied number order (cond b (ordered items order tables) tables))
     (sym (eq-eqb order.warehouse number home.home))
-slices-part items number (commands.Payment payment) tables never = absurd never
-slices-part items number (commands.OrderStatus status) tables never = absurd never
-slices-part items number (commands.Delivery delivery) tables never = absurd never
-slices-part items number (commands.StockLevel level) tables never = absurd never
+slices-part items number edition (commands.Payment payment) tables never = absurd never
+slices-part items number edition (commands.OrderStatus status) tables never = absurd never
+slices-part items number edition (commands.Delivery delivery) tables never = absurd never
+slices-part items number edition (commands.StockLevel level) tables never = absurd never

@@ -10,6 +10,7 @@ use Rattle.hy_commands.specs.declared.command.Command.TheVariants as commands
 use Rattle.hy_commands.specs.declared.command.Commit.{Commit}
 use Rattle.hy_commands.specs.declared.command.Delivery.{Delivery}
 use Rattle.hy_commands.specs.declared.command.Purchase.{Purchase}
+use Rattle.hy_commands.specs.declared.edition.Edition.{Edition}
 use Rattle.hy_commands.specs.Commands.{is_in_range}
 use Rattle.hy_commands.specs.Invariant.{IsSoundWarehouse}
 use Rattle.hy_commands.specs.NewOrders.{order_number}
@@ -63,8 +64,9 @@ pub record IsUnderWay (items : List Item) (number : ℕ) (command : Command) (do
 -- ---- purchases
 
 -- the rows behind the head of a purchase and so many of its lines
-abbrev pub after_lines : List Item → ℕ → Purchase → ℕ → Tables → Tables
-after_lines items number order lines tables = after_slices items number (commands.NewOrder order) (lines + 1) tables
+abbrev pub after_lines : List Item → ℕ → Edition → Purchase → ℕ → Tables → Tables
+after_lines items number edition order lines tables =
+    after_slices items number edition (commands.NewOrder order) (lines + 1) tables
 
 -- a warehouse with sound rows begins a purchase, which has so many lines at least
 pub record PlacesLines (items : List Item) (number : ℕ) (order : Purchase) (lines : ℕ) (tables : Tables)
@@ -84,8 +86,9 @@ AreLinesBefore order lines before tables = All (IsLineBefore order (order_number
 -- ---- deliveries
 
 -- the rows behind the first districts of a delivery
-abbrev pub after_districts : List Item → ℕ → Delivery → ℕ → Tables → Tables
-after_districts items number delivery done tables = after_slices items number (commands.Delivery delivery) done tables
+abbrev pub after_districts : List Item → ℕ → Edition → Delivery → ℕ → Tables → Tables
+after_districts items number edition delivery done tables =
+    after_slices items number edition (commands.Delivery delivery) done tables
 
 -- a warehouse with sound rows begins a delivery, of which so many districts are done before this one
 pub record DeliversBefore (items : List Item) (number : ℕ) (delivery : Delivery) (done district : ℕ) (tables : Tables)

@@ -9,6 +9,7 @@ use Rattle.hy_commands.specs.declared.command.Command.{Command}
 use Rattle.hy_commands.specs.declared.command.Command.TheVariants as commands
 use Rattle.hy_commands.specs.declared.command.Purchase.{Purchase}
 use Rattle.hy_commands.specs.declared.command.PurchaseLine.{PurchaseLine}
+use Rattle.hy_commands.specs.declared.edition.Edition.{Edition}
 use Rattle.hy_commands.specs.Deliveries.{delivered_in}
 use Rattle.hy_commands.specs.NewOrders.{has_item, line_row, new_order_row, order_number, order_row, sold_line, with_next_order}
 use Rattle.hy_commands.specs.Payments.{paid_by, paid_in}
@@ -59,21 +60,22 @@ with_line items warehouse order place tables (Some line) =
 -- ---- slices
 
 -- what a command's next slice does at its warehouse, where so many are done
-abbrev pub sliced : List Item → ℕ → Command → ℕ → Tables → Tables
-sliced items warehouse (commands.NewOrder order) zero tables = headed order tables
-sliced items warehouse (commands.NewOrder order) (suc done) tables =
+abbrev pub sliced : List Item → ℕ → Edition → Command → ℕ → Tables → Tables
+sliced items warehouse edition (commands.NewOrder order) zero tables = headed order tables
+sliced items warehouse edition (commands.NewOrder order) (suc done) tables =
     with_line items warehouse order (done + 1) tables (line_behind order done)
-sliced items warehouse (commands.Payment payment) zero tables = paid_in payment (payer payment tables).id tables
-sliced items warehouse (commands.Payment payment) (suc done) tables = paid_by payment (payer payment tables).id tables
-sliced items warehouse (commands.OrderStatus status) done tables = tables
-sliced items warehouse (commands.Delivery delivery) done tables = delivered_in delivery tables (done + 1)
-sliced items warehouse (commands.StockLevel level) done tables = tables
+sliced items warehouse edition (commands.Payment payment) zero tables = paid_in payment (payer payment tables).id tables
+sliced items warehouse edition (commands.Payment payment) (suc done) tables =
+    paid_by edition payment (payer payment tables).id tables
+sliced items warehouse edition (commands.OrderStatus status) done tables = tables
+sliced items warehouse edition (commands.Delivery delivery) done tables = delivered_in delivery tables (done + 1)
+sliced items warehouse edition (commands.StockLevel level) done tables = tables
 
 -- the rows after the first slices
-abbrev pub after_slices : List Item → ℕ → Command → ℕ → Tables → Tables
-after_slices items warehouse command zero tables = tables
-after_slices items warehouse command (suc done) tables =
-    sliced items warehouse command done (after_slices items warehouse command done tables)
+abbrev pub after_slices : List Item → ℕ → Edition → Command → ℕ → Tables → Tables
+after_slices items warehouse edition command zero tables = tables
+after_slices items warehouse edition command (suc done) tables =
+    sliced items warehouse edition command done (after_slices items warehouse edition command done tables)
 
 -- ---- items that aren't there
 

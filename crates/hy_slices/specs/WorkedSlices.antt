@@ -1,6 +1,7 @@
 -- Examples of slices on the small warehouse of `hy_commands`, each with values from hand calculation; the checker
 -- computes them.
-use Rattle.std.specs.Prelude.{◌≡◌, ◌≤◌, ℕ, ℤ, pos, negsuc, nat_le, true, false, Some, None, List, [], ◌∷◌, map, length, refl}
+use Rattle.std.specs.Prelude.{◌≡◌, ◌≤◌, ℕ, ℤ, pos, negsuc, nat_le, true, false, Some, None, List, [], ◌∷◌, map, codes, length, refl}
+use Rattle.std.specs.Fmt.{digits}
 use Rattle.std.proofs.Common.{inl, inr, arith}
 use Rattle.std.proofs.lemmas.Bool.{leb-true}
 use Rattle.std.proofs.lemmas.List.Elements.{All-weaker}
@@ -20,10 +21,12 @@ use Rattle.hy_commands.specs.declared.command.Command.TheVariants as commands
 use Rattle.hy_commands.specs.declared.command.Purchase.{Purchase}
 use Rattle.hy_commands.specs.declared.command.PurchaseLine.{PurchaseLine}
 use Rattle.hy_commands.specs.declared.command.Who.TheVariants as who
+use Rattle.hy_commands.specs.declared.edition.Edition.{Edition}
+use Rattle.hy_commands.specs.declared.edition.Edition.TheVariants as editions
 use Rattle.hy_schema.specs.declared.refusal.Refusal.TheVariants as refusals
 use Rattle.hy_commands.specs.Parts.{part}
 use Rattle.hy_commands.specs.Transactions.{act, begin_refusal_of}
-use Rattle.hy_commands.specs.WorkedSample.{after, bought, delivery, five_of_each, items, level, payment, purchase, sample, status, stock_columns}
+use Rattle.hy_commands.specs.WorkedSample.{after, bought, customers, delivery, five_of_each, items, level, payment, purchase, sample, status, stock_columns}
 use Rattle.hy_slices.specs.Begun.{Begins}
 use Rattle.hy_slices.specs.Slices.{after_slices, has_item_at, has_items_before, slice_count}
 
@@ -42,7 +45,7 @@ counts = refl
 -- ---- a purchase
 
 abbrev sliced_purchase : ℕ → Tables
-sliced_purchase done = after_slices items 1 five_lines done sample
+sliced_purchase done = after_slices items 1 editions.Second five_lines done sample
 
 -- the head alone: the next number of district 3 is taken, and its order waits without a line
 abbrev next_orders_of_head : map (λ (row : District). row.next_order) (sliced_purchase 1).districts
@@ -91,7 +94,7 @@ abbrev stock_of_three_lines : stock_columns 1 (sliced_purchase 4) ≡ 100 ∷ 9 
 stock_of_three_lines = refl
 
 -- all slices do what the command does
-abbrev whole_purchase : sliced_purchase 6 ≡ (act items 1 five_lines sample).tables
+abbrev whole_purchase : sliced_purchase 6 ≡ (act items 1 editions.Second five_lines sample).tables
 whole_purchase = refl
 
 abbrev whole_purchase_is_consistent : first_broken (sliced_purchase 6) ≡ None
@@ -99,7 +102,7 @@ whole_purchase_is_consistent = refl
 
 -- a second one in the district has the number 2 in each of its slices
 abbrev second_purchase : ℕ → Tables
-second_purchase done = after_slices items 1 five_lines done (after (five_of_each 3 ∷ []))
+second_purchase done = after_slices items 1 editions.Second five_lines done (after (five_of_each 3 ∷ []))
 
 abbrev orders_of_second : map (λ (row : Order). row.id) (second_purchase 2).orders ≡ 1 ∷ 2 ∷ []
 orders_of_second = refl
@@ -116,7 +119,7 @@ abbrev remote_order : Purchase
 remote_order = record { warehouse = 1; district = 3; customer = 1; at = 6; lines = from_afar ∷ [] }
 
 abbrev remote_line : Tables
-remote_line = after_slices items 1 (commands.NewOrder remote_order) 2 sample
+remote_line = after_slices items 1 editions.Second (commands.NewOrder remote_order) 2 sample
 
 abbrev row_of_remote_line : map (λ (row : OrderLine). row.supply_warehouse) remote_line.order_lines ≡ 2 ∷ []
 row_of_remote_line = refl
@@ -160,7 +163,7 @@ not_its_home (inl begins) = absurd (cc)
 not_its_home (inr home) = absurd (omega (arith, home.home))
 
 abbrev sliced_crossing : ℕ → Tables
-sliced_crossing done = after_slices items 1 crossing done sample
+sliced_crossing done = after_slices items 1 editions.Second crossing done sample
 
 -- the order isn't all local
 abbrev order_of_crossing : (sliced_crossing 1).orders
@@ -191,7 +194,7 @@ abbrev stock_of_crossing : map (λ item. stock_columns item (sliced_crossing 6))
 stock_of_crossing = refl
 
 -- all slices do what the part of the home warehouse is
-abbrev whole_crossing : sliced_crossing 6 ≡ part items 1 crossing sample
+abbrev whole_crossing : sliced_crossing 6 ≡ part items 1 editions.Second crossing sample
 whole_crossing = refl
 
 abbrev whole_crossing_is_consistent : first_broken (sliced_crossing 6) ≡ None
@@ -214,7 +217,7 @@ asked_before = refl
 -- ---- a payment in district 2, by customer 1 of district 1
 
 abbrev sliced_payment : ℕ → Tables
-sliced_payment done = after_slices items 1 bill done sample
+sliced_payment done = after_slices items 1 editions.Second bill done sample
 
 abbrev warehouse_ytd : ℕ → List ℤ
 warehouse_ytd done = map (λ (row : Warehouse). row.ytd) (sliced_payment done).warehouses
@@ -241,8 +244,45 @@ ytd_of_second = refl
 abbrev payer_of_second : payer_columns 2 ≡ (negsuc 1_099, pos 1_100, 2)
 payer_of_second = refl
 
-abbrev whole_payment : sliced_payment 2 ≡ (act items 1 bill sample).tables
+abbrev whole_payment : sliced_payment 2 ≡ (act items 1 editions.Second bill sample).tables
 whole_payment = refl
+
+-- ---- a payment of a customer with bad credit: the customer's slice notes it in C_DATA, but in the first edition
+
+abbrev with_bad_credit : Tables
+with_bad_credit = record sample {
+  customers =
+      map {A = Customer} {B = Customer} (λ row. record row { credit = codes "BC"; information = codes "old" })
+      (customers 1);
+}
+
+abbrev notes_after : Edition → ℕ → List (List ℕ)
+notes_after edition done =
+    map (λ (row : Customer). row.information) (after_slices items 1 edition bill done with_bad_credit).customers
+
+-- the customer's number, district and warehouse, the district and the warehouse that take the payment, and the cents
+notes_by_slice : map (notes_after editions.Second) (0 ∷ 1 ∷ 2 ∷ [])
+    ≡ (codes "old" ∷ codes "old" ∷ codes "old" ∷ []) ∷ (codes "old" ∷ codes "old" ∷ codes "old" ∷ [])
+    ∷ (codes "1 1 1 2 1 100;old" ∷ codes "old" ∷ codes "old" ∷ []) ∷ []
+unfolding digits
+notes_by_slice = refl
+
+notes_of_first_edition : map (notes_after editions.First) (0 ∷ 1 ∷ 2 ∷ [])
+    ≡ (codes "old" ∷ codes "old" ∷ codes "old" ∷ []) ∷ (codes "old" ∷ codes "old" ∷ codes "old" ∷ [])
+    ∷ (codes "old" ∷ codes "old" ∷ codes "old" ∷ []) ∷ []
+unfolding digits
+notes_of_first_edition = refl
+
+-- all slices do what the command does in either edition
+whole_noted_payment : after_slices items 1 editions.Second bill 2 with_bad_credit
+    ≡ (act items 1 editions.Second bill with_bad_credit).tables
+unfolding digits
+whole_noted_payment = refl
+
+whole_payment_of_first_edition : after_slices items 1 editions.First bill 2 with_bad_credit
+    ≡ (act items 1 editions.First bill with_bad_credit).tables
+unfolding digits
+whole_payment_of_first_edition = refl
 
 -- ---- a delivery of one order each in districts 1, 3 and 10
 
@@ -250,7 +290,7 @@ abbrev three_orders : Tables
 three_orders = after (five_of_each 1 ∷ five_of_each 3 ∷ five_of_each 10 ∷ [])
 
 abbrev sliced_delivery : ℕ → Tables
-sliced_delivery done = after_slices items 1 delivery done three_orders
+sliced_delivery done = after_slices items 1 editions.Second delivery done three_orders
 
 -- the districts with an undelivered order, and the carriers of the orders
 abbrev waiting_after : ℕ → List ℕ
@@ -267,5 +307,5 @@ abbrev carriers_by_slice : map carriers_after (0 ∷ 1 ∷ 2 ∷ 3 ∷ 10 ∷ []
     ≡ (0 ∷ 0 ∷ 0 ∷ []) ∷ (7 ∷ 0 ∷ 0 ∷ []) ∷ (7 ∷ 0 ∷ 0 ∷ []) ∷ (7 ∷ 7 ∷ 0 ∷ []) ∷ (7 ∷ 7 ∷ 7 ∷ []) ∷ []
 carriers_by_slice = refl
 
-abbrev whole_delivery : sliced_delivery 10 ≡ (act items 1 delivery three_orders).tables
+abbrev whole_delivery : sliced_delivery 10 ≡ (act items 1 editions.Second delivery three_orders).tables
 whole_delivery = refl

@@ -147,8 +147,10 @@ pub no-item : {Found Row : Type 0} (now : Found → Row) (found : Option Found) 
 no-item now None row none is = sym is
 no-item now (Some item) row none is = absurd (cc)
 
-pub list-there : {Row : Type 0} (rows : List (List Row)) (place : ℕ) (row : List Row) → place < length rows
-    → row ≡ slice_index_or rows place [] → slice_get rows place ≡ Some row
-list-there [] place row within here = absurd (omega (arith, within))
-list-there (first ∷ rows) zero row within here = ap Some (sym here)
-list-there (first ∷ rows) (suc place) row within here = list-there rows place row (omega (arith, within)) here
+-- an item that is told by its place, whatever is told where there is none
+pub item-there : {Row : Type 0} (rows : List Row) (place : ℕ) (row none : Row) → place < length rows
+    → row ≡ slice_index_or rows place none → slice_get rows place ≡ Some row
+item-there [] place row none within here = absurd (omega (arith, within))
+item-there (first ∷ rows) zero row none within here = ap Some (sym here)
+item-there (first ∷ rows) (suc place) row none within here =
+    item-there rows place row none (omega (arith, within)) here

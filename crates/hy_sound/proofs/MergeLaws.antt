@@ -1,25 +1,26 @@
 -- What a merge has left.
-use Rattle.std.proofs.Common.{◌≡◌, ◌≢◌, ◌⊎◌, ◌<◌, ◌≤◌, ◌+◌, ◌==◌, ℕ, suc, Bool, true, false, List, [], ◌∷◌, length, take, drop, slice_get, Option, Some, None, inl, inr, refl, sym, ap, ◌∙◌, arith, subst}
+use Rattle.std.proofs.Common.{◌≡◌, ◌≢◌, ◌⊎◌, ◌<◌, ◌≤◌, ◌+◌, ◌==◌, ℕ, suc, Bool, true, false, List, [], ◌∷◌, length, drop, slice_get, Some, inl, inr, refl, sym, ap, ◌∙◌, arith, subst}
 use Rattle.std.specs.Prelude.{slice_index, slice_set, slice_index_or}
 use Rattle.std.proofs.lemmas.Bool.{eqb-false, eqb-true, true≢false}
 use Rattle.hy_commands.specs.declared.command.Command.{Command}
 use Rattle.hy_commands.specs.declared.command.Commit.{Commit}
 use Rattle.hy_commands.specs.declared.command.Commit.TheVariants as commits
+use Rattle.hy_commands.specs.declared.edition.Edition.{Edition}
 use Rattle.hy_batches.specs.Grammar.{names}
 use Rattle.hy_sound.specs.Sound.{list_at}
-use Rattle.hy_sound.specs.Merges.{GoesOnAt, LacksCrossing, MergeState, PassesCrossing, count_of, left_of, next_of}
+use Rattle.hy_sound.specs.Merges.{MergeState, PassesCrossing, count_of, left_of}
 use Rattle.hy_sound.proofs.ListLaws.{drop-next, get-left, index-here, index-set_here, index-set_other, next-first, none-left}
 
 pub next-left : (merge : MergeState) (place : ℕ)
-    → slice_get (left_of merge place) 0 ≡ slice_get (list_at merge.batch place) (slice_index merge.passed place)
+    → slice_get (left_of merge place) 0 ≡ slice_get (list_at merge.lists place) (slice_index merge.passed place)
 unfolding left_of
-next-left merge place = get-left (slice_index merge.passed place) (list_at merge.batch place)
+next-left merge place = get-left (slice_index merge.passed place) (list_at merge.lists place)
 
 -- nothing was passed
 pub left-first : (merge : MergeState) (place : ℕ) → slice_index merge.passed place ≡ 0
-    → left_of merge place ≡ list_at merge.batch place
+    → left_of merge place ≡ list_at merge.lists place
 unfolding left_of
-left-first merge place none = ap (λ n. drop n (list_at merge.batch place)) none
+left-first merge place none = ap (λ n. drop n (list_at merge.lists place)) none
 
 -- one more was passed
 module _ (merge : MergeState) (place number : ℕ) (within : place < length merge.passed)
@@ -30,53 +31,55 @@ module _ (merge : MergeState) (place number : ℕ) (within : place < length merg
   pub left-passed : left_of passed-one place ≡ drop 1 (left_of merge place)
   unfolding left_of
   left-passed =
-      ap (λ n. drop n (list_at merge.batch place)) (index-set_here merge.passed place (number + 1) within)
-      ∙ ap (λ n. drop (n + 1) (list_at merge.batch place)) (sym (index-here merge.passed place number within here))
-      ∙ drop-next (slice_index merge.passed place) (list_at merge.batch place)
+      ap (λ n. drop n (list_at merge.lists place)) (index-set_here merge.passed place (number + 1) within)
+      ∙ ap (λ n. drop (n + 1) (list_at merge.lists place)) (sym (index-here merge.passed place number within here))
+      ∙ drop-next (slice_index merge.passed place) (list_at merge.lists place)
 
   pub left-other : (other : ℕ) → other ≢ place → left_of passed-one other ≡ left_of merge other
   unfolding left_of
   left-other other apart =
-      ap (λ n. drop n (list_at merge.batch other)) (index-set_other merge.passed place other (number + 1) apart)
+      ap (λ n. drop n (list_at merge.lists other)) (index-set_other merge.passed place other (number + 1) apart)
 
 -- none was left
-pub left-none : (merge : MergeState) (place : ℕ) → length (list_at merge.batch place) ≤ slice_index merge.passed place
+pub left-none : (merge : MergeState) (place : ℕ) → length (list_at merge.lists place) ≤ slice_index merge.passed place
     → left_of merge place ≡ drop 1 (left_of merge place)
 unfolding left_of
 left-none merge place within =
-    let none : left_of merge place ≡ [] = none-left (slice_index merge.passed place) (list_at merge.batch place) within in
+    let none : left_of merge place ≡ [] = none-left (slice_index merge.passed place) (list_at merge.lists place) within in
     none ∙ ap (λ (rows : List Commit). drop 1 rows) (sym none)
 
 -- ---- a crossing is passed
 
 -- the list of the warehouse with a place went on with a crossing that names it, and it was passed; another stays
-abbrev pub IsPassedAt : ℕ → Command → ℕ → List Commit → List Commit → Type 0
-IsPassedAt number command place old new =
-    ((names command (suc place) ≡ true) × (old ≡ commits.Cross number command ∷ new))
+abbrev pub IsPassedAt : Edition → ℕ → Command → ℕ → List Commit → List Commit → Type 0
+IsPassedAt edition number command place old new =
+    ((names command (suc place) ≡ true) × (old ≡ commits.Cross edition number command ∷ new))
     ⊎ ((names command (suc place) ≡ false) × (new ≡ old))
 
-pub passed-named : (number : ℕ) (command : Command) (place : ℕ) (old new : List Commit) → names command (suc place) ≡ true
-    → slice_get old 0 ≡ Some (commits.Cross number command) → new ≡ drop 1 old → IsPassedAt number command place old new
-passed-named number command place old new named next is =
-    inl (named, next-first old (commits.Cross number command) next ∙ ap (λ rows. commits.Cross number command ∷ rows) (sym is))
+pub passed-named : (edition : Edition) (number : ℕ) (command : Command) (place : ℕ) (old new : List Commit)
+    → names command (suc place) ≡ true → slice_get old 0 ≡ Some (commits.Cross edition number command) → new ≡ drop 1 old
+    → IsPassedAt edition number command place old new
+passed-named edition number command place old new named next is =
+    let commit : Commit = commits.Cross edition number command in
+    inl (named, next-first old commit next ∙ ap (λ rows. commit ∷ rows) (sym is))
 
-pub passes : (number : ℕ) (command : Command) (old new : MergeState) → count_of new ≡ count_of old
-    → ((place : ℕ) → place < count_of old → IsPassedAt number command place (left_of old place) (left_of new place))
-    → PassesCrossing number command old new
-passes number command old new count each = record {
+pub passes : (edition : Edition) (number : ℕ) (command : Command) (old new : MergeState) → count_of new ≡ count_of old
+    → ((place : ℕ) → place < count_of old → IsPassedAt edition number command place (left_of old place) (left_of new place))
+    → PassesCrossing edition number command old new
+passes edition number command old new count each = record {
   count = count;
   named = λ place within named. by-named place named (each place within);
   others = λ place within other. by-other place other (each place within);
 }
   where
     by-named : (place : ℕ) → names command (suc place) ≡ true
-        → IsPassedAt number command place (left_of old place) (left_of new place)
-        → left_of old place ≡ commits.Cross number command ∷ left_of new place
+        → IsPassedAt edition number command place (left_of old place) (left_of new place)
+        → left_of old place ≡ commits.Cross edition number command ∷ left_of new place
     by-named place named (inl here) = here.1
     by-named place named (inr other) = absurd (true≢false (sym named ∙ other.0))
 
     by-other : (place : ℕ) → names command (suc place) ≡ false
-        → IsPassedAt number command place (left_of old place) (left_of new place) → left_of new place ≡ left_of old place
+        → IsPassedAt edition number command place (left_of old place) (left_of new place) → left_of new place ≡ left_of old place
     by-other place other (inl here) = absurd (true≢false (sym here.0 ∙ other))
     by-other place other (inr same) = same.1
 
@@ -88,17 +91,17 @@ below-next P place below here k within = by (k == place) refl
     by true is = let at : k ≡ place = eqb-true k place is in subst P (sym at) here
     by false is = let apart : k ≢ place = eqb-false k place is in below k (omega arith)
 
-module _ (number : ℕ) (command : Command) (place : ℕ) (first now new : MergeState)
-    (passed : (k : ℕ) → k < place → IsPassedAt number command k (left_of first k) (left_of now k))
+module _ (edition : Edition) (number : ℕ) (command : Command) (place : ℕ) (first now new : MergeState)
+    (passed : (k : ℕ) → k < place → IsPassedAt edition number command k (left_of first k) (left_of now k))
     (others : (k : ℕ) → place ≤ k → left_of now k ≡ left_of first k)
     (stay : (k : ℕ) → k ≢ place → left_of new k ≡ left_of now k)
-    (here : IsPassedAt number command place (left_of now place) (left_of new place)) where
-  pub passed-more : (k : ℕ) → k < place + 1 → IsPassedAt number command k (left_of first k) (left_of new k)
-  passed-more = below-next (λ k. IsPassedAt number command k (left_of first k) (left_of new k)) place
+    (here : IsPassedAt edition number command place (left_of now place) (left_of new place)) where
+  pub passed-more : (k : ℕ) → k < place + 1 → IsPassedAt edition number command k (left_of first k) (left_of new k)
+  passed-more = below-next (λ k. IsPassedAt edition number command k (left_of first k) (left_of new k)) place
       (λ k before.
       let apart : k ≢ place = omega arith in
-      subst (λ rows. IsPassedAt number command k (left_of first k) rows) (sym (stay k apart)) (passed k before))
-      (subst (λ rows. IsPassedAt number command place rows (left_of new place)) (others place (omega arith)) here)
+      subst (λ rows. IsPassedAt edition number command k (left_of first k) rows) (sym (stay k apart)) (passed k before))
+      (subst (λ rows. IsPassedAt edition number command place rows (left_of new place)) (others place (omega arith)) here)
 
   pub others-more : (k : ℕ) → place + 1 ≤ k → left_of new k ≡ left_of first k
   others-more k behind =
@@ -107,6 +110,6 @@ module _ (number : ℕ) (command : Command) (place : ℕ) (first now new : Merge
       stay k apart ∙ others k from
 
 -- a list whose warehouse isn't named
-pub unnamed-stays : (number : ℕ) (command : Command) (place : ℕ) (rows : List Commit) → names command (suc place) ≡ false
-    → IsPassedAt number command place rows rows
-unnamed-stays number command place rows other = inr (other, refl)
+pub unnamed-stays : (edition : Edition) (number : ℕ) (command : Command) (place : ℕ) (rows : List Commit)
+    → names command (suc place) ≡ false → IsPassedAt edition number command place rows rows
+unnamed-stays edition number command place rows other = inr (other, refl)

@@ -1,6 +1,6 @@
 -- What is sound from a place of a merge on, and what each of its steps makes of that.
-use Rattle.std.proofs.Common.{◌≡◌, ◌≢◌, ◌<◌, ◌≤◌, ◌+◌, ◌==◌, ◌&&◌, ◌||◌, ℕ, zero, suc, Bool, true, false, cond, List, [], ◌∷◌, ◌++◌, drop, filter, length, Option, Some, None, is_some, refl, sym, ap, ◌∙◌, arith, subst}
-use Rattle.std.specs.Prelude.{MatchOption, nat_le, slice_get, slice_index_or}
+use Rattle.std.proofs.Common.{◌≡◌, ◌≢◌, ◌<◌, ◌≤◌, ◌+◌, ◌==◌, ◌&&◌, ◌||◌, ℕ, zero, suc, Bool, true, false, cond, List, [], ◌∷◌, ◌++◌, drop, filter, length, Some, is_some, refl, sym, ap, ◌∙◌, arith, subst}
+use Rattle.std.specs.Prelude.{nat_le}
 use Rattle.std.specs.List.{filter_map, list_all, list_any, range_with_len}
 use Rattle.std.proofs.lemmas.Bool.{and_from, and_parts, eq-eqb, eqb-false, eqb-true, false≢true, le-leb, leb-false, leb-true, ne_eqb, true≢false}
 use Rattle.std.proofs.lemmas.List.{get_or_past}
@@ -10,19 +10,21 @@ use Rattle.hy_passes.specs.SerialList.{projection}
 use Rattle.hy_commands.specs.declared.command.Command.{Command}
 use Rattle.hy_commands.specs.declared.command.Commit.{Commit}
 use Rattle.hy_commands.specs.declared.command.Commit.TheVariants as commits
+use Rattle.hy_commands.specs.declared.edition.Edition.{Edition}
 use Rattle.hy_commands.specs.Commands.{number_of, warehouses_of, warehouses_of_commit}
+use Rattle.hy_batches.specs.Batches.{Batch}
 use Rattle.hy_batches.specs.Grammar.{names}
-use Rattle.hy_sound.specs.Sound.{AreInStep, AreSound, IsSoundBatch, are_replayable, crossings_of, is_known, is_replayable, list_at, names_one_of}
+use Rattle.hy_sound.specs.Sound.{AreSound, IsSoundBatch, are_replayable, crossings_of, is_known, list_at, names_one_of}
 use Rattle.hy_sound.specs.Merges.{FindsCrossing, FindsNone, GoesOnAt, LacksCrossing, MergeState, PassesCrossing, count_of, left_of, next_of}
-use Rattle.hy_sound.specs.inside.Steps.{IsAtCrossing, IsRefusedAt, IsSoundFrom, IsUnsound, Leads, PassesAllLocals, PassesLocals}
+use Rattle.hy_sound.specs.inside.Steps.{IsAtCrossing, IsRefusedAt, IsSoundFrom, IsUnsound, Leads, PassesAllLocals}
 use Rattle.hy_sound.proofs.ListLaws.{next-first}
 
 -- ---- numbers of commits
 
 few-numbers : (rows : List Commit) → length (filter_map number_of rows) ≤ length rows
 few-numbers [] = omega arith
-few-numbers (commits.Local command ∷ rows) = omega (arith, few-numbers rows)
-few-numbers (commits.Cross number command ∷ rows) = omega (arith, few-numbers rows)
+few-numbers (commits.Local edition command ∷ rows) = omega (arith, few-numbers rows)
+few-numbers (commits.Cross edition number command ∷ rows) = omega (arith, few-numbers rows)
 
 length-range : (low count : ℕ) → length (range_with_len low count) ≡ count
 length-range low zero = refl
@@ -30,78 +32,83 @@ length-range low (suc count) = ap suc (length-range (low + 1) count)
 
 -- where numbers follow one another, the first row has the first of them, and the others follow
 pub record FollowsFirst (low : ℕ) (first : Commit) (rows : List Commit) : Type 0 where
+  pub edition : Edition
   pub command : Command
-  pub first_is : first ≡ commits.Cross low command
+  pub first_is : first ≡ commits.Cross edition low command
   pub others : filter_map number_of rows ≡ range_with_len (suc low) (length rows)
 
 pub numbers-first : (low : ℕ) (first : Commit) (rows : List Commit)
     → filter_map number_of (first ∷ rows) ≡ range_with_len low (suc (length rows)) → FollowsFirst low first rows
-numbers-first low (commits.Local command) rows follow =
+numbers-first low (commits.Local edition command) rows follow =
     let few = few-numbers rows in
     let many : length (filter_map number_of rows) ≡ suc (length rows) =
     ap length follow ∙ ap suc (length-range (low + 1) (length rows)) in
     absurd (omega arith)
-numbers-first low (commits.Cross number command) rows follow =
+numbers-first low (commits.Cross edition number command) rows follow =
     let same : number ≡ low = cc in
     let later : filter_map number_of rows ≡ range_with_len (low + 1) (length rows) = cc in
     let next : low + 1 ≡ suc low = omega arith in
     record {
+      edition = edition;
       command = command;
-      first_is = ap (λ n. commits.Cross n command) same;
+      first_is = ap (λ n. commits.Cross edition n command) same;
       others = later ∙ ap (λ n. range_with_len n (length rows)) next;
     }
 
 -- a row that passes a test has no lesser number than the first
-least-number : (test : Commit → Bool) (rows : List Commit) (low number : ℕ) (command : Command) (rest : List Commit)
+least-number : (test : Commit → Bool) (rows : List Commit) (low : ℕ) (edition : Edition) (number : ℕ) (command : Command)
+    (rest : List Commit)
     → filter_map number_of rows ≡ range_with_len low (length rows)
-    → commits.Cross number command ∷ rest ≡ filter test rows → low ≤ number
-least-number test [] low number command rest follow is = absurd (cc)
-least-number test (first ∷ rows) low number command rest follow is =
-    by (test first) refl (λ later. least-number test rows (suc low) number command rest (numbers-first low first rows follow).others later)
+    → commits.Cross edition number command ∷ rest ≡ filter test rows → low ≤ number
+least-number test [] low edition number command rest follow is = absurd (cc)
+least-number test (first ∷ rows) low edition number command rest follow is =
+    by (test first) refl (λ later.
+    least-number test rows (suc low) edition number command rest (numbers-first low first rows follow).others later)
   where
     has : FollowsFirst low first rows
     has = numbers-first low first rows follow
 
-    by : (passes : Bool) → test first ≡ passes → (commits.Cross number command ∷ rest ≡ filter test rows → suc low ≤ number)
-        → low ≤ number
+    by : (passes : Bool) → test first ≡ passes
+        → (commits.Cross edition number command ∷ rest ≡ filter test rows → suc low ≤ number) → low ≤ number
     by true passes more =
-        let all : commits.Cross number command ∷ rest ≡ first ∷ filter test rows =
+        let all : commits.Cross edition number command ∷ rest ≡ first ∷ filter test rows =
         is ∙ ap (λ b. cond b (first ∷ filter test rows) (filter test rows)) passes in
-        let here : commits.Cross number command ∷ rest ≡ commits.Cross low has.command ∷ filter test rows =
+        let here : commits.Cross edition number command ∷ rest ≡ commits.Cross has.edition low has.command ∷ filter test rows =
         all ∙ ap (λ row. row ∷ filter test rows) has.first_is in
         let same : number ≡ low = cc in
         omega arith
     by false fails more =
-        let later : commits.Cross number command ∷ rest ≡ filter test rows =
+        let later : commits.Cross edition number command ∷ rest ≡ filter test rows =
         is ∙ ap (λ b. cond b (first ∷ filter test rows) (filter test rows)) fails in
         let above = more later in
         omega arith
 
 -- the rows whose first number is the one of a row that passes a test begin with that row
-pub record BeginsWith (number : ℕ) (command : Command) (rows : List Commit) : Type 0 where
+pub record BeginsWith (edition : Edition) (number : ℕ) (command : Command) (rows : List Commit) : Type 0 where
   pub others : List Commit
-  pub rows_are : rows ≡ commits.Cross number command ∷ others
+  pub rows_are : rows ≡ commits.Cross edition number command ∷ others
   pub numbered : filter_map number_of others ≡ range_with_len (suc number) (length others)
 
-pub begins-with : (test : Commit → Bool) (rows : List Commit) (number : ℕ) (command : Command) (rest : List Commit)
+pub begins-with : (test : Commit → Bool) (rows : List Commit) (edition : Edition) (number : ℕ) (command : Command)
+    (rest : List Commit)
     → filter_map number_of rows ≡ range_with_len number (length rows)
-    → commits.Cross number command ∷ rest ≡ filter test rows → BeginsWith number command rows
-begins-with test [] number command rest follow is = absurd (cc)
-begins-with test (first ∷ rows) number command rest follow is = by (test first) refl
+    → commits.Cross edition number command ∷ rest ≡ filter test rows → BeginsWith edition number command rows
+begins-with test [] edition number command rest follow is = absurd (cc)
+begins-with test (first ∷ rows) edition number command rest follow is = by (test first) refl
   where
     has : FollowsFirst number first rows
     has = numbers-first number first rows follow
 
-    by : (passes : Bool) → test first ≡ passes → BeginsWith number command (first ∷ rows)
+    by : (passes : Bool) → test first ≡ passes → BeginsWith edition number command (first ∷ rows)
     by true passes =
-        let all : commits.Cross number command ∷ rest ≡ first ∷ filter test rows =
+        let all : commits.Cross edition number command ∷ rest ≡ first ∷ filter test rows =
         is ∙ ap (λ b. cond b (first ∷ filter test rows) (filter test rows)) passes in
-        let same : first ≡ commits.Cross number command = cc in
+        let same : first ≡ commits.Cross edition number command = cc in
         record { others = rows; rows_are = ap (λ row. row ∷ rows) same; numbered = has.others }
     by false fails =
-        let later : commits.Cross number command ∷ rest ≡ filter test rows =
+        let later : commits.Cross edition number command ∷ rest ≡ filter test rows =
         is ∙ ap (λ b. cond b (first ∷ filter test rows) (filter test rows)) fails in
-        let more = least-number test rows (suc number) number command rest has.others later in
+        let more = least-number test rows (suc number) edition number command rest has.others later in
         absurd (omega arith)
 
 -- ---- which warehouses a commit names
@@ -238,12 +245,12 @@ unsound-refused lists last merge refused after sound =
 
 -- ---- a commit of several warehouses
 
-module _ (lists : Lists) (last number : ℕ) (command : Command) (merge : MergeState)
-    (finds : FindsCrossing merge last number command) where
+module _ (lists : Lists) (last : ℕ) (edition : Edition) (number : ℕ) (command : Command) (merge : MergeState)
+    (finds : FindsCrossing merge last edition number command) where
   abbrev commit : Commit
-  commit = commits.Cross number command
+  commit = commits.Cross edition number command
 
-  abbrev at : GoesOnAt merge number command finds.1.0
+  abbrev at : GoesOnAt merge edition number command finds.1.0
   at = finds.1.1
 
   abbrev own : List Commit
@@ -254,9 +261,10 @@ module _ (lists : Lists) (last number : ℕ) (command : Command) (merge : MergeS
 
   -- where what is left is sound, its commits of several warehouses begin with it
   pub all-begin : (after : ℕ) → (sound : IsSoundFrom lists last after merge)
-      → BeginsWith number command sound.in_step.crossings
+      → BeginsWith edition number command sound.in_step.crossings
   all-begin after sound =
-      begins-with (λ commit. list_any (λ named. named == suc finds.1.0) (warehouses_of_commit commit)) sound.in_step.crossings number command (crossings_of (drop 1 own))
+      begins-with (λ commit. list_any (λ named. named == suc finds.1.0) (warehouses_of_commit commit))
+      sound.in_step.crossings edition number command (crossings_of (drop 1 own))
       (sound.in_step.numbered ∙ ap (λ n. range_with_len n (length sound.in_step.crossings)) (sym finds.0))
       (sym (ap crossings_of own-is) ∙ sound.in_step.each finds.1.0 at.within)
 
@@ -286,7 +294,7 @@ module _ (lists : Lists) (last number : ℕ) (command : Command) (merge : MergeS
 
   -- a list goes on otherwise
   pub unsound-lacking : ((place : ℕ) → place < count_of merge → IsAtCrossing (left_of merge place))
-      → LacksCrossing number command merge → IsUnsound lists last merge
+      → LacksCrossing edition number command merge → IsUnsound lists last merge
   unsound-lacking stops lacks after sound =
       lacks.another (next-named after sound lacks.place lacks.within (stops lacks.place lacks.within) lacks.named)
 
@@ -302,7 +310,8 @@ module _ (lists : Lists) (last number : ℕ) (command : Command) (merge : MergeS
   unsound-unknown unknown after sound = true≢false (sym (known-crossing after sound) ∙ unknown)
 
   -- it is passed
-  module _ (known : is_known lists command ≡ true) (new : MergeState) (passes : PassesCrossing number command merge new) where
+  module _ (known : is_known lists command ≡ true) (new : MergeState)
+      (passes : PassesCrossing edition number command merge new) where
     named-one : names_one_of (count_of merge) commit ≡ true
     named-one = any-weaker (λ named. named == suc finds.1.0) (is_between 1 (count_of merge)) (λ row is.
         let same : row ≡ suc finds.1.0 = eqb-true row (suc finds.1.0) is in
@@ -329,7 +338,7 @@ module _ (lists : Lists) (last number : ℕ) (command : Command) (merge : MergeS
           kept place was (names command (suc place)) refl;
     }
       where
-        begins : BeginsWith number command sound.in_step.crossings
+        begins : BeginsWith edition number command sound.in_step.crossings
         begins = all-begin after sound
 
         has : (place : ℕ) → place < count_of merge → crossings_of (left_of merge place)
@@ -435,7 +444,7 @@ none-left lists last after merge none stops sound =
     by (first ∷ rows) numbered named each last_is =
         let follows = numbers-first (suc last) first rows numbered in
         let one = (and_parts (names_one_of (count_of merge) first) (list_all (names_one_of (count_of merge)) rows) named).0 in
-        let commit : Commit = commits.Cross (suc last) follows.command in
+        let commit : Commit = commits.Cross follows.edition (suc last) follows.command in
         let at = one-place (count_of merge) (warehouses_of follows.command)
         (sym (ap (names_one_of (count_of merge)) follows.first_is) ∙ one) in
         let here : crossings_of (left_of merge at.place)
@@ -443,7 +452,7 @@ none-left lists last after merge none stops sound =
         each at.place at.within ∙ ap (λ row. projection warehouses_of_commit (suc at.place) (row ∷ rows)) follows.first_is
         ∙ ap (λ b. cond b (commit ∷ projection warehouses_of_commit (suc at.place) rows)
         (projection warehouses_of_commit (suc at.place) rows)) at.here in
-        absurd (none at.place follows.command (record {
+        absurd (none at.place follows.edition follows.command (record {
           within = at.within;
           next = at-first (left_of merge at.place) commit _ (stops at.place at.within) here;
           named = at.here;
@@ -451,9 +460,9 @@ none-left lists last after merge none stops sound =
 
 -- ---- whole batches
 
-module _ (lists : Lists) (before after : ℕ) (batch : List (List Commit)) (merge : MergeState)
-    (counted : count_of merge ≡ length batch)
-    (left : (place : ℕ) → left_of merge place ≡ list_at batch place) where
+module _ (lists : Lists) (before after : ℕ) (batch : Batch) (merge : MergeState)
+    (counted : count_of merge ≡ length batch.lists)
+    (left : (place : ℕ) → left_of merge place ≡ list_at batch.lists place) where
   pub sound-from : IsSoundBatch lists before after batch → IsSoundFrom lists before after merge
   sound-from sound = record {
     in_step = record {
@@ -466,7 +475,7 @@ module _ (lists : Lists) (before after : ℕ) (batch : List (List Commit)) (merg
     replayable = λ place within. ap (are_replayable lists) (left place) ∙ sound.replayable place;
   }
 
-  pub sound-batch : length batch ≡ length lists.tables.warehouses → IsSoundFrom lists before after merge
+  pub sound-batch : length batch.lists ≡ length lists.tables.warehouses → IsSoundFrom lists before after merge
       → IsSoundBatch lists before after batch
   sound-batch count sound = record {
     count = count;
@@ -478,19 +487,20 @@ module _ (lists : Lists) (before after : ℕ) (batch : List (List Commit)) (merg
           sym (ap crossings_of (left place)) ∙ sound.in_step.each place (omega (arith, counted, within));
       last = sound.in_step.last;
     };
-    replayable = λ place. by place (nat_le (length batch) place) refl;
+    replayable = λ place. by place (nat_le (length batch.lists) place) refl;
   }
     where
-      by : (place : ℕ) → (past : Bool) → nat_le (length batch) place ≡ past
-          → are_replayable lists (list_at batch place) ≡ true
-      by place true past = ap (are_replayable lists) (get_or_past batch place [] (leb-true (length batch) place past))
+      by : (place : ℕ) → (past : Bool) → nat_le (length batch.lists) place ≡ past
+          → are_replayable lists (list_at batch.lists place) ≡ true
+      by place true past =
+          ap (are_replayable lists) (get_or_past batch.lists place [] (leb-true (length batch.lists) place past))
       by place false within =
           sym (ap (are_replayable lists) (left place))
-          ∙ sound.replayable place (omega (arith, counted, leb-false (length batch) place within))
+          ∙ sound.replayable place (omega (arith, counted, leb-false (length batch.lists) place within))
 
 -- ---- logs
 
-pub sound-more : (lists : Lists) (first last after : ℕ) (front : List (List (List Commit))) (batch : List (List Commit))
+pub sound-more : (lists : Lists) (first last after : ℕ) (front : List Batch) (batch : Batch)
     → AreSound lists first last front → IsSoundBatch lists last after batch
     → AreSound lists first after (front ++ batch ∷ [])
 sound-more lists first last after [] batch sound one =
@@ -499,10 +509,10 @@ sound-more lists first last after (row ∷ front) batch sound one =
     (sound.0, sound.1, sound-more lists sound.0 last after front batch sound.2 one)
 
 -- a list that goes on with a command that the database of the load refuses
-pub refused-next : (lists : Lists) (rows : List Commit) (command : Command) → next_of rows ≡ Some (commits.Local command)
-    → is_known lists command ≡ false → are_replayable lists rows ≡ false
-refused-next lists rows command next unknown =
-    ap (are_replayable lists) (next-first rows (commits.Local command) next)
+pub refused-next : (lists : Lists) (rows : List Commit) (edition : Edition) (command : Command)
+    → next_of rows ≡ Some (commits.Local edition command) → is_known lists command ≡ false → are_replayable lists rows ≡ false
+refused-next lists rows edition command next unknown =
+    ap (are_replayable lists) (next-first rows (commits.Local edition command) next)
     ∙ ap (λ b. b && are_replayable lists (drop 1 rows)) unknown
 
 -- where no crossing is found and something is left, it isn't sound
@@ -518,12 +528,12 @@ all-stop lists old new passes place within =
     (passes.each place (omega (arith, passes.count, within))).stops
 
 -- a commit of one warehouse is passed in one list
-pub sound-local : (lists : Lists) (last after : ℕ) (old new : MergeState) (place : ℕ) (command : Command)
-    → count_of new ≡ count_of old → next_of (left_of old place) ≡ Some (commits.Local command)
+pub sound-local : (lists : Lists) (last after : ℕ) (old new : MergeState) (place : ℕ) (edition : Edition)
+    (command : Command) → count_of new ≡ count_of old → next_of (left_of old place) ≡ Some (commits.Local edition command)
     → left_of new place ≡ drop 1 (left_of old place)
     → ((other : ℕ) → other ≢ place → left_of new other ≡ left_of old other)
     → IsSoundFrom lists last after old → IsSoundFrom lists last after new
-sound-local lists last after old new place command count next here others sound = record {
+sound-local lists last after old new place edition command count next here others sound = record {
   in_step = record {
     crossings = sound.in_step.crossings;
     numbered = sound.in_step.numbered;
@@ -534,9 +544,9 @@ sound-local lists last after old new place command count next here others sound 
   replayable = λ k within. replayable-still k (omega (arith, count, within)) (k == place) refl;
 }
   where
-    first : left_of old place ≡ commits.Local command ∷ left_of new place
-    first = next-first (left_of old place) (commits.Local command) next
-        ∙ ap (λ rows. commits.Local command ∷ rows) (sym here)
+    first : left_of old place ≡ commits.Local edition command ∷ left_of new place
+    first = next-first (left_of old place) (commits.Local edition command) next
+        ∙ ap (λ rows. commits.Local edition command ∷ rows) (sym here)
 
     crossings-same : (k : ℕ) → (same : Bool) → (k == place) ≡ same
         → crossings_of (left_of new k) ≡ crossings_of (left_of old k)

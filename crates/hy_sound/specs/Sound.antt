@@ -10,13 +10,14 @@ use Rattle.hy_commands.specs.declared.command.Command.{Command}
 use Rattle.hy_commands.specs.declared.command.Commit.{Commit}
 use Rattle.hy_commands.specs.Commands.{command_of, number_of, warehouses_of_commit}
 use Rattle.hy_commands.specs.Parts.{database_of, refusal_in}
+use Rattle.hy_batches.specs.Batches.{Batch}
 use Rattle.hy_batches.specs.Encoding.{log_bytes}
 
 -- ---- the lists of a batch beside one another
 
 -- the list at a place; the first is that of warehouse 1
 abbrev pub list_at : List (List Commit) → ℕ → List Commit
-list_at batch place = slice_index_or batch place []
+list_at lists place = slice_index_or lists place []
 
 -- the commits of several warehouses among some commits
 abbrev pub crossings_of : List Commit → List Commit
@@ -49,29 +50,30 @@ is_replayable lists commit = is_known lists (command_of commit)
 abbrev pub are_replayable : Lists → List Commit → Bool
 are_replayable lists commits = list_all (is_replayable lists) commits
 
--- a batch with a list for each warehouse of the load, whose commits of several have the numbers between these two
-pub record IsSoundBatch (lists : Lists) (before after : ℕ) (batch : List (List Commit)) : Type 0 where
-  pub count : length batch ≡ length lists.tables.warehouses
-  pub in_step : AreInStep before after (length batch) (list_at batch)
-  pub replayable : (place : ℕ) → are_replayable lists (list_at batch place) ≡ true
+-- a batch of any edition, with a list for each warehouse of the load, whose commits of several have the numbers between
+-- these two
+pub record IsSoundBatch (lists : Lists) (before after : ℕ) (batch : Batch) : Type 0 where
+  pub count : length batch.lists ≡ length lists.tables.warehouses
+  pub in_step : AreInStep before after (length batch.lists) (list_at batch.lists)
+  pub replayable : (place : ℕ) → are_replayable lists (list_at batch.lists place) ≡ true
 
 -- ---- logs
 
--- each batch is sound, and their numbers go on
-abbrev pub AreSound : Lists → ℕ → ℕ → List (List (List Commit)) → Type 0
+-- each batch is sound, and their numbers go on, also from one edition to the next
+abbrev pub AreSound : Lists → ℕ → ℕ → List Batch → Type 0
 AreSound lists before after [] = after ≡ before
 AreSound lists before after (batch ∷ batches) =
     (middle : ℕ) × IsSoundBatch lists before middle batch × AreSound lists middle after batches
 
 -- from the first number on
-abbrev pub IsSoundLog : Lists → List (List (List Commit)) → Type 0
+abbrev pub IsSoundLog : Lists → List Batch → Type 0
 IsSoundLog lists batches = (last : ℕ) × AreSound lists 0 last batches
 
 -- the first batch that is none begins at this place of the log
-pub record IsFirstUnsound (lists : Lists) (batches : List (List (List Commit))) (place : ℕ) : Type 0 where
-  pub front : List (List (List Commit))
-  pub batch : List (List Commit)
-  pub rest : List (List (List Commit))
+pub record IsFirstUnsound (lists : Lists) (batches : List Batch) (place : ℕ) : Type 0 where
+  pub front : List Batch
+  pub batch : Batch
+  pub rest : List Batch
   pub last : ℕ
   pub batches_are : batches ≡ front ++ batch ∷ rest
   pub sound : AreSound lists 0 last front
@@ -79,7 +81,7 @@ pub record IsFirstUnsound (lists : Lists) (batches : List (List (List Commit))) 
   pub place_is : place ≡ length (log_bytes front)
 
 -- what looking answers: the place of the first batch that isn't sound, unless memory lacks
-abbrev pub Looks : Lists → List (List (List Commit)) → Result (Unit {0}) Refusal → Type 0
+abbrev pub Looks : Lists → List Batch → Result (Unit {0}) Refusal → Type 0
 Looks lists batches (Ok done) = IsSoundLog lists batches
 Looks lists batches (Err (refusals.LogMalformed place)) = IsFirstUnsound lists batches place
 Looks lists batches (Err refusals.NoMemory) = Unit {0}

@@ -34,7 +34,7 @@ fn pass_locals(known: &Known, merge: &mut Merge<'_>, place: usize) -> bool
         (are_replayable known.now (left_of merge.old place) ≡ false) }
     ensures others { (other : ℕ) → other ≢ place → left_of merge.new other ≡ left_of merge.old other }
 {
-    'commits: while let Some(Commit::Local(command)) = merge.next(place) {
+    'commits: while let Some(Commit::Local(_, command)) = merge.next(place) {
         if !known.accepts(command) {
             return false;
         }
@@ -75,8 +75,8 @@ fn take_step(known: &Known, merge: &mut Merge<'_>, last: u64) -> Step
         return Step::Unsound;
     }
     match merge.find_crossing(last) {
-        Some((number, command)) => {
-            if known.accepts(command) && merge.pass_crossing(number, command) {
+        Some((edition, number, command)) => {
+            if known.accepts(command) && merge.pass_crossing(edition, number, command) {
                 Step::Passed(number)
             } else {
                 Step::Unsound

@@ -6,7 +6,7 @@ ghost use Rattle.hy_commands.specs.declared.command.Commit.TheVariants as commit
 
 use crate::same::same_command;
 use hy_batches::Batch;
-use hy_commands::{Command, Commit};
+use hy_commands::{Command, Commit, Edition};
 use std::alloc::{AllocError, Global};
 use std::marker::Model;
 
@@ -24,9 +24,9 @@ impl<'a> Model for Merge<'a> {
 
     ghost Value = { MergeState };
 
-    ghost view = { λ merge. record { batch = merge.batch.now; passed = merge.passed.items } };
+    ghost view = { λ merge. record { lists = merge.batch.now.lists; passed = merge.passed.items } };
 
-    ghost invariant = { λ merge. length merge.passed.items ≡ length merge.batch.now };
+    ghost invariant = { λ merge. length merge.passed.items ≡ length merge.batch.now.lists };
 }
 
 impl<'a> Merge<'a> {
@@ -37,8 +37,8 @@ impl<'a> Merge<'a> {
 
     /// A batch of which nothing was passed.
     pub fn new(alloc: Global, batch: &'a Batch) -> Result<Merge<'a>, AllocError>
-        ensures count { IfOk result (λ merge. count_of merge ≡ length batch.entry.now) }
-        ensures left { IfOk result (λ merge. (place : ℕ) → left_of merge place ≡ list_at batch.entry.now place) }
+        ensures count { IfOk result (λ merge. count_of merge ≡ length batch.entry.now.lists) }
+        ensures left { IfOk result (λ merge. (place : ℕ) → left_of merge place ≡ list_at batch.entry.now.lists place) }
     {
         let passed = Vec::from_elem(alloc, 0usize, batch.len())?;
         Ok(Merge { batch, passed })
@@ -72,22 +72,24 @@ impl<'a> Merge<'a> {
     }
 }
 
-/// Whether a commit is this command under this number.
-fn is_crossing(commit: &Commit, number: u64, command: &Command) -> bool
-    ensures { IsTrue result ↔ (commit.now ≡ commits.Cross number command.now) }
+/// Whether a commit is this command of this edition under this number.
+fn is_crossing(commit: &Commit, edition: Edition, number: u64, command: &Command) -> bool
+    ensures { IsTrue result ↔ (commit.now ≡ commits.Cross edition number command.now) }
 {
     match commit {
-        Commit::Local(_) => false,
-        Commit::Cross(other, same) => *other == number && same_command(same, command),
+        Commit::Local(_, _) => false,
+        Commit::Cross(by, other, same) => {
+            *by == edition && *other == number && same_command(same, command)
+        }
     }
 }
 
-/// Whether a list goes on with this command under this number.
-fn goes_on(next: Option<&Commit>, number: u64, command: &Command) -> bool
-    ensures { IsTrue result ↔ (option_copied next.entry ≡ Some (commits.Cross number command.now)) }
+/// Whether a list goes on with this command of this edition under this number.
+fn goes_on(next: Option<&Commit>, edition: Edition, number: u64, command: &Command) -> bool
+    ensures { IsTrue result ↔ (option_copied next.entry ≡ Some (commits.Cross edition number command.now)) }
 {
     match next {
-        Some(commit) => is_crossing(commit, number, command),
+        Some(commit) => is_crossing(commit, edition, number, command),
         None => false,
     }
 }
@@ -96,16 +98,16 @@ impl<'a> Merge<'a> {
     ghost use Rattle.std.specs.Prelude.{MatchBool, MatchOption};
     ghost use Rattle.hy_sound.specs.Merges.{FindsCrossing, FindsNone, LacksCrossing, PassesCrossing};
 
-    /// The command of several warehouses with which some list goes on, under the number behind the last one; and the
-    /// number.
-    pub fn find_crossing(&self, last: u64) -> Option<(u64, &'a Command)>
+    /// The command of several warehouses with which some list goes on, under the number behind the last one; with its
+    /// edition and the number.
+    pub fn find_crossing(&self, last: u64) -> Option<(Edition, u64, &'a Command)>
         ensures { MatchOption result (FindsNone self.now last)
-            (λ found. FindsCrossing self.now last found.0 found.1.now) }
+            (λ found. FindsCrossing self.now last found.0 found.1 found.2.now) }
     {
         for place in 0..self.count() {
-            if let Some(Commit::Cross(number, command)) = self.next(place) {
+            if let Some(Commit::Cross(edition, number, command)) = self.next(place) {
                 if is_behind(*number, last) && command.names(place as u64 + 1) {
-                    return Some((*number, command));
+                    return Some((*edition, *number, command));
                 }
             }
         }
@@ -114,13 +116,13 @@ impl<'a> Merge<'a> {
 
     /// Passes a command of several warehouses in all lists whose warehouses it names. False where one of them goes on
     /// otherwise.
-    pub fn pass_crossing(&mut self, number: u64, command: &Command) -> bool
-        ensures { MatchBool result (PassesCrossing number command.now self.old self.new)
-            (LacksCrossing number command.now self.old) }
+    pub fn pass_crossing(&mut self, edition: Edition, number: u64, command: &Command) -> bool
+        ensures { MatchBool result (PassesCrossing edition number command.now self.old self.new)
+            (LacksCrossing edition number command.now self.old) }
     {
         for place in 0..self.count() {
             if command.names(place as u64 + 1) {
-                if !goes_on(self.next(place), number, command) {
+                if !goes_on(self.next(place), edition, number, command) {
                     return false;
                 }
                 self.pass(place);

@@ -15,6 +15,7 @@ use Rattle.hy_commands.specs.declared.command.Delivery.{Delivery}
 use Rattle.hy_commands.specs.declared.command.Payment.{Payment}
 use Rattle.hy_commands.specs.declared.command.Purchase.{Purchase}
 use Rattle.hy_commands.specs.declared.command.PurchaseLine.{PurchaseLine}
+use Rattle.hy_commands.specs.declared.edition.Edition.{Edition}
 use Rattle.hy_commands.specs.Customers.{identity_of}
 use Rattle.hy_commands.specs.Deliveries.{customer_delivered, delivered, delivered_in, oldest, order_cents, with_delivered}
 use Rattle.hy_commands.specs.Invariant.{stock_key}
@@ -26,12 +27,12 @@ use Rattle.hy_layout.specs.Layout.{KeepsPlaces}
 use Rattle.hy_slices.specs.Slices.{after_slices, line_behind, sliced, with_line}
 
 module _ (loaded : Tables) where
-  keeps-paid_by : (payment : Payment) (customer : ℕ) (tables : Tables) → KeepsPlaces loaded tables
-      → KeepsPlaces loaded (paid_by payment customer tables)
-  keeps-paid_by payment customer tables keeps = record {
+  keeps-paid_by : (edition : Edition) (payment : Payment) (customer : ℕ) (tables : Tables) → KeepsPlaces loaded tables
+      → KeepsPlaces loaded (paid_by edition payment customer tables)
+  keeps-paid_by edition payment customer tables keeps = record {
     customers =
         map-with_changed identity_of (is_customer payment.customer_warehouse payment.customer_district customer)
-        (customer_paid payment.amount) (λ row. refl) tables.customers
+        (customer_paid edition payment) (λ row. refl) tables.customers
         ∙ keeps.customers;
     stock = keeps.stock;
   }
@@ -68,27 +69,28 @@ module _ (loaded : Tables) where
         ];
   }
 
-  keeps-sliced : (items : List Item) (warehouse : ℕ) (command : Command) (done : ℕ) (tables : Tables)
-      → KeepsPlaces loaded tables → KeepsPlaces loaded (sliced items warehouse command done tables)
-  keeps-sliced items warehouse (commands.NewOrder order) zero tables keeps =
+  keeps-sliced : (items : List Item) (warehouse : ℕ) (edition : Edition) (command : Command) (done : ℕ) (tables : Tables)
+      → KeepsPlaces loaded tables → KeepsPlaces loaded (sliced items warehouse edition command done tables)
+  keeps-sliced items warehouse edition (commands.NewOrder order) zero tables keeps =
       record { customers = keeps.customers; stock = keeps.stock }
-  keeps-sliced items warehouse (commands.NewOrder order) (suc done) tables keeps =
+  keeps-sliced items warehouse edition (commands.NewOrder order) (suc done) tables keeps =
       keeps-with_line items warehouse order (done + 1) tables (line_behind order done) keeps
-  keeps-sliced items warehouse (commands.Payment payment) zero tables keeps =
+  keeps-sliced items warehouse edition (commands.Payment payment) zero tables keeps =
       record { customers = keeps.customers; stock = keeps.stock }
-  keeps-sliced items warehouse (commands.Payment payment) (suc done) tables keeps =
-      keeps-paid_by payment (payer payment tables).id tables keeps
-  keeps-sliced items warehouse (commands.OrderStatus status) done tables keeps = keeps
-  keeps-sliced items warehouse (commands.Delivery delivery) done tables keeps =
+  keeps-sliced items warehouse edition (commands.Payment payment) (suc done) tables keeps =
+      keeps-paid_by edition payment (payer payment tables).id tables keeps
+  keeps-sliced items warehouse edition (commands.OrderStatus status) done tables keeps = keeps
+  keeps-sliced items warehouse edition (commands.Delivery delivery) done tables keeps =
       keeps-delivered_in delivery tables (done + 1) keeps
-  keeps-sliced items warehouse (commands.StockLevel level) done tables keeps = keeps
+  keeps-sliced items warehouse edition (commands.StockLevel level) done tables keeps = keeps
 
-  pub keeps-slices : (items : List Item) (warehouse : ℕ) (command : Command) (done : ℕ) (tables : Tables)
-      → KeepsPlaces loaded tables → KeepsPlaces loaded (after_slices items warehouse command done tables)
-  keeps-slices items warehouse command zero tables keeps = keeps
-  keeps-slices items warehouse command (suc done) tables keeps =
-      keeps-sliced items warehouse command done (after_slices items warehouse command done tables)
-      (keeps-slices items warehouse command done tables keeps)
+  pub keeps-slices : (items : List Item) (warehouse : ℕ) (edition : Edition) (command : Command) (done : ℕ)
+      (tables : Tables) → KeepsPlaces loaded tables
+      → KeepsPlaces loaded (after_slices items warehouse edition command done tables)
+  keeps-slices items warehouse edition command zero tables keeps = keeps
+  keeps-slices items warehouse edition command (suc done) tables keeps =
+      keeps-sliced items warehouse edition command done (after_slices items warehouse edition command done tables)
+      (keeps-slices items warehouse edition command done tables keeps)
 
   -- ---- the part of a command
 
@@ -118,9 +120,9 @@ module _ (loaded : Tables) where
   keeps-paid_in payment customer tables true keeps = record { customers = keeps.customers; stock = keeps.stock }
   keeps-paid_in payment customer tables false keeps = keeps
 
-  pub keeps-part : (items : List Item) (number : ℕ) (command : Command) (tables : Tables) → KeepsPlaces loaded tables
-      → KeepsPlaces loaded (part items number command tables)
-  keeps-part items number (commands.NewOrder order) tables keeps =
+  pub keeps-part : (items : List Item) (number : ℕ) (edition : Edition) (command : Command) (tables : Tables)
+      → KeepsPlaces loaded tables → KeepsPlaces loaded (part items number edition command tables)
+  keeps-part items number edition (commands.NewOrder order) tables keeps =
       let home : Tables = cond (order.warehouse == number) (ordered items order tables) tables in
       let kept : KeepsPlaces loaded home = keeps-ordered items order tables (order.warehouse == number) keeps in
       record {
@@ -129,19 +131,19 @@ module _ (loaded : Tables) where
             keeps-sold number order (filter (λ line. line.supply_warehouse == number) order.lines) home.stock
             kept.stock;
       }
-  keeps-part items number (commands.Payment payment) tables keeps =
+  keeps-part items number edition (commands.Payment payment) tables keeps =
       let customer : ℕ = number_in payment.who in
       let home : Tables = cond (payment.warehouse == number) (paid_in payment customer tables) tables in
       let kept : KeepsPlaces loaded home = keeps-paid_in payment customer tables (payment.warehouse == number) keeps in
       elim (payment.customer_warehouse == number) as (λ b.
-      KeepsPlaces loaded (cond b (paid_by payment customer home) home)) [
-        | true ↦ keeps-paid_by payment customer home kept
+      KeepsPlaces loaded (cond b (paid_by edition payment customer home) home)) [
+        | true ↦ keeps-paid_by edition payment customer home kept
         | false ↦ kept
       ]
-  keeps-part items number (commands.OrderStatus status) tables keeps = keeps
-  keeps-part items number (commands.Delivery delivery) tables keeps =
+  keeps-part items number edition (commands.OrderStatus status) tables keeps = keeps
+  keeps-part items number edition (commands.Delivery delivery) tables keeps =
       elim (delivery.warehouse == number) as (λ b. KeepsPlaces loaded (cond b (delivered delivery tables) tables)) [
         | true ↦ keeps-districts delivery district_numbers tables keeps
         | false ↦ keeps
       ]
-  keeps-part items number (commands.StockLevel level) tables keeps = keeps
+  keeps-part items number edition (commands.StockLevel level) tables keeps = keeps

@@ -1,6 +1,6 @@
 -- What is known of a command over several warehouses of which a warehouse does its part.
 use Rattle.std.proofs.Common.{◌≡◌, ◌≢◌, ℕ, ◌+◌, ◌≤◌, ◌==◌, ◌||◌, inl, inr, true, false, cond, not, List, [], ◌∷◌, ◌++◌, drop, filter, length, map, slice_get, Option, Some, None, refl, sym, ap, ap₂, subst, ◌∙◌, arith}
-use Rattle.std.specs.Prelude.{◌⊎◌, Result, Ok, Err, IfErr, IsErrOf, All, fold, is_some, nat_lt, unwrap_or}
+use Rattle.std.specs.Prelude.{◌⊎◌, Result, Ok, Err, IfErr, IfOk, IsErrOf, All, fold, is_some, nat_lt, unwrap_or}
 use Rattle.std.specs.List.{find, list_any}
 use Rattle.std.specs.Option.{IfSome}
 use Rattle.std.proofs.lemmas.Bool.{and_parts, both_ways, eq-eqb, eqb-true, ne_eqb, or_cases}
@@ -26,6 +26,7 @@ use Rattle.hy_commands.specs.declared.command.Payment.{Payment}
 use Rattle.hy_commands.specs.declared.command.Purchase.{Purchase}
 use Rattle.hy_commands.specs.declared.command.PurchaseLine.{PurchaseLine}
 use Rattle.hy_commands.specs.declared.command.Who.{Who}
+use Rattle.hy_commands.specs.declared.edition.Edition.{Edition}
 use Rattle.hy_commands.specs.declared.command.Who.TheVariants as who
 use Rattle.hy_commands.specs.declared.reply.Reply.{Reply}
 use Rattle.hy_commands.specs.Commands.{is_line_in_range}
@@ -59,7 +60,7 @@ use Rattle.hy_writers.proofs.DeliverLaws.{any-place}
 use Rattle.hy_writers.proofs.FindLaws.{within-at}
 use Rattle.hy_writers.proofs.WritesLaws.{all-at}
 use Rattle.hy_tpcc.specs.Executor.{DoesSlices, HasDone, KnowsCustomer, answer_of, rows_after}
-use Rattle.hy_tpcc.specs.Parts.{DoesPart, HasPart, reply_of_part, with_lines_sold}
+use Rattle.hy_tpcc.specs.Parts.{DoesPart, HasPart, IsReplyInEach, reply_of_part, with_lines_sold}
 use Rattle.hy_tpcc.proofs.PurchaseLaws.{answer-last}
 
 -- one of three refusals that isn't the first
@@ -72,16 +73,24 @@ not-missing (Err refusal) there (inl missing) = absurd (there (ap Err missing))
 not-missing (Err refusal) there (inr other) = other
 
 -- what a warehouse answers behind its part
-module _ (layout : LayoutState) (command : Command) (tables : Tables) where
+module _ (layout : LayoutState) (edition : Edition) (command : Command) (tables : Tables) where
   reply-own : customer_home_of command ≡ layout.warehouse
-      → Some (accepted layout.load.items layout.warehouse command tables).reply ≡ reply_of_part layout command tables
+      → Some (accepted layout.load.items layout.warehouse edition command tables).reply ≡ reply_of_part layout edition command tables
   reply-own own =
-      ap (λ b. cond b (Some (accepted layout.load.items layout.warehouse command tables).reply) None)
+      ap (λ b. cond b (Some (accepted layout.load.items layout.warehouse edition command tables).reply) None)
       (sym (eq-eqb (customer_home_of command) layout.warehouse own))
 
-  reply-other : (customer_home_of command == layout.warehouse) ≡ false → None ≡ reply_of_part layout command tables
+  reply-other : (customer_home_of command == layout.warehouse) ≡ false → None ≡ reply_of_part layout edition command tables
   reply-other other =
-      ap (λ b. cond b (Some (accepted layout.load.items layout.warehouse command tables).reply) None) (sym other)
+      ap (λ b. cond b (Some (accepted layout.load.items layout.warehouse edition command tables).reply) None) (sym other)
+
+-- what is the same in each edition holds in one, also of a command that is known to be it
+pub reply-each : (result : Result (Option Reply) Refusal) (layout : LayoutState) (edition : Edition)
+    (command one : Command) (tables : Tables) → command ≡ one → IfOk result (IsReplyInEach layout one tables)
+    → IfOk result (λ reply. reply ≡ reply_of_part layout edition command tables)
+reply-each (Ok reply) layout edition command one tables is answers =
+    answers edition ∙ ap (λ (c : Command). reply_of_part layout edition c tables) (sym is)
+reply-each (Err refusal) layout edition command one tables is answers = tt
 
 module _ (layout : LayoutState) (command : Command) (does : HasPart layout command) where
   pub part-passed : IsAcceptedIn (database_of layout.load) command
@@ -195,10 +204,10 @@ module _ (layout : LayoutState) (is_load : IsLoad layout.load) (there : HasWareh
     }
 
     -- so that the warehouse begins its slices
-    pub part-begun : (place : ℕ) (s : Stored) → KnowsCustomer layout (commands.NewOrder order) place
+    pub part-begun : (edition : Edition) (place : ℕ) (s : Stored) → KnowsCustomer layout (commands.NewOrder order) place
         → IsSoundStore layout s → HasGrownBy 100_000_000 s.tables
-        → HasDone layout (commands.NewOrder order) place 0 s.tables s
-    part-begun place s knows sound grown =
+        → HasDone layout edition (commands.NewOrder order) place 0 s.tables s
+    part-begun edition place s knows sound grown =
         let begins = part-begins s.tables sound.places in
         record {
           begun = record {
@@ -208,7 +217,7 @@ module _ (layout : LayoutState) (is_load : IsLoad layout.load) (there : HasWareh
             bounds = λ done within known.
                 grown-slices layout.load.items (items-fit layout.load is_load) layout.warehouse
                 (number-near layout.load is_load layout.warehouse there) 100_000_000 s.tables sound.sound grown
-                (commands.NewOrder order) done (inr begins) within known;
+                edition (commands.NewOrder order) done (inr begins) within known;
             customer = knows;
           };
           rows = refl;
@@ -217,32 +226,32 @@ module _ (layout : LayoutState) (is_load : IsLoad layout.load) (there : HasWareh
         }
 
     -- behind all of its slices but the last one
-    pub part-reached : (place count : ℕ) (s s1 : Stored) → KnowsCustomer layout (commands.NewOrder order) place
+    pub part-reached : (edition : Edition) (place count : ℕ) (s s1 : Stored) → KnowsCustomer layout (commands.NewOrder order) place
         → IsSoundStore layout s → HasGrownBy 100_000_000 s.tables → count ≡ length order.lines
         → DoesSlices layout (commands.NewOrder order) place (length order.lines) s s1
-        → HasDone layout (commands.NewOrder order) place count s.tables s1
-    part-reached place count s s1 knows sound grown last slices =
-        subst (λ n. HasDone layout (commands.NewOrder order) place n s.tables s1) (sym last)
-        (slices s.tables (part-begun place s knows sound grown))
+        → HasDone layout edition (commands.NewOrder order) place count s.tables s1
+    part-reached edition place count s s1 knows sound grown last slices =
+        subst (λ n. HasDone layout edition (commands.NewOrder order) place n s.tables s1) (sym last)
+        (slices edition s.tables (part-begun edition place s knows sound grown))
 
     -- its last slice leaves the part, and answers it
-    pub part-bought : (place count : ℕ) (first s : Stored) → count ≡ length order.lines
-        → HasDone layout (commands.NewOrder order) place (count + 1) first.tables s
-        → DoesPart layout (commands.NewOrder order) first s
-    part-bought place count first s last now = record {
+    pub part-bought : (edition : Edition) (place count : ℕ) (first s : Stored) → count ≡ length order.lines
+        → HasDone layout edition (commands.NewOrder order) place (count + 1) first.tables s
+        → DoesPart layout edition (commands.NewOrder order) first s
+    part-bought edition place count first s last now = record {
       rows =
-          now.rows ∙ ap (λ n. rows_after layout (commands.NewOrder order) (n + 1) first.tables) last
-          ∙ slices-part layout.load.items layout.warehouse (commands.NewOrder order) first.tables
+          now.rows ∙ ap (λ n. rows_after layout edition (commands.NewOrder order) (n + 1) first.tables) last
+          ∙ slices-part layout.load.items layout.warehouse edition (commands.NewOrder order) first.tables
           (part-begins first.tables now.begun.places);
       indexes = now.indexes;
     }
 
-    pub part-answers : (done : ℕ) (tables : Tables) (reply : Option Reply) → done ≡ length order.lines
-        → reply ≡ answer_of layout (commands.NewOrder order) done tables
-        → reply ≡ reply_of_part layout (commands.NewOrder order) tables
-    part-answers done tables reply last is =
-        is ∙ answer-last layout order done tables last
-        ∙ reply-own layout (commands.NewOrder order) tables home
+    pub part-answers : (edition : Edition) (done : ℕ) (tables : Tables) (reply : Option Reply) → done ≡ length order.lines
+        → reply ≡ answer_of layout edition (commands.NewOrder order) done tables
+        → reply ≡ reply_of_part layout edition (commands.NewOrder order) tables
+    part-answers edition done tables reply last is =
+        is ∙ answer-last layout edition order done tables last
+        ∙ reply-own layout edition (commands.NewOrder order) tables home
 
   -- ---- a purchase elsewhere
 
@@ -308,9 +317,9 @@ module _ (layout : LayoutState) (is_load : IsLoad layout.load) (there : HasWareh
         }
 
     -- all lines together are the part of a warehouse that isn't the home
-    pub sells-all : (place : ℕ) (first s : Stored) → length order.lines ≤ place → SellsLines layout order place first s
-        → DoesPart layout (commands.NewOrder order) first s
-    sells-all place first s past now =
+    pub sells-all : (edition : Edition) (place : ℕ) (first s : Stored) → length order.lines ≤ place → SellsLines layout order place first s
+        → DoesPart layout edition (commands.NewOrder order) first s
+    sells-all edition place first s past now =
         let none : drop place order.lines ≡ [] = drop_all place order.lines past in
         let sold : s ≡ with_lines_sold layout.warehouse order.lines first =
         sym (ap (λ lines. with_lines_sold layout.warehouse lines s) none) ∙ now.left in
@@ -323,9 +332,9 @@ module _ (layout : LayoutState) (is_load : IsLoad layout.load) (there : HasWareh
         }
 
     -- and its answer is none
-    pub no-reply : (tables : Tables) → None ≡ reply_of_part layout (commands.NewOrder order) tables
-    no-reply tables =
-        reply-other layout (commands.NewOrder order) tables other
+    pub no-reply : (edition : Edition) (tables : Tables) → None ≡ reply_of_part layout edition (commands.NewOrder order) tables
+    no-reply edition tables =
+        reply-other layout edition (commands.NewOrder order) tables other
 
 -- ---- a payment
 
@@ -429,15 +438,15 @@ module _ (layout : LayoutState) (payment : Payment) (does : HasPart layout (comm
   }
 
   -- the home's part
-  pub home-part : payment.warehouse ≡ layout.warehouse → (s s1 : Stored) (customer : ℕ)
+  pub home-part : payment.warehouse ≡ layout.warehouse → (edition : Edition) (s s1 : Stored) (customer : ℕ)
       → customer ≡ number_in payment.who → s1 ≡ with_home_paid payment customer s → HasIndexes s
-      → DoesPart layout (commands.Payment payment) s s1
-  home-part home s s1 customer number paid indexes =
+      → DoesPart layout edition (commands.Payment payment) s s1
+  home-part home edition s s1 customer number paid indexes =
       let named : ℕ = number_in payment.who in
       record {
         rows =
             ap (λ (t : Stored). t.tables) paid ∙ ap (λ n. paid_in payment n s.tables) number
-            ∙ ap₂ (λ home own. cond own (paid_by payment named (cond home (paid_in payment named s.tables) s.tables))
+            ∙ ap₂ (λ home own. cond own (paid_by edition payment named (cond home (paid_in payment named s.tables) s.tables))
             (cond home (paid_in payment named s.tables) s.tables))
             (sym (eq-eqb payment.warehouse layout.warehouse home)) (sym (other-customer home));
         indexes = subst HasIndexes (sym paid) record {
@@ -448,10 +457,10 @@ module _ (layout : LayoutState) (payment : Payment) (does : HasPart layout (comm
         };
       }
 
-  pub no-reply_home : payment.warehouse ≡ layout.warehouse → (tables : Tables)
-      → None ≡ reply_of_part layout (commands.Payment payment) tables
-  no-reply_home home tables =
-      reply-other layout (commands.Payment payment) tables (other-customer home)
+  pub no-reply_home : payment.warehouse ≡ layout.warehouse → (edition : Edition) (tables : Tables)
+      → None ≡ reply_of_part layout edition (commands.Payment payment) tables
+  no-reply_home home edition tables =
+      reply-other layout edition (commands.Payment payment) tables (other-customer home)
 
   -- ---- and the customer's
 
@@ -484,17 +493,18 @@ module _ (layout : LayoutState) (payment : Payment) (does : HasPart layout (comm
       payer = meant;
     }
 
-    pub customer-part : (s s1 : Stored) → IsSoundStore layout s → s1 ≡ with_customer_paid payment s
-        → DoesPart layout (commands.Payment payment) s s1
-    customer-part s s1 sound paid =
+    pub customer-part : (edition : Edition) (s s1 : Stored) → IsSoundStore layout s
+        → s1 ≡ with_customer_paid edition payment s
+        → DoesPart layout edition (commands.Payment payment) s s1
+    customer-part edition s s1 sound paid =
         let named : ℕ = number_in payment.who in
         let number : (payer payment s.tables).id ≡ named =
         meant-number payment.customer_warehouse payment.customer_district s.tables.customers payment.who does.numbered
         (payer-there s.tables sound.places) in
         record {
           rows =
-              ap (λ (t : Stored). t.tables) paid ∙ ap (λ n. paid_by payment n s.tables) number
-              ∙ ap₂ (λ home own. cond own (paid_by payment named (cond home (paid_in payment named s.tables) s.tables))
+              ap (λ (t : Stored). t.tables) paid ∙ ap (λ n. paid_by edition payment n s.tables) number
+              ∙ ap₂ (λ home own. cond own (paid_by edition payment named (cond home (paid_in payment named s.tables) s.tables))
               (cond home (paid_in payment named s.tables) s.tables))
               (sym (ne_eqb payment.warehouse layout.warehouse elsewhere))
               (sym (eq-eqb payment.customer_warehouse layout.warehouse (own-customer elsewhere)));
@@ -506,8 +516,9 @@ module _ (layout : LayoutState) (payment : Payment) (does : HasPart layout (comm
           };
         }
 
-    pub customer-reply : (tables : Tables) (reply : Reply) → reply ≡ payment_reply payment (payer payment tables)
-        → Some reply ≡ reply_of_part layout (commands.Payment payment) tables
-    customer-reply tables reply is =
+    pub customer-reply : (edition : Edition) (tables : Tables) (reply : Reply)
+        → reply ≡ payment_reply edition payment (payer payment tables)
+        → Some reply ≡ reply_of_part layout edition (commands.Payment payment) tables
+    customer-reply edition tables reply is =
         ap Some is
-        ∙ reply-own layout (commands.Payment payment) tables (own-customer elsewhere)
+        ∙ reply-own layout edition (commands.Payment payment) tables (own-customer elsewhere)

@@ -23,6 +23,7 @@ use Rattle.hy_rows.specs.Spelling.{live_rows}
 use Rattle.hy_commands.specs.declared.command.Command.TheVariants as commands
 use Rattle.hy_commands.specs.declared.command.Purchase.{Purchase}
 use Rattle.hy_commands.specs.declared.command.PurchaseLine.{PurchaseLine}
+use Rattle.hy_commands.specs.declared.edition.Edition.{Edition}
 use Rattle.hy_commands.specs.declared.command.Who.TheVariants as who
 use Rattle.hy_commands.specs.Commands.{is_line_in_range}
 use Rattle.hy_commands.specs.Growth.{IsCustomerUpTo}
@@ -86,9 +87,9 @@ purchase-begun warehouse order tables near begins =
     }
 
 -- the number of its customer is that of a row
-pub customer-small : (layout : LayoutState) (order : Purchase) (place : ℕ) (before : Tables)
-    → IsBegun layout (commands.NewOrder order) place before → order.customer < 2 ^ 16
-customer-small layout order place before begun =
+pub customer-small : (layout : LayoutState) (edition : Edition) (order : Purchase) (place : ℕ) (before : Tables)
+    → IsBegun layout edition (commands.NewOrder order) place before → order.customer < 2 ^ 16
+customer-small layout edition order place before begun =
     let meant = begun.customer before begun.places in
     let test = is_customer layout.warehouse order.district order.customer in
     let passes = tells-three (meant.row).warehouse (meant.row).district (meant.row).id layout.warehouse order.district
@@ -100,7 +101,7 @@ customer-small layout order place before begun =
 
 -- ---- the head
 
-module _ (items : List Item) (number : ℕ) (order : Purchase) (tables : Tables)
+module _ (items : List Item) (number : ℕ) (edition : Edition) (order : Purchase) (tables : Tables)
     (sound : IsSoundWarehouse items number tables)
     (begins : Begins number (commands.NewOrder order) tables) where
   orders-below : AreBelow order.district (order_number order tables) tables.orders
@@ -143,7 +144,7 @@ module _ (items : List Item) (number : ℕ) (order : Purchase) (tables : Tables)
 
   -- the total of an order is the same behind its head and each of its lines
   abbrev behind : ℕ → Tables
-  behind done = after_slices items number (commands.NewOrder order) done tables
+  behind done = after_slices items number edition (commands.NewOrder order) done tables
 
   same-tax : (district_of_purchase order (headed order tables)).tax ≡ (district_of_purchase order tables).tax
   same-tax =
@@ -166,42 +167,42 @@ module _ (items : List Item) (number : ℕ) (order : Purchase) (tables : Tables)
       stays tables None = refl
       stays tables (Some line) = refl
 
-pub head-done : (layout : LayoutState) (order : Purchase) (place : ℕ) (before : Tables) (s s1 : Stored)
+pub head-done : (layout : LayoutState) (edition : Edition) (order : Purchase) (place : ℕ) (before : Tables) (s s1 : Stored)
     → s.tables.new_orders ≡ live_rows s.new_order_slots → s1 ≡ with_order order s
-    → HasDone layout (commands.NewOrder order) place 0 before s
-    → HasDone layout (commands.NewOrder order) place 1 before s1
-head-done layout order place before s s1 live placed now = record {
+    → HasDone layout edition (commands.NewOrder order) place 0 before s
+    → HasDone layout edition (commands.NewOrder order) place 1 before s1
+head-done layout edition order place before s s1 live placed now = record {
   begun = now.begun;
   rows = ap (λ (t : Stored). t.tables) placed ∙ ap (headed order) now.rows;
   known = refl;
   indexes = subst HasIndexes (sym placed)
-      (indexes-headed layout.load.items layout.warehouse order before now.begun.sound now.begun.begun s now.rows live
+      (indexes-headed layout.load.items layout.warehouse edition order before now.begun.sound now.begun.begun s now.rows live
       now.indexes);
 }
 
 -- ---- a line
 
-no-line : (layout : LayoutState) (order : Purchase) (place lines : ℕ) (before : Tables) (s : Stored)
-    → HasDone layout (commands.NewOrder order) place (suc lines) before s
+no-line : (layout : LayoutState) (edition : Edition) (order : Purchase) (place lines : ℕ) (before : Tables) (s : Stored)
+    → HasDone layout edition (commands.NewOrder order) place (suc lines) before s
     → NoLine order.district (headed_number order s.tables) (lines + 1) s.tables.order_lines
-no-line layout order place lines before s now place_of row here same_district same_order same_number =
+no-line layout edition order place lines before s now place_of row here same_district same_order same_number =
     let number : ℕ = order_number order before in
-    let next = number-slices layout.load.items layout.warehouse order before now.begun.sound now.begun.begun lines in
+    let next = number-slices layout.load.items layout.warehouse edition order before now.begun.sound now.begun.begun lines in
     let taken : order_number order s.tables ≡ number + 1 = ap (order_number order) now.rows ∙ next in
     let order_is : row.order ≡ number = omega (arith, same_order, taken) in
-    let placing = placing-slices layout.load.items layout.warehouse order before now.begun.sound now.begun.begun lines
+    let placing = placing-slices layout.load.items layout.warehouse edition order before now.begun.sound now.begun.begun lines
     now.known in
     let all : All (IsLineBefore order number lines) s.tables.order_lines =
     subst (λ (t : Tables). All (IsLineBefore order number lines) t.order_lines) (sym now.rows) placing.lines in
     let less = all-at (IsLineBefore order number lines) s.tables.order_lines place_of row all here same_district order_is in
     absurd (omega (arith, less, same_number))
 
-line-done : (layout : LayoutState) (order : Purchase) (place lines : ℕ) (before : Tables) (s s1 : Stored)
+line-done : (layout : LayoutState) (edition : Edition) (order : Purchase) (place lines : ℕ) (before : Tables) (s s1 : Stored)
     (line : PurchaseLine) → line_behind order lines ≡ Some line → has_item layout.load.items line ≡ true
     → s1 ≡ with_order_line layout.load.items layout.warehouse order lines line s
-    → HasDone layout (commands.NewOrder order) place (suc lines) before s
-    → HasDone layout (commands.NewOrder order) place (suc (suc lines)) before s1
-line-done layout order place lines before s s1 line is_line has added now =
+    → HasDone layout edition (commands.NewOrder order) place (suc lines) before s
+    → HasDone layout edition (commands.NewOrder order) place (suc (suc lines)) before s1
+line-done layout edition order place lines before s s1 line is_line has added now =
     let items : List Item = layout.load.items in
     let command = commands.NewOrder order in
     record {
@@ -209,26 +210,26 @@ line-done layout order place lines before s s1 line is_line has added now =
       rows =
           ap (λ (t : Stored). t.tables) added
           ∙ ap (λ (t : Tables). lined items layout.warehouse order (headed_number order t) (lines + 1) t line) now.rows
-          ∙ ap (with_line items layout.warehouse order (lines + 1) (rows_after layout command (suc lines) before)) (sym is_line);
+          ∙ ap (with_line items layout.warehouse order (lines + 1) (rows_after layout edition command (suc lines) before)) (sym is_line);
       known = ap₂ (λ a b. a && b) now.known (ap (is_known items) is_line ∙ has);
       indexes = subst HasIndexes (sym added)
           (indexes-line items layout.warehouse lines order line s now.indexes
-          (no-line layout order place lines before s now));
+          (no-line layout edition order place lines before s now));
     }
 
 -- the next line, behind so many slices
-pub line-next : (layout : LayoutState) (order : Purchase) (place done : ℕ) (before : Tables) (s s1 : Stored)
+pub line-next : (layout : LayoutState) (edition : Edition) (order : Purchase) (place done : ℕ) (before : Tables) (s s1 : Stored)
     (line : PurchaseLine) → 0 < done → line_behind order (done - 1) ≡ Some line
     → list_any (is_item line.item) layout.load.items ≡ true
     → s1 ≡ with_order_line layout.load.items layout.warehouse order (done - 1) line s
-    → HasDone layout (commands.NewOrder order) place done before s
-    → HasDone layout (commands.NewOrder order) place (done + 1) before s1
-line-next layout order place zero before s s1 line head is_line has added now = absurd (omega (arith, head))
-line-next layout order place (suc lines) before s s1 line head is_line has added now =
+    → HasDone layout edition (commands.NewOrder order) place done before s
+    → HasDone layout edition (commands.NewOrder order) place (done + 1) before s1
+line-next layout edition order place zero before s s1 line head is_line has added now = absurd (omega (arith, head))
+line-next layout edition order place (suc lines) before s s1 line head is_line has added now =
     let one_less : suc lines - 1 ≡ lines = omega arith in
     let one_more : suc (suc lines) ≡ suc lines + 1 = omega arith in
-    subst (λ n. HasDone layout (commands.NewOrder order) place n before s1) one_more
-    (line-done layout order place lines before s s1 line
+    subst (λ n. HasDone layout edition (commands.NewOrder order) place n before s1) one_more
+    (line-done layout edition order place lines before s s1 line
     (subst (λ k. line_behind order k ≡ Some line) one_less is_line) has
     (subst (λ k. s1 ≡ with_order_line layout.load.items layout.warehouse order k line s) one_less added) now)
 
@@ -255,16 +256,16 @@ not-no_item shortages.NoMemory same = absurd (cc)
 not-no_item shortages.NoFrame same = absurd (cc)
 
 -- a store takes the line behind so many slices
-pub can-add_line : (layout : LayoutState) (order : Purchase) (place done : ℕ) (before : Tables) (s : Stored)
+pub can-add_line : (layout : LayoutState) (edition : Edition) (order : Purchase) (place done : ℕ) (before : Tables) (s : Stored)
     (line : PurchaseLine) (item : Item) → IsLoad layout.load → HasWarehouse layout.load layout.warehouse
     → 0 < done → done < length order.lines + 1
     → line_behind order (done - 1) ≡ Some line → find (is_item line.item) layout.load.items ≡ Some item
-    → IsBetween 1 (length layout.load.items) line.item → HasDone layout (commands.NewOrder order) place done before s
+    → IsBetween 1 (length layout.load.items) line.item → HasDone layout edition (commands.NewOrder order) place done before s
     → CanAddLine layout order (done - 1) line item s
-can-add_line layout order place done before s line item is_load there head next is_line is_item_of number now =
+can-add_line layout edition order place done before s line item is_load there head next is_line is_item_of number now =
     let command = commands.NewOrder order in
     let within : done ≤ length order.lines + 1 = omega (arith, next) in
-    let whole = whole-done layout command place done before s now within in
+    let whole = whole-done layout edition command place done before s now within in
     let begun = purchase-begun layout.warehouse order before
     (number-near layout.load is_load layout.warehouse there) now.begun.begun in
     let few = (bounds 5 15 (length order.lines) begun.count).1 in
@@ -275,8 +276,8 @@ can-add_line layout order place done before s line item is_load there head next 
     record {
       rows = whole.rows;
       stock = whole.stock.unique;
-      places = places-done layout command place done before s now within;
-      bounds = bounds-done layout command place done before s now within;
+      places = places-done layout edition command place done before s now within;
+      bounds = bounds-done layout edition command place done before s now within;
       next = whole.orders.next_orders;
       begun = begun;
       few = omega (arith, few, next, head);
@@ -304,55 +305,55 @@ all-true test (row ∷ rows) all =
     let parts = and_parts (test row) (list_all test rows) all in
     All-cons (λ row. test row ≡ true) row rows parts.0 (all-true test rows parts.1)
 
-pub can-reply : (layout : LayoutState) (order : Purchase) (place : ℕ) (before : Tables) (s : Stored)
-    → layout.warehouse ≤ 16 → HasDone layout (commands.NewOrder order) place (length order.lines + 1) before s
+pub can-reply : (layout : LayoutState) (edition : Edition) (order : Purchase) (place : ℕ) (before : Tables) (s : Stored)
+    → layout.warehouse ≤ 16 → HasDone layout edition (commands.NewOrder order) place (length order.lines + 1) before s
     → CanReply layout order place s
-can-reply layout order place before s near now =
+can-reply layout edition order place before s near now =
     let command = commands.NewOrder order in
     let last : ℕ = length order.lines + 1 in
-    let whole = whole-done layout command place last before s now (omega arith) in
+    let whole = whole-done layout edition command place last before s now (omega arith) in
     record {
       rows = whole.rows;
       next = whole.orders.next_orders;
       begun = purchase-begun layout.warehouse order before near now.begun.begun;
       known = all-true (has_item layout.load.items) order.lines
           (sym (purchase-known layout.load.items layout.warehouse order before) ∙ now.known);
-      buyer = now.begun.customer s.tables (places-done layout command place last before s now (omega arith));
+      buyer = now.begun.customer s.tables (places-done layout edition command place last before s now (omega arith));
     }
 
-pub reply-ordered : (layout : LayoutState) (order : Purchase) (place : ℕ) (before : Tables) (s : Stored) (row : District)
+pub reply-ordered : (layout : LayoutState) (edition : Edition) (order : Purchase) (place : ℕ) (before : Tables) (s : Stored) (row : District)
     (total : ℕ) → IsFoundAt (is_district layout.warehouse order.district) s.tables.districts (order.district - 1) row
     → total ≡ purchase_total layout.load.items order s.tables
-    → HasDone layout (commands.NewOrder order) place (length order.lines + 1) before s
+    → HasDone layout edition (commands.NewOrder order) place (length order.lines + 1) before s
     → replies.NewOrder (row.next_order - 1) total
-    ≡ (accepted layout.load.items layout.warehouse (commands.NewOrder order) before).reply
-reply-ordered layout order place before s row total found is now =
+    ≡ (accepted layout.load.items layout.warehouse edition (commands.NewOrder order) before).reply
+reply-ordered layout edition order place before s row total found is now =
     let items : List Item = layout.load.items in
     let lines : ℕ = length order.lines in
     let one_more : lines + 1 ≡ suc lines = omega arith in
-    let rows : s.tables ≡ rows_after layout (commands.NewOrder order) (suc lines) before =
-    subst (λ n. s.tables ≡ rows_after layout (commands.NewOrder order) n before) one_more now.rows in
+    let rows : s.tables ≡ rows_after layout edition (commands.NewOrder order) (suc lines) before =
+    subst (λ n. s.tables ≡ rows_after layout edition (commands.NewOrder order) n before) one_more now.rows in
     let home = ((begun-purchase layout.warehouse order before now.begun.begun).0).home in
     let read : order_number order s.tables ≡ row.next_order =
     ap (λ home. (first_or (district_of []) (is_district home order.district) s.tables.districts).next_order) home
     ∙ ap (λ one. (unwrap_or one (district_of [])).next_order) found.found in
-    let next = number-slices items layout.warehouse order before now.begun.sound now.begun.begun lines in
+    let next = number-slices items layout.warehouse edition order before now.begun.sound now.begun.begun lines in
     let after : order_number order s.tables ≡ order_number order before + 1 = ap (order_number order) rows ∙ next in
     let number : row.next_order - 1 ≡ order_number order before = omega (arith, read, after) in
     let whole : total ≡ purchase_total items order before =
-    is ∙ ap (purchase_total items order) rows ∙ same-total items layout.warehouse order before now.begun.sound now.begun.begun lines in
+    is ∙ ap (purchase_total items order) rows ∙ same-total items layout.warehouse edition order before now.begun.sound now.begun.begun lines in
     ap₂ (λ (n : ℕ) (cents : ℕ). replies.NewOrder n cents) number whole
 
 -- what a purchase answers behind so many slices
-pub answer-before : (layout : LayoutState) (order : Purchase) (done : ℕ) (before : Tables) → done < length order.lines
-    → answer_of layout (commands.NewOrder order) done before ≡ None
-answer-before layout order done before more =
+pub answer-before : (layout : LayoutState) (edition : Edition) (order : Purchase) (done : ℕ) (before : Tables) → done < length order.lines
+    → answer_of layout edition (commands.NewOrder order) done before ≡ None
+answer-before layout edition order done before more =
     let other : (done + 1 == length order.lines + 1) ≡ false = grind (arith, nat_tests, more) in
-    ap (λ b. cond b (Some (accepted layout.load.items layout.warehouse (commands.NewOrder order) before).reply) None) other
+    ap (λ b. cond b (Some (accepted layout.load.items layout.warehouse edition (commands.NewOrder order) before).reply) None) other
 
-pub answer-last : (layout : LayoutState) (order : Purchase) (done : ℕ) (before : Tables) → done ≡ length order.lines
-    → answer_of layout (commands.NewOrder order) done before
-    ≡ Some (accepted layout.load.items layout.warehouse (commands.NewOrder order) before).reply
-answer-last layout order done before last =
+pub answer-last : (layout : LayoutState) (edition : Edition) (order : Purchase) (done : ℕ) (before : Tables) → done ≡ length order.lines
+    → answer_of layout edition (commands.NewOrder order) done before
+    ≡ Some (accepted layout.load.items layout.warehouse edition (commands.NewOrder order) before).reply
+answer-last layout edition order done before last =
     let same : (done + 1 == length order.lines + 1) ≡ true = grind (arith, nat_tests, last) in
-    ap (λ b. cond b (Some (accepted layout.load.items layout.warehouse (commands.NewOrder order) before).reply) None) same
+    ap (λ b. cond b (Some (accepted layout.load.items layout.warehouse edition (commands.NewOrder order) before).reply) None) same

@@ -13,6 +13,7 @@ use Rattle.hy_commands.specs.Deliveries.{delivered_in, oldest}
 use Rattle.hy_commands.specs.declared.command.OrderStatus.{OrderStatus}
 use Rattle.hy_commands.specs.declared.command.Payment.{Payment}
 use Rattle.hy_commands.specs.declared.command.StockLevel.{StockLevel}
+use Rattle.hy_commands.specs.declared.edition.Edition.{Edition}
 use Rattle.hy_commands.specs.Invariant.{IsSoundWarehouse}
 use Rattle.hy_writers.specs.Waiting.{IsSoundStore}
 use Rattle.hy_commands.specs.Commands.{is_in_range, warehouses_of}
@@ -81,12 +82,12 @@ payment-customer warehouse payment tables begins =
       amount = (begun-payment warehouse payment tables alone).amount;
     }
 
-module _ (layout : LayoutState) (command : Command) (place done : ℕ) (before : Tables) (s : Stored)
-    (now : HasDone layout command place done before s) (within : done ≤ slice_count command) where
+module _ (layout : LayoutState) (edition : Edition) (command : Command) (place done : ℕ) (before : Tables) (s : Stored)
+    (now : HasDone layout edition command place done before s) (within : done ≤ slice_count command) where
   pub whole-done : IsWholeWarehouse layout.load.items layout.warehouse s.tables
   whole-done =
       subst (IsWholeWarehouse layout.load.items layout.warehouse) (sym now.rows)
-      (whole-slices layout.load.items layout.warehouse command before done now.begun.sound now.begun.begun within now.known)
+      (whole-slices layout.load.items layout.warehouse edition command before done now.begun.sound now.begun.begun within now.known)
 
   pub bounds-done : AreInBounds s.tables
   bounds-done = subst AreInBounds (sym now.rows) (now.begun.bounds done within now.known)
@@ -94,41 +95,41 @@ module _ (layout : LayoutState) (command : Command) (place done : ℕ) (before :
   pub places-done : KeepsPlaces (own_rows layout) s.tables
   places-done =
       subst (KeepsPlaces (own_rows layout)) (sym now.rows)
-      (keeps-slices (own_rows layout) layout.load.items layout.warehouse command done before now.begun.places)
+      (keeps-slices (own_rows layout) layout.load.items layout.warehouse edition command done before now.begun.places)
 
 -- ---- a payment
 
-pub can-pay_home : (layout : LayoutState) (payment : Payment) (place done : ℕ) (before : Tables) (s : Stored)
-    → layout.warehouse ≤ 16 → done < 2 → HasDone layout (commands.Payment payment) place done before s
+pub can-pay_home : (layout : LayoutState) (edition : Edition) (payment : Payment) (place done : ℕ) (before : Tables) (s : Stored)
+    → layout.warehouse ≤ 16 → done < 2 → HasDone layout edition (commands.Payment payment) place done before s
     → CanPayHome layout payment s
-can-pay_home layout payment place done before s near next now =
+can-pay_home layout edition payment place done before s near next now =
     let within : done ≤ 2 = omega (arith, next) in
     record {
-      rows = (whole-done layout (commands.Payment payment) place done before s now within).rows;
-      bounds = bounds-done layout (commands.Payment payment) place done before s now within;
+      rows = (whole-done layout edition (commands.Payment payment) place done before s now within).rows;
+      bounds = bounds-done layout edition (commands.Payment payment) place done before s now within;
       begun = payment-home layout.warehouse payment before near now.begun.begun;
     }
 
-pub can-pay_customer : (layout : LayoutState) (payment : Payment) (place done : ℕ) (before : Tables) (s : Stored)
-    → done < 2 → HasDone layout (commands.Payment payment) place done before s
+pub can-pay_customer : (layout : LayoutState) (edition : Edition) (payment : Payment) (place done : ℕ) (before : Tables) (s : Stored)
+    → done < 2 → HasDone layout edition (commands.Payment payment) place done before s
     → CanPayCustomer layout payment place s
-can-pay_customer layout payment place done before s next now =
+can-pay_customer layout edition payment place done before s next now =
     let within : done ≤ 2 = omega (arith, next) in
     record {
-      rows = (whole-done layout (commands.Payment payment) place done before s now within).rows;
-      bounds = bounds-done layout (commands.Payment payment) place done before s now within;
+      rows = (whole-done layout edition (commands.Payment payment) place done before s now within).rows;
+      bounds = bounds-done layout edition (commands.Payment payment) place done before s now within;
       begun = payment-customer layout.warehouse payment before now.begun.begun;
       payer = now.begun.customer s.tables
-          (places-done layout (commands.Payment payment) place done before s now within);
+          (places-done layout edition (commands.Payment payment) place done before s now within);
     }
 
 -- the first slice, with the number of the customer at the place
-pub home-done : (layout : LayoutState) (payment : Payment) (place customer : ℕ) (before : Tables) (s s1 : Stored)
+pub home-done : (layout : LayoutState) (edition : Edition) (payment : Payment) (place customer : ℕ) (before : Tables) (s s1 : Stored)
     (row : Customer) → slice_get s.tables.customers place ≡ Some row → customer ≡ row.id
-    → s1 ≡ with_home_paid payment customer s → HasDone layout (commands.Payment payment) place 0 before s
-    → HasDone layout (commands.Payment payment) place 1 before s1
-home-done layout payment place customer before s s1 row here is paid now =
-    let can = can-pay_customer layout payment place 0 before s (omega arith) now in
+    → s1 ≡ with_home_paid payment customer s → HasDone layout edition (commands.Payment payment) place 0 before s
+    → HasDone layout edition (commands.Payment payment) place 1 before s1
+home-done layout edition payment place customer before s s1 row here is paid now =
+    let can = can-pay_customer layout edition payment place 0 before s (omega arith) now in
     let payer_is = payer-at layout.warehouse payment s.tables place row can.begun can.payer here in
     let number : customer ≡ (payer payment s.tables).id = is ∙ ap (λ (row : Customer). row.id) (sym payer_is) in
     record {
@@ -147,17 +148,17 @@ home-done layout payment place customer before s s1 row here is paid now =
     }
 
 -- the last slice
-pub paid-done : (layout : LayoutState) (payment : Payment) (place done : ℕ) (before : Tables) (s s1 : Stored)
+pub paid-done : (layout : LayoutState) (edition : Edition) (payment : Payment) (place done : ℕ) (before : Tables) (s s1 : Stored)
     → done < 2 → done ≢ 0
-    → s1 ≡ record s { tables = paid_by payment (payer payment s.tables).id s.tables }
-    → HasDone layout (commands.Payment payment) place done before s
-    → HasDone layout (commands.Payment payment) place (done + 1) before s1
-paid-done layout payment place zero before s s1 next behind paid now = absurd (behind refl)
-paid-done layout payment place (suc zero) before s s1 next behind paid now = record {
+    → s1 ≡ record s { tables = paid_by edition payment (payer payment s.tables).id s.tables }
+    → HasDone layout edition (commands.Payment payment) place done before s
+    → HasDone layout edition (commands.Payment payment) place (done + 1) before s1
+paid-done layout edition payment place zero before s s1 next behind paid now = absurd (behind refl)
+paid-done layout edition payment place (suc zero) before s s1 next behind paid now = record {
   begun = now.begun;
   rows =
       ap (λ (t : Stored). t.tables) paid
-      ∙ ap (λ (t : Tables). paid_by payment (payer payment t).id t) now.rows;
+      ∙ ap (λ (t : Tables). paid_by edition payment (payer payment t).id t) now.rows;
   known = refl;
   indexes = subst HasIndexes (sym paid)
       (record {
@@ -167,24 +168,24 @@ paid-done layout payment place (suc zero) before s s1 next behind paid now = rec
         lines = now.indexes.lines;
       });
 }
-paid-done layout payment place (suc (suc done)) before s s1 next behind paid now = absurd (omega arith)
+paid-done layout edition payment place (suc (suc done)) before s s1 next behind paid now = absurd (omega arith)
 
 -- its reply is that of the payment: the first slice leaves the customers
-pub reply-paid : (layout : LayoutState) (payment : Payment) (place done : ℕ) (before : Tables) (s : Stored)
-    (reply : Reply) → done < 2 → done ≢ 0 → reply ≡ payment_reply payment (payer payment s.tables)
-    → HasDone layout (commands.Payment payment) place done before s
-    → Some reply ≡ answer_of layout (commands.Payment payment) done before
-reply-paid layout payment place zero before s reply next behind is now = absurd (behind refl)
-reply-paid layout payment place (suc zero) before s reply next behind is now =
-    ap Some (is ∙ ap (λ (t : Tables). payment_reply payment (payer payment t)) now.rows)
-reply-paid layout payment place (suc (suc done)) before s reply next behind is now = absurd (omega arith)
+pub reply-paid : (layout : LayoutState) (edition : Edition) (payment : Payment) (place done : ℕ) (before : Tables) (s : Stored)
+    (reply : Reply) → done < 2 → done ≢ 0 → reply ≡ payment_reply edition payment (payer payment s.tables)
+    → HasDone layout edition (commands.Payment payment) place done before s
+    → Some reply ≡ answer_of layout edition (commands.Payment payment) done before
+reply-paid layout edition payment place zero before s reply next behind is now = absurd (behind refl)
+reply-paid layout edition payment place (suc zero) before s reply next behind is now =
+    ap Some (is ∙ ap (λ (t : Tables). payment_reply edition payment (payer payment t)) now.rows)
+reply-paid layout edition payment place (suc (suc done)) before s reply next behind is now = absurd (omega arith)
 
 -- ---- the transactions that only read
 
 -- before its first slice a command finds a sound store
-pub sound-begun : (layout : LayoutState) (command : Command) (place : ℕ) (before : Tables) (s : Stored)
-    → HasDone layout command place 0 before s → IsSoundStore layout s
-sound-begun layout command place before s now = record {
+pub sound-begun : (layout : LayoutState) (edition : Edition) (command : Command) (place : ℕ) (before : Tables) (s : Stored)
+    → HasDone layout edition command place 0 before s → IsSoundStore layout s
+sound-begun layout edition command place before s now = record {
   sound = subst (IsSoundWarehouse layout.load.items layout.warehouse) (sym now.rows) now.begun.sound;
   places = subst (KeepsPlaces (own_rows layout)) (sym now.rows) now.begun.places;
   bounds = subst AreInBounds (sym now.rows) (now.begun.bounds 0 (omega arith) refl);
@@ -214,38 +215,38 @@ delivery-begun warehouse delivery tables begins =
     record { home = whole.home; carrier = whole.carrier; moment = whole.moment }
 
 -- between its slices the rows are sound
-pub sound-delivering : (layout : LayoutState) (delivery : Delivery) (place done : ℕ) (before : Tables) (s : Stored)
-    → done < 10 → HasDone layout (commands.Delivery delivery) place done before s → IsSoundStore layout s
-sound-delivering layout delivery place done before s next now =
+pub sound-delivering : (layout : LayoutState) (edition : Edition) (delivery : Delivery) (place done : ℕ) (before : Tables) (s : Stored)
+    → done < 10 → HasDone layout edition (commands.Delivery delivery) place done before s → IsSoundStore layout s
+sound-delivering layout edition delivery place done before s next now =
     let within : done ≤ 10 = omega (arith, next) in
     record {
       sound = subst (IsSoundWarehouse layout.load.items layout.warehouse) (sym now.rows)
-          (sound-slices layout.load.items layout.warehouse delivery before now.begun.sound
+          (sound-slices layout.load.items layout.warehouse edition delivery before now.begun.sound
           (alone-delivery layout.warehouse delivery before now.begun.begun) done);
-      places = places-done layout (commands.Delivery delivery) place done before s now within;
-      bounds = bounds-done layout (commands.Delivery delivery) place done before s now within;
+      places = places-done layout edition (commands.Delivery delivery) place done before s now within;
+      bounds = bounds-done layout edition (commands.Delivery delivery) place done before s now within;
       indexes = now.indexes;
     }
 
-pub delivered-done : (layout : LayoutState) (delivery : Delivery) (place done : ℕ) (before : Tables) (s s1 : Stored)
+pub delivered-done : (layout : LayoutState) (edition : Edition) (delivery : Delivery) (place done : ℕ) (before : Tables) (s s1 : Stored)
     → s1.tables ≡ delivered_in delivery s.tables (done + 1) → HasIndexes s1
-    → HasDone layout (commands.Delivery delivery) place done before s
-    → HasDone layout (commands.Delivery delivery) place (done + 1) before s1
-delivered-done layout delivery place done before s s1 delivered indexes now =
-    let after : HasDone layout (commands.Delivery delivery) place (suc done) before s1 = record {
+    → HasDone layout edition (commands.Delivery delivery) place done before s
+    → HasDone layout edition (commands.Delivery delivery) place (done + 1) before s1
+delivered-done layout edition delivery place done before s s1 delivered indexes now =
+    let after : HasDone layout edition (commands.Delivery delivery) place (suc done) before s1 = record {
       begun = now.begun;
       rows = delivered ∙ ap (λ (t : Tables). delivered_in delivery t (done + 1)) now.rows;
       known = ap (λ known. known && true) now.known;
       indexes = indexes;
     } in
     let one_more : suc done ≡ done + 1 = omega arith in
-    subst (λ n. HasDone layout (commands.Delivery delivery) place n before s1) one_more after
+    subst (λ n. HasDone layout edition (commands.Delivery delivery) place n before s1) one_more after
 
 -- the order that a slice delivers is the oldest one of before
-pub oldest-delivered : (layout : LayoutState) (delivery : Delivery) (place done : ℕ) (before : Tables) (s : Stored)
-    → HasDone layout (commands.Delivery delivery) place done before s
+pub oldest-delivered : (layout : LayoutState) (edition : Edition) (delivery : Delivery) (place done : ℕ) (before : Tables) (s : Stored)
+    → HasDone layout edition (commands.Delivery delivery) place done before s
     → oldest layout.warehouse (done + 1) s.tables ≡ oldest layout.warehouse (done + 1) before
-oldest-delivered layout delivery place done before s now =
+oldest-delivered layout edition delivery place done before s now =
     ap (oldest layout.warehouse (done + 1)) now.rows
-    ∙ oldest-before layout.load.items layout.warehouse delivery before now.begun.sound
+    ∙ oldest-before layout.load.items layout.warehouse edition delivery before now.begun.sound
     (alone-delivery layout.warehouse delivery before now.begun.begun) done (done + 1) (omega arith)

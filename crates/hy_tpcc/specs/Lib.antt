@@ -5,4 +5,5 @@ pub mod Executor
 pub mod Parts
 pub mod WorkedParts
 pub mod Deliveries
+pub mod Payments
 pub mod Shortages

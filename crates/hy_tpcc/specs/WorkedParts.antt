@@ -7,6 +7,7 @@ use Rattle.hy_commands.specs.declared.command.Command.{Command}
 use Rattle.hy_commands.specs.declared.command.Command.TheVariants as commands
 use Rattle.hy_commands.specs.declared.command.Who.{Who}
 use Rattle.hy_commands.specs.declared.command.Who.TheVariants as who
+use Rattle.hy_commands.specs.declared.edition.Edition.TheVariants as editions
 use Rattle.hy_commands.specs.declared.reply.Reply.TheVariants as replies
 use Rattle.hy_commands.specs.WorkedSample.{bought, customer, district, items, warehouse}
 use Rattle.hy_layout.specs.Layout.{LayoutState}
@@ -69,10 +70,10 @@ not_accepted : HasPart (layout 2) (purchase_with 2 21) → ⊥
 not_accepted part = let accepted = part.accepted in absurd (cc)
 
 -- the home answers: 5 times 137, 174, 211, 248 and 285 cents, less 2 in a hundred, and 6 in a hundred more
-home_answers : reply_of_part (layout 1) (purchase_with 2 1) (rows 1) ≡ Some (replies.NewOrder 1 5_480)
+home_answers : reply_of_part (layout 1) editions.Second (purchase_with 2 1) (rows 1) ≡ Some (replies.NewOrder 1 5_480)
 home_answers = refl
 
-supplier_is_silent : reply_of_part (layout 2) (purchase_with 2 1) (rows 2) ≡ None
+supplier_is_silent : reply_of_part (layout 2) editions.Second (purchase_with 2 1) (rows 2) ≡ None
 supplier_is_silent = refl
 
 -- ---- a payment at warehouse 1 by a customer of warehouse 2
@@ -108,9 +109,9 @@ finds_none : FindsPayer (payment_by (who.Number 3)) (rows 2) None
 finds_none = refl
 
 -- the customer's warehouse answers, and the home doesn't
-home_is_silent : reply_of_part (layout 1) (payment_by (who.Number 2)) (rows 1) ≡ None
+home_is_silent : reply_of_part (layout 1) editions.Second (payment_by (who.Number 2)) (rows 1) ≡ None
 home_is_silent = refl
 
-customer_answers : reply_of_part (layout 2) (payment_by (who.Number 2)) (rows 2)
+customer_answers : reply_of_part (layout 2) editions.Second (payment_by (who.Number 2)) (rows 2)
     ≡ Some (replies.Payment 2 (negsuc 1_099))
 customer_answers = refl

@@ -3,7 +3,7 @@
 ghost use Rattle.std.specs.Prelude.{◌≡◌, ◌<◌, IfOk, IsErrOf, OnOk, length};
 ghost use Rattle.hy_undo.specs.Writes.{IsOutOfFrames};
 ghost use Rattle.hy_store.specs.Writes.{IsWritableStore, LeavesStore, WritesStore, stored_in};
-ghost use Rattle.hy_tpcc.specs.Deliveries.{AnswersDelivery, DeliversNext, IsNextDelivered, RunsDelivery};
+ghost use Rattle.hy_tpcc.specs.Deliveries.{AnswersDelivery, DeliversNext, IsNextDelivered, RunsDelivery, noting};
 ghost use Rattle.hy_tpcc.specs.Executor.{DoesSlice, IsPartlyDone};
 
 use arrayvec::ArrayVec;
@@ -64,11 +64,13 @@ pub(crate) fn deliver<const N: usize>(
 ) -> Result<Option<Reply>, Shortage>
     requires writable { IsWritableStore N space.old undo.old }
     requires next { done < 10 }
-    requires under_way { RunsDelivery layout.now delivery.now place done delivered.old.items (stored_in N space.old) }
+    requires under_way { RunsDelivery (noting layout.now place delivered.old.items) delivery.now done
+        (stored_in N space.old) }
     ensures under_way { OnOk result (LeavesStore N space.old space.new
-        (DeliversNext layout.now delivery.now place done delivered.old.items delivered.new.items)) }
+        (DeliversNext (noting layout.now place delivered.old.items) (noting layout.now place delivered.new.items)
+        delivery.now done)) }
     ensures reply { IfOk result
-        (AnswersDelivery layout.now delivery.now place done delivered.old.items (stored_in N space.old)) }
+        (AnswersDelivery (noting layout.now place delivered.old.items) delivery.now done (stored_in N space.old)) }
     ensures writes { WritesStore N space.old space.new undo.old undo.new }
     ensures no_frame { IsErrOf result Shortage.NoFrame → IsOutOfFrames space.new }
 {

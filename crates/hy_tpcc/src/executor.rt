@@ -9,7 +9,7 @@ use crate::purchase::buy;
 use crate::reading::{answer_level, answer_status};
 use crate::refused::with_refusal;
 use arrayvec::ArrayVec;
-use hy_commands::{Command, Delivery, OrderStatus, Reply, StockLevel};
+use hy_commands::{Command, Delivery, Edition, OrderStatus, Reply, StockLevel};
 use hy_index::Entry;
 use hy_layout::Layout;
 use hy_schema::Refusal;
@@ -56,6 +56,8 @@ impl Executor {
     ghost use Rattle.hy_store.specs.Stored.{HasStore};
     ghost use Rattle.hy_store.specs.Writes.{IsWritableStore, LeavesStore, WritesStore, stored_in};
     ghost use Rattle.hy_writers.specs.Waiting.{IsSoundStore};
+    ghost use Rattle.hy_commands.specs.declared.edition.Edition.{Edition};
+    ghost use Rattle.hy_tpcc.specs.Deliveries.{AnswersDelivery, DeliversNext, RunsDelivery};
     ghost use Rattle.hy_tpcc.specs.Executor.{AnswersSlice, IsAnswer, IsPartlyDone, IsUnderWay, RunsCommand, RunsSlice, StaysInBounds};
     ghost use Rattle.hy_tpcc.specs.Parts.{DoesPart, FindsPayer, HasPart, reply_of_part};
     ghost use Rattle.hy_tpcc.specs.Shortages.{FindsNoFrame};
@@ -93,9 +95,9 @@ impl Executor {
         requires sound { IsSoundStore self.old.layout (stored_in N space.now) }
         ensures begun { OnOk result (begin_refusal_of self.old.layout.warehouse command.now
             (stored_in N space.now).tables ≡ None) }
-        ensures under_way { OnOk result
-            (StaysInBounds self.old.layout command.now (stored_in N space.now).tables
-            → IsUnderWay self.new command.now 0 (stored_in N space.now).tables (stored_in N space.now)) }
+        ensures under_way { OnOk result ((edition : Edition)
+            → StaysInBounds self.old.layout edition command.now (stored_in N space.now).tables
+            → IsUnderWay self.new edition command.now 0 (stored_in N space.now).tables (stored_in N space.now)) }
         ensures refused { IfErr result (λ refusal. begin_refusal_of self.old.layout.warehouse command.now
             (stored_in N space.now).tables ≡ Some refusal) }
         ensures layout { self.new.layout ≡ self.old.layout }
@@ -107,7 +109,7 @@ impl Executor {
         Ok(())
     }
 
-    /// Does the next slice of a command that this executor began, behind so many: the head of a purchase and then each
+    /// Does the next slice of a command that this executor began, in an edition, behind so many: the head of a purchase and then each
     /// of its lines; the home and then the customer of a payment; the districts of a delivery, one after the other; a
     /// command that only reads in one. The last one answers the reply. Refused E7 exactly where it is that of a line
     /// whose item isn't there, before it writes anything; E2 where it lacks a frame, which one that only reads never
@@ -116,15 +118,16 @@ impl Executor {
         &mut self,
         space: &mut Space<N>,
         undo: &mut Undo<N>,
+        edition: Edition,
         command: &Command,
         done: u64,
     ) -> Result<Option<Reply>, Refusal>
         requires writable { IsWritableStore N space.old undo.old }
         requires next { done < slice_count command.now }
-        requires under_way { RunsCommand self.old command.now done (stored_in N space.old) }
+        requires under_way { RunsCommand self.old edition command.now done (stored_in N space.old) }
         ensures under_way { OnOk result
-            (LeavesStore N space.old space.new (RunsSlice self.old self.new command.now done)) }
-        ensures reply { IfOk result (AnswersSlice self.old command.now done (stored_in N space.old)) }
+            (LeavesStore N space.old space.new (RunsSlice self.old self.new edition command.now done)) }
+        ensures reply { IfOk result (AnswersSlice self.old edition command.now done (stored_in N space.old)) }
         ensures no_item { IsErrOf result Refusal.NoSuchItem
             ↔ (has_item_at self.old.layout.load.items command.now done ≡ false) }
         ensures still { IsErrOf result Refusal.NoSuchItem → (space.new ≡ space.old) × (undo.new ≡ undo.old) }
@@ -137,7 +140,15 @@ impl Executor {
         match command {
             Command::NewOrder(order) => buy(&self.layout, space, undo, order, self.place, done),
             Command::Payment(payment) => {
-                pay(&self.layout, space, undo, payment, self.place, done)
+                pay(
+                    &self.layout,
+                    space,
+                    undo,
+                    edition,
+                    payment,
+                    self.place,
+                    done,
+                )
             }
             Command::OrderStatus(status) => self.read_status(space, status),
             Command::Delivery(delivery) => self.deliver(space, undo, delivery, done),
@@ -172,22 +183,23 @@ impl Executor {
         &self,
         space: &mut Space<N>,
         undo: &mut Undo<N>,
+        edition: Edition,
         command: &Command,
     ) -> Result<Option<Reply>, Refusal>
         requires writable { IsWritableStore N space.old undo.old }
         requires sound { IsSoundStore self.now.layout (stored_in N space.old) }
         requires part { HasPart self.now.layout command.now }
         requires small { HasGrownBy 100_000_000 (stored_in N space.old).tables }
-        ensures done { OnOk result (LeavesStore N space.old space.new (DoesPart self.now.layout command.now)) }
+        ensures done { OnOk result (LeavesStore N space.old space.new (DoesPart self.now.layout edition command.now)) }
         ensures reply { IfOk result (λ reply. reply
-            ≡ reply_of_part self.now.layout command.now (stored_in N space.old).tables) }
+            ≡ reply_of_part self.now.layout edition command.now (stored_in N space.old).tables) }
         ensures refused { IfErr result (λ refusal. (refusal ≡ Refusal.NoFrame) ⊎ (refusal ≡ Refusal.NoMemory)) }
         ensures writes { WritesStore N space.old space.new undo.old undo.new }
         ensures no_frame { IsErrOf result Refusal.NoFrame → free_of space.new.frames ≡ 0 }
     {
         match command {
             Command::NewOrder(order) => order_part(&self.layout, space, undo, order),
-            Command::Payment(payment) => payment_part(&self.layout, space, undo, payment),
+            Command::Payment(payment) => payment_part(&self.layout, space, undo, edition, payment),
             Command::OrderStatus(_) | Command::Delivery(_) | Command::StockLevel(_) => {
                 unreachable!()
             }
@@ -260,11 +272,10 @@ impl Executor {
     ) -> Result<Option<Reply>, Refusal>
         requires writable { IsWritableStore N space.old undo.old }
         requires next { done < 10 }
-        requires under_way { RunsCommand self.old (Command.Delivery delivery.now) done (stored_in N space.old) }
+        requires under_way { RunsDelivery self.old delivery.now done (stored_in N space.old) }
         ensures under_way { OnOk result (LeavesStore N space.old space.new
-            (RunsSlice self.old self.new (Command.Delivery delivery.now) done)) }
-        ensures reply { IfOk result
-            (AnswersSlice self.old (Command.Delivery delivery.now) done (stored_in N space.old)) }
+            (DeliversNext self.old self.new delivery.now done)) }
+        ensures reply { IfOk result (AnswersDelivery self.old delivery.now done (stored_in N space.old)) }
         ensures refused { IfErr result (λ refusal. (refusal ≡ Refusal.NoFrame) ⊎ (refusal ≡ Refusal.NoMemory)) }
         ensures writes { WritesStore N space.old space.new undo.old undo.new }
         ensures no_frame { IsErrOf result Refusal.NoFrame → IsOutOfFrames space.new }

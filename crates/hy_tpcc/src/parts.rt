@@ -13,13 +13,13 @@ ghost use Rattle.hy_store.specs.Writes.{IsWritableStore, LeavesStore, WritesStor
 ghost use Rattle.hy_undo.specs.Writes.{IsOutOfFrames};
 ghost use Rattle.hy_writers.specs.Waiting.{IsSoundStore};
 ghost use Rattle.hy_tpcc.specs.Executor.{DoesSlice, DoesSlices, HasCustomerAt, IsAnswer, IsPartlyDone};
-ghost use Rattle.hy_tpcc.specs.Parts.{DoesPart, FindsPayer, HasPart, reply_of_part};
+ghost use Rattle.hy_tpcc.specs.Parts.{DoesPart, DoesPartInEach, FindsPayer, HasPart, IsReplyInEach, reply_of_part};
 
 use crate::begin::customer_place;
 use crate::payment::number_at;
 use crate::purchase::buy;
 use crate::refused::refusal_of_shortage;
-use hy_commands::{Command, Payment, Purchase, PurchaseLine, PurchaseLines, Reply, Who};
+use hy_commands::{Command, Edition, Payment, Purchase, PurchaseLine, PurchaseLines, Reply, Who};
 use hy_frames::Shortage;
 use hy_layout::Layout;
 use hy_schema::Refusal;
@@ -150,9 +150,9 @@ fn order_at_home<const N: usize>(
     requires small { HasGrownBy 100_000_000 (stored_in N space.old).tables }
     requires home { order.now.warehouse ≡ layout.now.warehouse }
     ensures done { OnOk result (LeavesStore N space.old space.new
-        (DoesPart layout.now (Command.NewOrder order.now))) }
-    ensures reply { IfOk result (λ reply. reply
-        ≡ reply_of_part layout.now (Command.NewOrder order.now) (stored_in N space.old).tables) }
+        (DoesPartInEach layout.now (Command.NewOrder order.now))) }
+    ensures reply { IfOk result
+        (IsReplyInEach layout.now (Command.NewOrder order.now) (stored_in N space.old).tables) }
     ensures refused { IfErr result (λ refusal. (refusal ≡ Refusal.NoFrame) ⊎ (refusal ≡ Refusal.NoMemory)) }
     ensures writes { WritesStore N space.old space.new undo.old undo.new }
     ensures no_frame { IsErrOf result Refusal.NoFrame → free_of space.new.frames ≡ 0 }
@@ -179,7 +179,7 @@ fn sell_lines<const N: usize>(
     requires small { HasGrownBy 100_000_000 (stored_in N space.old).tables }
     requires elsewhere { order.now.warehouse ≢ layout.now.warehouse }
     ensures done { OnOk result (LeavesStore N space.old space.new
-        (DoesPart layout.now (Command.NewOrder order.now))) }
+        (DoesPartInEach layout.now (Command.NewOrder order.now))) }
     ensures writes { WritesStore N space.old space.new undo.old undo.new }
     ensures no_frame { IsErrOf result Shortage.NoFrame → IsOutOfFrames space.new }
 {
@@ -203,9 +203,9 @@ pub(crate) fn order_part<const N: usize>(
     requires part { HasPart layout.now (Command.NewOrder order.now) }
     requires small { HasGrownBy 100_000_000 (stored_in N space.old).tables }
     ensures done { OnOk result (LeavesStore N space.old space.new
-        (DoesPart layout.now (Command.NewOrder order.now))) }
-    ensures reply { IfOk result (λ reply. reply
-        ≡ reply_of_part layout.now (Command.NewOrder order.now) (stored_in N space.old).tables) }
+        (DoesPartInEach layout.now (Command.NewOrder order.now))) }
+    ensures reply { IfOk result
+        (IsReplyInEach layout.now (Command.NewOrder order.now) (stored_in N space.old).tables) }
     ensures refused { IfErr result (λ refusal. (refusal ≡ Refusal.NoFrame) ⊎ (refusal ≡ Refusal.NoMemory)) }
     ensures writes { WritesStore N space.old space.new undo.old undo.new }
     ensures no_frame { IsErrOf result Refusal.NoFrame → free_of space.new.frames ≡ 0 }
@@ -242,7 +242,7 @@ fn pay_at_home<const N: usize>(
     requires part { HasPart layout.now (Command.Payment payment.now) }
     requires home { payment.now.warehouse ≡ layout.now.warehouse }
     ensures done { OnOk result (LeavesStore N space.old space.new
-        (DoesPart layout.now (Command.Payment payment.now))) }
+        (DoesPartInEach layout.now (Command.Payment payment.now))) }
     ensures writes { WritesStore N space.old space.new undo.old undo.new }
     ensures no_frame { IsErrOf result Shortage.NoFrame → free_of space.new.frames ≡ 0 }
 {
@@ -256,6 +256,7 @@ fn pay_for_customer<const N: usize>(
     layout: &Layout,
     space: &mut Space<N>,
     undo: &mut Undo<N>,
+    edition: Edition,
     payment: &Payment,
 ) -> Result<Reply, Shortage>
     requires writable { IsWritableStore N space.old undo.old }
@@ -263,9 +264,9 @@ fn pay_for_customer<const N: usize>(
     requires part { HasPart layout.now (Command.Payment payment.now) }
     requires elsewhere { payment.now.warehouse ≢ layout.now.warehouse }
     ensures done { OnOk result (LeavesStore N space.old space.new
-        (DoesPart layout.now (Command.Payment payment.now))) }
+        (DoesPart layout.now edition (Command.Payment payment.now))) }
     ensures reply { IfOk result (λ reply. Some reply
-        ≡ reply_of_part layout.now (Command.Payment payment.now) (stored_in N space.old).tables) }
+        ≡ reply_of_part layout.now edition (Command.Payment payment.now) (stored_in N space.old).tables) }
     ensures writes { WritesStore N space.old space.new undo.old undo.new }
     ensures no_frame { IsErrOf result Shortage.NoFrame → IsOutOfFrames space.new }
 {
@@ -273,7 +274,7 @@ fn pay_for_customer<const N: usize>(
     let Some(place) = layout.place_of_customer(payment.customer_district, &payment.who) else {
         unreachable!()
     };
-    pay_customer(layout, space, undo, payment, place)
+    pay_customer(layout, space, undo, edition, payment, place)
 }
 
 /// This warehouse's part of a payment.
@@ -281,15 +282,16 @@ pub(crate) fn payment_part<const N: usize>(
     layout: &Layout,
     space: &mut Space<N>,
     undo: &mut Undo<N>,
+    edition: Edition,
     payment: &Payment,
 ) -> Result<Option<Reply>, Refusal>
     requires writable { IsWritableStore N space.old undo.old }
     requires sound { IsSoundStore layout.now (stored_in N space.old) }
     requires part { HasPart layout.now (Command.Payment payment.now) }
     ensures done { OnOk result (LeavesStore N space.old space.new
-        (DoesPart layout.now (Command.Payment payment.now))) }
+        (DoesPart layout.now edition (Command.Payment payment.now))) }
     ensures reply { IfOk result (λ reply. reply
-        ≡ reply_of_part layout.now (Command.Payment payment.now) (stored_in N space.old).tables) }
+        ≡ reply_of_part layout.now edition (Command.Payment payment.now) (stored_in N space.old).tables) }
     ensures refused { IfErr result (λ refusal. (refusal ≡ Refusal.NoFrame) ⊎ (refusal ≡ Refusal.NoMemory)) }
     ensures writes { WritesStore N space.old space.new undo.old undo.new }
     ensures no_frame { IsErrOf result Refusal.NoFrame → free_of space.new.frames ≡ 0 }
@@ -300,7 +302,7 @@ pub(crate) fn payment_part<const N: usize>(
             Err(shortage) => Err(refusal_of_shortage(shortage)),
         };
     }
-    match pay_for_customer(layout, space, undo, payment) {
+    match pay_for_customer(layout, space, undo, edition, payment) {
         Ok(reply) => Ok(Some(reply)),
         Err(shortage) => Err(refusal_of_shortage(shortage)),
     }

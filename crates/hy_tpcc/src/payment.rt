@@ -5,11 +5,11 @@ ghost use Rattle.hy_rows.specs.declared.customer.Customer.{Customer};
 ghost use Rattle.hy_space.specs.Space.{owner_bytes};
 ghost use Rattle.hy_store.specs.Stored.{HasStore};
 ghost use Rattle.hy_store.specs.Writes.{IsWritableStore, LeavesStore, WritesStore, stored_in};
-ghost use Rattle.hy_tpcc.specs.Executor.{DoesSlice, IsAnswer, IsPartlyDone};
+ghost use Rattle.hy_tpcc.specs.Payments.{AnswersPayment, IsPartlyPaid, PaysNext};
 ghost use Rattle.hy_tpcc.specs.Shortages.{FindsNoFrame};
 
 use crate::refused::refusal_of_shortage;
-use hy_commands::{Command, Payment, Reply};
+use hy_commands::{Command, Edition, Payment, Reply};
 use hy_layout::Layout;
 use hy_rows::CustomerNumber;
 use hy_schema::Refusal;
@@ -34,16 +34,17 @@ pub(crate) fn pay<const N: usize>(
     layout: &Layout,
     space: &mut Space<N>,
     undo: &mut Undo<N>,
+    edition: Edition,
     payment: &Payment,
     place: u64,
     done: u64,
 ) -> Result<Option<Reply>, Refusal>
     requires writable { IsWritableStore N space.old undo.old }
     requires next { done < 2 }
-    requires done { IsPartlyDone layout.now (Command.Payment payment.now) place done (stored_in N space.old) }
+    requires done { IsPartlyPaid layout.now edition payment.now place done (stored_in N space.old) }
     ensures done { OnOk result (LeavesStore N space.old space.new
-        (DoesSlice layout.now (Command.Payment payment.now) place done)) }
-    ensures reply { IfOk result (IsAnswer layout.now (Command.Payment payment.now) place done (stored_in N space.old)) }
+        (PaysNext layout.now edition payment.now place done)) }
+    ensures reply { IfOk result (AnswersPayment layout.now edition payment.now place done (stored_in N space.old)) }
     ensures refused { IfErr result (λ refusal. (refusal ≡ Refusal.NoFrame) ⊎ (refusal ≡ Refusal.NoMemory)) }
     ensures writes { WritesStore N space.old space.new undo.old undo.new }
     ensures no_frame { IsErrOf result Refusal.NoFrame → FindsNoFrame (Command.Payment payment.now) done space.new }
@@ -57,7 +58,7 @@ pub(crate) fn pay<const N: usize>(
             Err(shortage) => Err(refusal_of_shortage(shortage)),
         };
     }
-    match pay_customer(layout, space, undo, payment, place) {
+    match pay_customer(layout, space, undo, edition, payment, place) {
         Ok(reply) => Ok(Some(reply)),
         Err(shortage) => Err(refusal_of_shortage(shortage)),
     }

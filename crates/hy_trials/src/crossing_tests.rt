@@ -5,7 +5,7 @@ ghost use Rattle.std.specs.Prelude.{◌≡◌, ◌≤◌, length};
 use crate::commands::order_of;
 use crate::halls::{Hall, Request};
 use crate::model::{Model, Rows, random_command};
-use hy_commands::{Command, Commit, Name, Payment, Reply, Who};
+use hy_commands::{Command, Commit, Edition, Name, Payment, Reply, Who};
 use hy_loads::Load;
 use hy_partition::Loaded;
 use hy_passes::{Kit, make};
@@ -80,7 +80,7 @@ fn paid_by(warehouse: u64, district: u64, who: Who) -> Command {
 /// The number of a commit among those of several warehouses, and the number of the customer who pays.
 fn numbers_of(commit: &Commit) -> Option<(u64, u64)> {
     match commit {
-        Commit::Cross(number, Command::Payment(payment)) => match payment.who {
+        Commit::Cross(_, number, Command::Payment(payment)) => match payment.who {
             Who::Number(customer) => Some((*number, customer)),
             Who::Last(_) => None,
         },
@@ -363,7 +363,7 @@ fn drained<K: Loaded, R: Abort + AllocGlobal>(rt: &R, mut hall: Hall<K>) {
     let ([first], [own, second]) = (batch.list(0), batch.list(1)) else {
         panic!(rt; "three commits")
     };
-    assert!(rt; matches!(own, Commit::Local(Command::NewOrder(_))));
+    assert!(rt; matches!(own, Commit::Local(Edition::Second, Command::NewOrder(_))));
     assert!(rt; numbers_of(first) == Some((1, 3)) && numbers_of(second) == Some((1, 3)));
     let batch = hall.drain(rt.alloc()).expect(rt, "a batch");
     assert!(rt; batch.len() == 2 && batch.list(0).is_empty() && batch.list(1).is_empty());

@@ -12,3 +12,4 @@ pub mod DeliveryLaws
 pub mod DeliverLaws
 pub mod KeptIndexLaws
 pub mod AccountLaws
+pub mod InformationLaws

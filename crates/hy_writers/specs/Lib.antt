@@ -2,8 +2,10 @@ pub mod Accounts
 pub mod Changes
 pub mod Limits
 pub mod Begun
+pub mod Information
 pub mod Payments
 pub mod Purchases
 pub mod Deliveries
 pub mod Waiting
 pub mod WorkedWrites
+pub mod inside

@@ -1,6 +1,8 @@
 -- What the checker computes on a small store, with values from hand calculation: lines delivered by their places, the head
 -- and lines of a purchase, lines that are sold to another home, a delivery, and both parts of a payment.
 use Rattle.std.specs.Prelude.{◌≡◌, ℕ, negsuc, pos, true, false, None, Some, List, [], ◌∷◌, codes, refl}
+use Rattle.std.specs.Fmt.{digits}
+use Rattle.hy_page.specs.Bytes.{overwritten}
 use Rattle.hy_rows.specs.declared.customer.Customer.{Customer}
 use Rattle.hy_rows.specs.declared.district.District.{District}
 use Rattle.hy_rows.specs.declared.history.History.{History}
@@ -12,12 +14,14 @@ use Rattle.hy_rows.specs.declared.stock.Stock.{Stock}
 use Rattle.hy_rows.specs.declared.warehouse.Warehouse.{Warehouse}
 use Rattle.hy_rows.specs.Rows.{customer_with as customer_of_values}
 use Rattle.hy_rows.specs.Tables.{no_rows}
+use Rattle.hy_rows.specs.Texts.{text_of}
 use Rattle.hy_index.specs.declared.key.Entry.{Entry}
 use Rattle.hy_commands.specs.declared.command.Delivery.{Delivery}
 use Rattle.hy_commands.specs.declared.command.Payment.{Payment}
 use Rattle.hy_commands.specs.declared.command.Purchase.{Purchase}
 use Rattle.hy_commands.specs.declared.command.PurchaseLine.{PurchaseLine}
 use Rattle.hy_commands.specs.declared.command.Who.TheVariants as who
+use Rattle.hy_commands.specs.declared.edition.Edition.TheVariants as editions
 use Rattle.hy_commands.specs.Deliveries.{oldest}
 use Rattle.hy_store.specs.declared.keys.CustomerKey.{CustomerKey}
 use Rattle.hy_store.specs.declared.keys.LineKey.{LineKey}
@@ -25,7 +29,8 @@ use Rattle.hy_store.specs.declared.keys.OrderKey.{OrderKey}
 use Rattle.hy_store.specs.declared.keys.WaitingKey.{WaitingKey}
 use Rattle.hy_store.specs.Stored.{Stored}
 use Rattle.hy_writers.specs.Deliveries.{is_listed, lines_at, walked, with_delivery}
-use Rattle.hy_writers.specs.Payments.{history_for, with_customer_paid, with_home_paid}
+use Rattle.hy_writers.specs.Information.{ended}
+use Rattle.hy_writers.specs.Payments.{history_for, with_customer_paid, with_home_paid, with_noted}
 use Rattle.hy_writers.specs.Purchases.{with_line_sold, with_order, with_order_line}
 use Rattle.hy_writers.specs.Waiting.{order_of_entry}
 
@@ -290,12 +295,74 @@ pays_at_home = refl
 
 -- a customer of warehouse 1 who pays at warehouse 2: the balance falls, and nothing else changes here
 abbrev payment_elsewhere : Payment
-payment_elsewhere = record payment { warehouse = 2; customer_warehouse = 1; customer_district = 3; who = who.Number 4 }
+payment_elsewhere = record payment {
+  warehouse = 2;
+  district = 5;
+  customer_warehouse = 1;
+  customer_district = 3;
+  who = who.Number 4;
+}
 
-abbrev customer_pays : with_customer_paid payment_elsewhere home ≡ record home {
+abbrev customer_pays : with_customer_paid editions.Second payment_elsewhere home ≡ record home {
   tables = record home.tables {
     customers =
         record (customer_with 40 2) { balance = negsuc 59; ytd_payment = pos 1_100; payment_count = 2 } ∷ [];
   };
 }
 customer_pays = refl
+
+-- the same one with bad credit, and something in C_DATA
+abbrev customer_in_debt : Customer
+customer_in_debt = record (customer_with 40 2) { credit = codes "BC"; information = codes "old" }
+
+abbrev home_in_debt : Stored
+home_in_debt = record home { tables = record home.tables { customers = customer_in_debt ∷ [] } }
+
+-- the customer's number, district and warehouse, the district and the warehouse that take the payment, and the cents are
+-- noted before it
+customer_is_noted : with_customer_paid editions.Second payment_elsewhere home_in_debt ≡ record home_in_debt {
+  tables = record home_in_debt.tables {
+    customers = record customer_in_debt {
+      balance = negsuc 59;
+      ytd_payment = pos 1_100;
+      payment_count = 2;
+      information = codes "4 3 1 5 2 100;old";
+    } ∷ [];
+  };
+}
+unfolding digits
+customer_is_noted = refl
+
+-- but in the first edition
+customer_is_not_noted : with_customer_paid editions.First payment_elsewhere home_in_debt ≡ record home_in_debt {
+  tables = record home_in_debt.tables {
+    customers = record customer_in_debt { balance = negsuc 59; ytd_payment = pos 1_100; payment_count = 2 } ∷ [];
+  };
+}
+unfolding digits
+customer_is_not_noted = refl
+
+-- the note by itself
+notes_alone : with_noted payment_elsewhere 4 0 customer_in_debt home_in_debt ≡ record home_in_debt {
+  tables = record home_in_debt.tables {
+    customers = record customer_in_debt { information = codes "4 3 1 5 2 100;old" } ∷ [];
+  };
+}
+unfolding digits
+notes_alone = refl
+
+-- ---- a text in a field of nine bytes
+
+-- the zero behind it ends it, whatever stood there
+abbrev ends_text : ended 9 (codes "short") ≡ 115 ∷ 104 ∷ 111 ∷ 114 ∷ 116 ∷ 0 ∷ []
+ends_text = refl
+
+abbrev reads_ended : text_of (overwritten (codes "long text") 0 (ended 9 (codes "short"))) ≡ codes "short"
+reads_ended = refl
+
+abbrev reads_unended : text_of (overwritten (codes "long text") 0 (codes "short")) ≡ codes "shorttext"
+reads_unended = refl
+
+-- one that fills the field has none
+abbrev fills_field : ended 9 (codes "long text") ≡ codes "long text"
+fills_field = refl

@@ -4,6 +4,7 @@
 
 mod delivery;
 mod finds;
+mod information;
 mod payment;
 mod purchase;
 

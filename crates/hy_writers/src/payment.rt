@@ -1,23 +1,25 @@
 //! Payment (TPC-C clause 2.5): the home warehouse, its district and the history; then the customer.
 
-ghost use Rattle.std.specs.Prelude.{◌≡◌, ◌+◌, ◌*◌, ◌≤◌, ◌+ℤ◌, ◌-ℤ◌, ◌<◌, pos, ◌++◌, codes, length, OnOk, IfOk, IsErrOf};
+ghost use Rattle.std.specs.Prelude.{◌≡◌, Some, ◌+◌, ◌*◌, ◌≤◌, ◌+ℤ◌, ◌-ℤ◌, ◌<◌, pos, ◌++◌, codes, length, OnOk, IfOk, IsErrOf, slice_get};
 ghost use Rattle.arrayvec.specs.ArrayVec.{array_vec_len};
 ghost use Rattle.hy_frames.specs.FrameTable.{free_of};
 ghost use Rattle.hy_rows.specs.Limits.{max_payment};
+ghost use Rattle.hy_rows.specs.declared.customer.Customer.{Customer};
 ghost use Rattle.hy_undo.specs.Writes.{IsOutOfFrames};
 ghost use Rattle.hy_commands.specs.declared.reply.Reply.{Reply};
 ghost use Rattle.hy_commands.specs.Growth.{IsCustomerUpTo, IsDistrictUpTo, IsMoneyUpTo, IsWarehouseUpTo};
-ghost use Rattle.hy_commands.specs.Payments.{customer_paid, district_paid, warehouse_paid};
+ghost use Rattle.hy_commands.specs.Payments.{district_paid, warehouse_paid};
 ghost use Rattle.hy_commands.specs.Transactions.{payer};
 ghost use Rattle.hy_store.specs.Writes.{ChangesStore, IsWritableStore, WritesStore, stored_in};
 ghost use Rattle.hy_writers.specs.Accounts.{ChangesAccount, IsAccountOf};
 ghost use Rattle.hy_writers.specs.Begun.{IsHomePayment};
 ghost use Rattle.hy_writers.specs.Limits.{most_applied};
-ghost use Rattle.hy_writers.specs.Payments.{CanPayCustomer, CanPayHome, history_for, payment_reply, with_customer_paid, with_home_paid};
+ghost use Rattle.hy_writers.specs.Payments.{CanPayCustomer, CanPayHome, account_paid, history_for, is_noted, payment_reply, with_customer_paid, with_home_paid, with_noted, with_noted_if};
 
 use crate::finds::{own_district, own_warehouse};
+use crate::information::{CustomerInformation, noted};
 use arrayvec::ArrayVec;
-use hy_commands::{Payment, Reply};
+use hy_commands::{Edition, Payment, Reply};
 use hy_frames::Shortage;
 use hy_layout::Layout;
 use hy_rows::{CustomerAccount, CustomerNumber, District, History, Text, Warehouse};
@@ -62,7 +64,7 @@ fn district_after(row: &District, cents: u64) -> District
 fn account_after(account: &CustomerAccount, cents: u64) -> CustomerAccount
     requires account { IsAccountOf account.now (IsCustomerUpTo most_applied (10 * most_applied)) }
     requires cents { cents ≤ max_payment }
-    ensures paid { ChangesAccount account.now result (customer_paid cents) }
+    ensures paid { ChangesAccount account.now result (account_paid cents) }
     ensures balance { result.balance ≡ account.now.balance -ℤ pos cents }
 {
     let CustomerAccount {
@@ -161,20 +163,74 @@ pub fn pay_home<const N: usize>(
     Ok(())
 }
 
+/// Whether a payment of an edition is noted in C_DATA of a customer with an account: the second edition notes it where
+/// the credit is bad.
+fn is_noted(edition: Edition, account: &CustomerAccount) -> bool
+    ensures { result ≡ is_noted edition account.now.credit }
+{
+    edition == Edition::Second && account.credit.as_bytes() == b"BC".as_slice()
+}
+
+/// Notes a payment in C_DATA of its customer, who stands at a place and has this number (TPC-C clause 2.5.2.2).
+fn note_payment<const N: usize>(
+    space: &mut Space<N>,
+    undo: &mut Undo<N>,
+    payment: &Payment,
+    customer: u16,
+    place: u64,
+) -> Result<(), Shortage>
+    requires writable { IsWritableStore N space.old undo.old }
+    requires there { place < length (stored_in N space.old).tables.customers }
+    ensures noted { OnOk result ((row : Customer)
+        → slice_get (stored_in N space.old).tables.customers place ≡ Some row
+        → ChangesStore N space.old space.new (with_noted payment.now customer place row)) }
+    ensures writes { WritesStore N space.old space.new undo.old undo.new }
+    ensures no_frame { IsErrOf result Shortage.NoFrame → IsOutOfFrames space.new }
+{
+    let before: CustomerInformation = part_at(space, place);
+    put_part(space, undo, place, &noted(payment, customer, &before))
+}
+
+/// Notes a payment in C_DATA of its customer where that is due.
+fn note_if_due<const N: usize>(
+    space: &mut Space<N>,
+    undo: &mut Undo<N>,
+    payment: &Payment,
+    customer: u16,
+    place: u64,
+    is_due: bool,
+) -> Result<(), Shortage>
+    requires writable { IsWritableStore N space.old undo.old }
+    requires there { place < length (stored_in N space.old).tables.customers }
+    ensures noted { OnOk result ((row : Customer)
+        → slice_get (stored_in N space.old).tables.customers place ≡ Some row
+        → ChangesStore N space.old space.new (with_noted_if is_due payment.now customer place row)) }
+    ensures writes { WritesStore N space.old space.new undo.old undo.new }
+    ensures no_frame { IsErrOf result Shortage.NoFrame → IsOutOfFrames space.new }
+{
+    if is_due {
+        note_payment(space, undo, payment, customer, place)
+    } else {
+        Ok(())
+    }
+}
+
 /// What a payment does to its customer, who stands at a place: the balance falls by the amount, what was paid rises by
-/// it, and the number of payments by one. The reply has the customer's number, and the balance in cents.
+/// it, and the number of payments by one; in the second edition C_DATA of a customer with bad credit notes it. The reply
+/// has the customer's number, and the balance in cents.
 pub fn pay_customer<const N: usize>(
     layout: &Layout,
     space: &mut Space<N>,
     undo: &mut Undo<N>,
+    edition: Edition,
     payment: &Payment,
     place: u64,
 ) -> Result<Reply, Shortage>
     requires writable { IsWritableStore N space.old undo.old }
     requires can { CanPayCustomer layout.now payment.now place (stored_in N space.old) }
-    ensures paid { OnOk result (ChangesStore N space.old space.new (with_customer_paid payment.now)) }
+    ensures paid { OnOk result (ChangesStore N space.old space.new (with_customer_paid edition payment.now)) }
     ensures reply { IfOk result (λ reply. reply
-        ≡ payment_reply payment.now (payer payment.now (stored_in N space.old).tables)) }
+        ≡ payment_reply edition payment.now (payer payment.now (stored_in N space.old).tables)) }
     ensures writes { WritesStore N space.old space.new undo.old undo.new }
     ensures no_frame { IsErrOf result Shortage.NoFrame → IsOutOfFrames space.new }
 {
@@ -182,6 +238,8 @@ pub fn pay_customer<const N: usize>(
     let before: CustomerAccount = part_at(space, place);
     let account = account_after(&before, payment.amount);
     put_part(space, undo, place, &account)?;
+    let is_due = is_noted(edition, &before);
+    note_if_due(space, undo, payment, customer.number, place, is_due)?;
     Ok(Reply::Payment {
         customer: customer.number,
         balance: account.balance,

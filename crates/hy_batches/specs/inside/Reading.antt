@@ -13,6 +13,9 @@ use Rattle.hy_commands.specs.declared.command.Purchase.{Purchase}
 use Rattle.hy_commands.specs.declared.command.PurchaseLine.{PurchaseLine}
 use Rattle.hy_commands.specs.declared.command.Who.{Who}
 use Rattle.hy_commands.specs.declared.command.Who.TheVariants as who
+use Rattle.hy_commands.specs.declared.edition.Edition.{Edition}
+use Rattle.hy_commands.specs.declared.edition.Edition.TheVariants as editions
+use Rattle.hy_batches.specs.Batches.{Batch}
 use Rattle.hy_batches.specs.declared.fault.ReadFault.{ReadFault}
 use Rattle.hy_batches.specs.declared.fault.ReadFault.TheVariants as faults
 use Rattle.hy_batches.specs.Encoding.{mark}
@@ -131,66 +134,74 @@ command_at (suc (suc (suc (suc tag))) ∷ rest) = None
 -- ---- commits
 
 -- any commit, and one that may stand in the list of a warehouse
-unfoldable pub any_commit_at : List ℕ → Option (Commit × List ℕ)
-any_commit_at [] = None
-any_commit_at (zero ∷ rest) = do
+unfoldable pub any_commit_at : Edition → List ℕ → Option (Commit × List ℕ)
+any_commit_at edition [] = None
+any_commit_at edition (zero ∷ rest) = do
   command ← command_at rest
-  Some (commits.Local command.0, command.1)
-any_commit_at (suc zero ∷ rest) = do
+  Some (commits.Local edition command.0, command.1)
+any_commit_at edition (suc zero ∷ rest) = do
   number ← number_at 8 rest
   command ← command_at number.1
-  Some (commits.Cross number.0 command.0, command.1)
-any_commit_at (suc (suc tag) ∷ rest) = None
+  Some (commits.Cross edition number.0 command.0, command.1)
+any_commit_at edition (suc (suc tag) ∷ rest) = None
 
-unfoldable pub commit_at : ℕ → List ℕ → Option (Commit × List ℕ)
-commit_at warehouse bytes = do
-  commit ← any_commit_at bytes
+unfoldable pub commit_at : Edition → ℕ → List ℕ → Option (Commit × List ℕ)
+commit_at edition warehouse bytes = do
+  commit ← any_commit_at edition bytes
   if is_allowed warehouse commit.0 then Some commit else None
 
-unfoldable pub commits_at : ℕ → ℕ → List ℕ → Option (List Commit × List ℕ)
-commits_at warehouse zero bytes = Some ([], bytes)
-commits_at warehouse (suc count) bytes = do
-  commit ← commit_at warehouse bytes
-  others ← commits_at warehouse count commit.1
+unfoldable pub commits_at : Edition → ℕ → ℕ → List ℕ → Option (List Commit × List ℕ)
+commits_at edition warehouse zero bytes = Some ([], bytes)
+commits_at edition warehouse (suc count) bytes = do
+  commit ← commit_at edition warehouse bytes
+  others ← commits_at edition warehouse count commit.1
   Some (commit.0 ∷ others.0, others.1)
 
 -- ---- batches
 
-unfoldable pub list_at : ℕ → List ℕ → Option (List Commit × List ℕ)
-list_at warehouse bytes = do
+unfoldable pub list_at : Edition → ℕ → List ℕ → Option (List Commit × List ℕ)
+list_at edition warehouse bytes = do
   count ← number_at 4 bytes
-  commits_at warehouse count.0 count.1
+  commits_at edition warehouse count.0 count.1
 
-unfoldable pub lists_at : ℕ → ℕ → List ℕ → Option (List (List Commit) × List ℕ)
-lists_at warehouse zero bytes = Some ([], bytes)
-lists_at warehouse (suc count) bytes = do
-  list ← list_at warehouse bytes
-  others ← lists_at (warehouse + 1) count list.1
+unfoldable pub lists_at : Edition → ℕ → ℕ → List ℕ → Option (List (List Commit) × List ℕ)
+lists_at edition warehouse zero bytes = Some ([], bytes)
+lists_at edition warehouse (suc count) bytes = do
+  list ← list_at edition warehouse bytes
+  others ← lists_at edition (warehouse + 1) count list.1
   Some (list.0 ∷ others.0, others.1)
 
 -- all of the bytes
-unfoldable pub content_of : List ℕ → Option (List (List Commit))
-content_of bytes = do
+unfoldable pub content_of : Edition → List ℕ → Option Batch
+content_of edition bytes = do
   count ← number_at 1 bytes
-  lists ← (if is_between 1 max_warehouses count.0 then lists_at 1 count.0 count.1 else None)
-  if length lists.1 == 0 then Some lists.0 else None
+  lists ← (if is_between 1 max_warehouses count.0 then lists_at edition 1 count.0 count.1 else None)
+  if length lists.1 == 0 then Some (record { edition = edition; lists = lists.0 }) else None
 
--- the bytes behind a mark, and behind the end of a batch
-unfoldable pub marked_at : List ℕ → Option (List ℕ)
+-- the edition that a mark tells
+unfoldable pub edition_marked : List ℕ → Option Edition
+edition_marked front =
+    if bytes_eq front (mark editions.First) then Some editions.First
+    else if bytes_eq front (mark editions.Second) then Some editions.Second
+    else None
+
+-- the edition that a mark tells with the bytes behind it, and those behind the end of a batch
+unfoldable pub marked_at : List ℕ → Option (Edition × List ℕ)
 marked_at bytes = do
   front ← front_at 4 bytes
-  if bytes_eq front.0 mark then Some front.1 else None
+  edition ← edition_marked front.0
+  Some (edition, front.1)
 
 unfoldable pub ended_at : List ℕ → Option (List ℕ)
 ended_at bytes = do
   last ← number_at 1 bytes
   if last.0 == 69 then Some last.1 else None
 
-unfoldable pub batch_at : List ℕ → Option (List (List Commit) × List ℕ)
+unfoldable pub batch_at : List ℕ → Option (Batch × List ℕ)
 batch_at bytes = do
-  rest ← marked_at bytes
-  size ← number_at 8 rest
+  marked ← marked_at bytes
+  size ← number_at 8 marked.1
   content ← front_at size.0 size.1
-  lists ← content_of content.0
+  batch ← content_of marked.0 content.0
   after ← ended_at content.1
-  Some (lists, after)
+  Some (batch, after)

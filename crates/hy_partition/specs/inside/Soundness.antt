@@ -5,7 +5,6 @@ use Rattle.hy_rows.specs.Tables.{Lists, Tables, of_warehouse}
 use Rattle.hy_schema.specs.Loads.{IsLoad}
 use Rattle.hy_passes.specs.Worlds.{KeptState}
 use Rattle.hy_tickets.specs.Desks.{DeskState, is_out}
-use Rattle.hy_commands.specs.declared.command.Command.{Command}
 use Rattle.hy_commands.specs.declared.command.Commit.{Commit}
 use Rattle.hy_commands.specs.Commands.{is_reader}
 use Rattle.hy_commands.specs.Transactions.{begin_refusal_of}
@@ -18,7 +17,7 @@ use Rattle.hy_indexes.specs.Indexes.{HasIndexes}
 use Rattle.hy_tpcc.specs.Executor.{ExecutorState, IsUnderWay}
 use Rattle.hy_tpcc.specs.Parts.{HasPart}
 use Rattle.hy_partition.specs.Accounts.{IsBookOf}
-use Rattle.hy_partition.specs.Partition.{PartitionState, commits_of, layout_of, rows_now}
+use Rattle.hy_partition.specs.Partition.{PartState, PartitionState, commits_of, layout_of, rows_now}
 use Rattle.hy_partition.specs.Limits.{most_kept}
 use Rattle.hy_partition.specs.Jobs.{RunningJob}
 use Rattle.hy_partition.specs.Headline.{SpellsBeginning}
@@ -37,7 +36,7 @@ pub record Runs (n room : ℕ) (executor : ExecutorState) (p : PartitionState) (
   pub no_reply : p.finished ≡ None
   pub slices : job.slices < slice_count job.command
   pub store : HasStore n (owner_bytes p.space)
-  pub under_way : IsUnderWay executor job.command job.slices (rows_now p) (stored n (owner_bytes p.space))
+  pub under_way : IsUnderWay executor job.edition job.command job.slices (rows_now p) (stored n (owner_bytes p.space))
   pub has_room : is_reader job.command ≡ false → 1 ≤ room
   pub below_max : is_reader job.command ≡ false → length p.kept < p.max_kept
 
@@ -47,9 +46,9 @@ pub record Rests (n : ℕ) (p : PartitionState) : Type 0 where
   pub pages : IsStoreOf n (rows_now p) (owner_bytes p.space)
 
 -- the part of a command over several warehouses is done: the live pages have the rows after it, and its commit has room
-pub record HoldsPart (n room : ℕ) (p : PartitionState) (command : Command) : Type 0 where
-  pub has_part : HasPart (layout_of p) command
-  pub pages : IsStoreOf n (rows_with_part p command) (owner_bytes p.space)
+pub record HoldsPart (n room : ℕ) (p : PartitionState) (part : PartState) : Type 0 where
+  pub has_part : HasPart (layout_of p) part.command
+  pub pages : IsStoreOf n (rows_with_part p part.edition part.command) (owner_bytes p.space)
   pub has_room : 1 ≤ room
   pub below_max : length p.kept < p.max_kept
 

@@ -1,5 +1,5 @@
 -- Partitions on their way through the commits of a batch.
-use Rattle.std.specs.Prelude.{◌≡◌, ◌⊎◌, ℕ, suc, ◌<◌, ◌≤◌, ◌+◌, true, false, List, [], ◌∷◌, ◌++◌, length, slice_get, IfSome, None, Some, nat_lt}
+use Rattle.std.specs.Prelude.{◌≡◌, ◌⊎◌, ℕ, suc, ◌<◌, ◌≤◌, ◌+◌, Bool, true, false, ◌&&◌, List, [], ◌∷◌, ◌++◌, length, slice_get, IfSome, None, Some, nat_lt}
 use Rattle.std.specs.List.{list_all}
 use Rattle.hy_rows.specs.Tables.{Lists}
 use Rattle.hy_schema.specs.declared.refusal.Refusal.{Refusal}
@@ -8,9 +8,11 @@ use Rattle.hy_passes.specs.SerialList.{numbers_of}
 use Rattle.hy_commands.specs.declared.command.Command.{Command}
 use Rattle.hy_commands.specs.declared.command.Commit.{Commit}
 use Rattle.hy_commands.specs.declared.command.Commit.TheVariants as commits
+use Rattle.hy_commands.specs.declared.edition.Edition.{Edition}
 use Rattle.hy_commands.specs.Commands.{number_of, warehouses_of, warehouses_of_commit}
 use Rattle.hy_commands.specs.Parts.{is_by_number}
-use Rattle.hy_batches.specs.Grammar.{is_commit, names}
+use Rattle.hy_batches.specs.Batches.{Batch}
+use Rattle.hy_batches.specs.Grammar.{commit_fits, is_allowed, names}
 use Rattle.hy_partition.specs.Jobs.{Log}
 use Rattle.hy_partition.specs.Partition.{PartitionState, commits_of, terms_of}
 use Rattle.hy_sound.specs.Sound.{is_known}
@@ -55,10 +57,14 @@ Enters commit old new = (stamp : ℕ) × (new ≡ old ++ record { commit = commi
 abbrev pub IsShortage : Refusal → Type 0
 IsShortage why = (why ≡ refusals.NoFrame) ⊎ (why ≡ refusals.NoMemory)
 
--- what a command of one warehouse has passed that is run again there
-pub record CanRunLocal (command : Command) (p : PartitionState) : Type 0 where
+-- whether a commit may stand in the list of a warehouse, in a batch of its edition
+abbrev pub may_stand : ℕ → Commit → Bool
+may_stand warehouse commit = is_allowed warehouse commit && commit_fits commit
+
+-- what a command of one warehouse has passed that is run again there, by an edition
+pub record CanRunLocal (edition : Edition) (command : Command) (p : PartitionState) : Type 0 where
   pub rest : IsAtRest p
-  pub allowed : is_commit p.warehouse (commits.Local command) ≡ true
+  pub allowed : may_stand p.warehouse (commits.Local edition command) ≡ true
   pub known : is_known p.load command ≡ true
   pub few : length p.kept < p.max_kept
 
@@ -103,7 +109,7 @@ pub record AreOnWay (lists : Lists) (aim : Aim) (merge : MergeState) (log : Log)
   pub lists_are : count_of merge ≡ length parts
   pub each : (place : ℕ) → IfSome (slice_get parts place) (IsBound lists aim (left_of merge place) place)
   pub few : (place : ℕ) → place < length parts → length (aim.goal place) ≤ aim.most
-  pub allowed : (place : ℕ) → place < count_of merge → list_all (is_commit (suc place)) (left_of merge place) ≡ true
+  pub allowed : (place : ℕ) → place < count_of merge → list_all (may_stand (suc place)) (left_of merge place) ≡ true
   pub sound : IsSoundFrom lists (crossings_in log) aim.last merge
 
 -- they have come to its end
@@ -113,8 +119,8 @@ pub record AreThere (lists : Lists) (aim : Aim) (log : Log) (parts : List Partit
   pub last : crossings_in log ≡ aim.last
 
 -- a batch of which nothing was passed
-abbrev pub untouched : List (List Commit) → MergeState
-untouched batch = record { batch = batch; passed = [] }
+abbrev pub untouched : Batch → MergeState
+untouched batch = record { lists = batch.lists; passed = [] }
 
 -- all commits of each partition count as drained, and nothing else changes
 abbrev pub Marked : PartitionState → PartitionState → Type 0

@@ -1,14 +1,15 @@
 use Rattle.std.proofs.Common.{◌≡◌, ◌++◌, true, length}
-use Rattle.std.specs.List.{list_all}
+use Rattle.hy_commands.specs.declared.edition.Edition.TheVariants as editions
 use Rattle.hy_batches.specs.Encoding.{log_bytes}
-use Rattle.hy_batches.specs.Grammar.{is_batch}
+use Rattle.hy_batches.specs.Grammar.{are_batches, last_edition}
 use Rattle.hy_batches.proofs.log.read_log.Given as goal
 
--- the batches so far, and what is left
+-- the batches so far, the edition of the last of them, and what is left
 abbrev pub invariant-batches : goal.invariant-batches
 invariant-batches l = record {
   spelled : l.bytes ≡ log_bytes l.batches.items ++ l.rest;
-  whole : list_all is_batch l.batches.items ≡ true;
+  whole : are_batches l.batches.items ≡ true;
+  edition : l.edition ≡ last_edition editions.First l.batches.items;
 }
 
 abbrev pub decreases-batches : goal.decreases-batches

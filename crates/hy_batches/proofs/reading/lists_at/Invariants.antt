@@ -6,4 +6,5 @@ use Rattle.hy_batches.proofs.reading.lists_at.Given as goal
 -- what was read, and what is still read, is what is read from the begin
 abbrev pub invariant-loop-place : goal.invariant-loop-place
 invariant-loop-place l =
-    with_front (map (λ commits. commits.items) l.lists.items) (lists_at (l.place + 1) (l.count - l.place) l.rest) ≡ lists_at 1 l.count l.bytes
+    with_front (map (λ commits. commits.items) l.lists.items) (lists_at l.edition (l.place + 1) (l.count - l.place) l.rest)
+    ≡ lists_at l.edition 1 l.count l.bytes

@@ -6,10 +6,12 @@ pub returns : goal.returns
 returns g c =
     let takes = g.S.Sink.takes in
     let both = g.met.S.Sink.takes_both in
-    let content = content_bytes c.args.batch.now in
+    let front = mark c.args.batch.now.edition in
+    let content = content_bytes c.args.batch.now.lists in
     let size = number_bytes 8 (length content) in
+    let marked : takes c.args.sink.now c.put.new.self front = rw (c.mark.ensures, c.edition.ensures) at c.put.ensures in
     let said : takes c.put.new.self c.write_number.new.sink size =
     subst (takes c.put.new.self c.write_number.new.sink) c.content_length.ensures c.write_number.ensures in
-    both _ _ _ (mark ++ size ++ content) (69 ∷ [])
-    (both _ _ _ (mark ++ size) content (both _ _ _ mark size c.put.ensures said) c.write_content.ensures)
+    both _ _ _ (front ++ size ++ content) (69 ∷ [])
+    (both _ _ _ (front ++ size) content (both _ _ _ front size marked said) c.write_content.ensures)
     c.put-2.ensures

@@ -51,11 +51,11 @@ keep_all-requires-clause-parts g c =
     let known : AreKnown c.args.job.command g.K.World.passes.partitions rows =
     subst (λ (command : Command). AreKnown command g.K.World.passes.partitions rows) c.command.ensures
     c.know_named.ensures.known in
-    let does : Pairwise (DoesIfNamed numbered) 1 rows (g.P.Parts.states c.do_parts.new.parts) =
-    subst (λ (olds : List PartitionState). Pairwise (DoesIfNamed numbered) 1 olds (g.P.Parts.states c.do_parts.new.parts))
+    let does : Pairwise (DoesIfNamed c.edition-edition.result numbered) 1 rows (g.P.Parts.states c.do_parts.new.parts) =
+    subst (λ (olds : List PartitionState). Pairwise (DoesIfNamed c.edition-edition.result numbered) 1 olds (g.P.Parts.states c.do_parts.new.parts))
     c.know_named.ensures.same c.in-Ok.ensures.done in
     partitions-here g.K.Loaded.load c.args.job log rows c.requires.informed c.requires.accepted g.K.World.passes.partitions known
-    c.args.number c.requires.payer numbered is (g.P.Parts.states c.do_parts.new.parts) does c.requires.several
+    c.args.number c.requires.payer numbered is c.edition-edition.result (g.P.Parts.states c.do_parts.new.parts) does c.requires.several
 
 pub keep_all-requires-clause-there : goal.keep_all-requires-clause-there
 keep_all-requires-clause-there g c =
@@ -67,11 +67,11 @@ keep_all-requires-clause-there g c =
     let known : AreKnown c.args.job.command g.K.World.passes.partitions rows =
     subst (λ (command : Command). AreKnown command g.K.World.passes.partitions rows) c.command.ensures
     c.know_named.ensures.known in
-    let does : Pairwise (DoesIfNamed numbered) 1 rows (g.P.Parts.states c.do_parts.new.parts) =
-    subst (λ (olds : List PartitionState). Pairwise (DoesIfNamed numbered) 1 olds (g.P.Parts.states c.do_parts.new.parts))
+    let does : Pairwise (DoesIfNamed c.edition-edition.result numbered) 1 rows (g.P.Parts.states c.do_parts.new.parts) =
+    subst (λ (olds : List PartitionState). Pairwise (DoesIfNamed c.edition-edition.result numbered) 1 olds (g.P.Parts.states c.do_parts.new.parts))
     c.know_named.ensures.same c.in-Ok.ensures.done in
     subst (λ n. list_all (is_between 1 n) (warehouses_of numbered) ≡ true)
-    (sym (pairs-count (DoesIfNamed numbered) 1 rows (g.P.Parts.states c.do_parts.new.parts) does))
+    (sym (pairs-count (DoesIfNamed c.edition-edition.result numbered) 1 rows (g.P.Parts.states c.do_parts.new.parts) does))
     (named-all g.K.Loaded.load c.args.job log rows c.requires.informed c.requires.accepted g.K.World.passes.partitions known
     c.args.number c.requires.payer numbered is)
 
@@ -98,11 +98,11 @@ keep_all-requires-clause-done g c =
     let known : AreKnown c.args.job.command g.K.World.passes.partitions rows =
     subst (λ (command : Command). AreKnown command g.K.World.passes.partitions rows) c.command.ensures
     c.know_named.ensures.known in
-    let does : Pairwise (DoesIfNamed numbered) 1 rows (g.P.Parts.states c.do_parts.new.parts) =
-    subst (λ (olds : List PartitionState). Pairwise (DoesIfNamed numbered) 1 olds (g.P.Parts.states c.do_parts.new.parts))
+    let does : Pairwise (DoesIfNamed c.edition-edition.result numbered) 1 rows (g.P.Parts.states c.do_parts.new.parts) =
+    subst (λ (olds : List PartitionState). Pairwise (DoesIfNamed c.edition-edition.result numbered) 1 olds (g.P.Parts.states c.do_parts.new.parts))
     c.know_named.ensures.same c.in-Ok.ensures.done in
     done-all g.K.Loaded.load c.args.job log rows c.requires.informed c.requires.accepted g.K.World.passes.partitions known
-    c.args.number c.requires.payer numbered is (g.P.Parts.states c.do_parts.new.parts) does c.requires.several
+    c.args.number c.requires.payer numbered is c.edition-edition.result (g.P.Parts.states c.do_parts.new.parts) does c.requires.several
 
 pub returns-in-Ok-clause-does : goal.returns-in-Ok-clause-does
 returns-in-Ok-clause-does g c =
@@ -114,14 +114,14 @@ returns-in-Ok-clause-does g c =
     let known : AreKnown c.args.job.command g.K.World.passes.partitions rows =
     subst (λ (command : Command). AreKnown command g.K.World.passes.partitions rows) c.command.ensures
     c.know_named.ensures.known in
-    let does : Pairwise (DoesIfNamed numbered) 1 rows (g.P.Parts.states c.do_parts.new.parts) =
-    subst (λ (olds : List PartitionState). Pairwise (DoesIfNamed numbered) 1 olds (g.P.Parts.states c.do_parts.new.parts))
+    let does : Pairwise (DoesIfNamed c.edition-edition.result numbered) 1 rows (g.P.Parts.states c.do_parts.new.parts) =
+    subst (λ (olds : List PartitionState). Pairwise (DoesIfNamed c.edition-edition.result numbered) 1 olds (g.P.Parts.states c.do_parts.new.parts))
     c.know_named.ensures.same c.in-Ok.ensures.done in
     inl (accepts-all g.K.Loaded.load c.args.job log rows c.requires.informed c.requires.accepted g.K.World.passes.partitions known
-    c.args.number c.requires.payer numbered is (g.P.Parts.states c.do_parts.new.parts)
+    c.args.number c.requires.payer numbered is c.edition-edition.result (g.P.Parts.states c.do_parts.new.parts)
     (g.P.Parts.states c.keep_all.new.parts) c.keep_all.new.journal.list.log c.in-Ok.reply c.keep_all.result
-    c.open-command.result.1 c.open-command.ensures.1 does c.keep_all.ensures.kept
-    (subst (λ (olds : List PartitionState). RepliesFrom numbered olds (Some c.in-Ok.reply)) c.know_named.ensures.same
+    c.open-command.result.1 c.edition-edition.ensures c.open-command.ensures.1 does c.keep_all.ensures.kept
+    (subst (λ (olds : List PartitionState). RepliesFrom c.edition-edition.result numbered olds (Some c.in-Ok.reply)) c.know_named.ensures.same
     c.in-Ok.ensures.reply)
     c.keep_all.ensures.client c.keep_all.ensures.log c.keep_all.ensures.answer)
 
@@ -135,16 +135,16 @@ returns-in-Ok-clause-parts g c =
     let known : AreKnown c.args.job.command g.K.World.passes.partitions rows =
     subst (λ (command : Command). AreKnown command g.K.World.passes.partitions rows) c.command.ensures
     c.know_named.ensures.known in
-    let does : Pairwise (DoesIfNamed numbered) 1 rows (g.P.Parts.states c.do_parts.new.parts) =
-    subst (λ (olds : List PartitionState). Pairwise (DoesIfNamed numbered) 1 olds (g.P.Parts.states c.do_parts.new.parts))
+    let does : Pairwise (DoesIfNamed c.edition-edition.result numbered) 1 rows (g.P.Parts.states c.do_parts.new.parts) =
+    subst (λ (olds : List PartitionState). Pairwise (DoesIfNamed c.edition-edition.result numbered) 1 olds (g.P.Parts.states c.do_parts.new.parts))
     c.know_named.ensures.same c.in-Ok.ensures.done in
     partitions-whole g.K.Loaded.load c.args.job log c.keep_all.new.journal.list.log rows (g.P.Parts.states c.keep_all.new.parts)
     c.keep_all.result c.requires.informed
     (inl (accepts-all g.K.Loaded.load c.args.job log rows c.requires.informed c.requires.accepted g.K.World.passes.partitions known
-    c.args.number c.requires.payer numbered is (g.P.Parts.states c.do_parts.new.parts)
+    c.args.number c.requires.payer numbered is c.edition-edition.result (g.P.Parts.states c.do_parts.new.parts)
     (g.P.Parts.states c.keep_all.new.parts) c.keep_all.new.journal.list.log c.in-Ok.reply c.keep_all.result
-    c.open-command.result.1 c.open-command.ensures.1 does c.keep_all.ensures.kept
-    (subst (λ (olds : List PartitionState). RepliesFrom numbered olds (Some c.in-Ok.reply)) c.know_named.ensures.same
+    c.open-command.result.1 c.edition-edition.ensures c.open-command.ensures.1 does c.keep_all.ensures.kept
+    (subst (λ (olds : List PartitionState). RepliesFrom c.edition-edition.result numbered olds (Some c.in-Ok.reply)) c.know_named.ensures.same
     c.in-Ok.ensures.reply)
     c.keep_all.ensures.client c.keep_all.ensures.log c.keep_all.ensures.answer))
 
@@ -158,16 +158,16 @@ returns-in-Ok-clause-whole g c =
     let known : AreKnown c.args.job.command g.K.World.passes.partitions rows =
     subst (λ (command : Command). AreKnown command g.K.World.passes.partitions rows) c.command.ensures
     c.know_named.ensures.known in
-    let does : Pairwise (DoesIfNamed numbered) 1 rows (g.P.Parts.states c.do_parts.new.parts) =
-    subst (λ (olds : List PartitionState). Pairwise (DoesIfNamed numbered) 1 olds (g.P.Parts.states c.do_parts.new.parts))
+    let does : Pairwise (DoesIfNamed c.edition-edition.result numbered) 1 rows (g.P.Parts.states c.do_parts.new.parts) =
+    subst (λ (olds : List PartitionState). Pairwise (DoesIfNamed c.edition-edition.result numbered) 1 olds (g.P.Parts.states c.do_parts.new.parts))
     c.know_named.ensures.same c.in-Ok.ensures.done in
     no-part-whole g.K.Loaded.load c.args.job log c.keep_all.new.journal.list.log rows (g.P.Parts.states c.keep_all.new.parts)
     c.keep_all.result c.requires.informed
     (inl (accepts-all g.K.Loaded.load c.args.job log rows c.requires.informed c.requires.accepted g.K.World.passes.partitions known
-    c.args.number c.requires.payer numbered is (g.P.Parts.states c.do_parts.new.parts)
+    c.args.number c.requires.payer numbered is c.edition-edition.result (g.P.Parts.states c.do_parts.new.parts)
     (g.P.Parts.states c.keep_all.new.parts) c.keep_all.new.journal.list.log c.in-Ok.reply c.keep_all.result
-    c.open-command.result.1 c.open-command.ensures.1 does c.keep_all.ensures.kept
-    (subst (λ (olds : List PartitionState). RepliesFrom numbered olds (Some c.in-Ok.reply)) c.know_named.ensures.same
+    c.open-command.result.1 c.edition-edition.ensures c.open-command.ensures.1 does c.keep_all.ensures.kept
+    (subst (λ (olds : List PartitionState). RepliesFrom c.edition-edition.result numbered olds (Some c.in-Ok.reply)) c.know_named.ensures.same
     c.in-Ok.ensures.reply)
     c.keep_all.ensures.client c.keep_all.ensures.log c.keep_all.ensures.answer))
 

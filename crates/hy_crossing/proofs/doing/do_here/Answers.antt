@@ -1,13 +1,13 @@
-use Rattle.std.proofs.Common.{◌-◌, ◌<◌, length, inr, refl, sym, ◌∙◌, subst, arith}
+use Rattle.std.proofs.Common.{◌-◌, ◌<◌, length, inl, inr, refl, sym, ◌∙◌, subst, arith}
 use Rattle.hy_rows.proofs.BetweenLaws.{bounds}
 use Rattle.hy_schema.specs.declared.refusal.Refusal.TheVariants as refusals
 use Rattle.hy_commands.specs.declared.command.Command.{Command}
 use Rattle.hy_tpcc.specs.Parts.{HasPart}
 use Rattle.hy_partition.specs.Partition.{layout_of}
-use Rattle.hy_partition.specs.Parts.{HasNoPart, IsWhyUndone}
-use Rattle.hy_crossing.specs.Crossings.{CanDoIfNamed, FailsHere}
+use Rattle.hy_partition.specs.Parts.{DoesPart, HasNoPart, IsWhyUndone}
+use Rattle.hy_crossing.specs.Crossings.{CanDoIfNamed, DoesHere, FailsHere}
 use Rattle.hy_crossing.specs.Lists.{ChangesAt}
-use Rattle.hy_crossing.proofs.DoingLaws.{as-before, err-both, err-given, untouched}
+use Rattle.hy_crossing.proofs.DoingLaws.{as-before, err-both, err-given, ok-leads, untouched}
 use Rattle.hy_crossing.proofs.PlaceLaws.{holds-at}
 use Rattle.hy_crossing.proofs.doing.do_here.Goals as goal
 
@@ -61,6 +61,28 @@ do_part-requires g c =
         (subst (λ (command : Command). HasPart (layout_of p) command) (sym c.in_ok-copy.ensures) can.has_part, can.few),
       ),
     )
+
+pub returns-clause-done : goal.returns-clause-done
+returns-clause-done g c =
+    let number = c.args.number in
+    let edition = c.args.edition in
+    let command = c.args.command.now in
+    let rows = g.P.Parts.states c.args.parts.now in
+    let p = c.part-part.result.now in
+    let new = c.do_part.new.self in
+    let ends = bounds 1 (length rows) number c.requires.there in
+    let within : number - 1 < length rows = omega (arith, ends.0, ends.1) in
+    let named = sym c.names.ensures ∙ c.if-not-names.false in
+    ok-leads (DoesPart edition c.in_ok-copy.copy p new)
+    (λ reply. ChangesAt (λ old new. DoesHere edition command number old new reply) (number - 1) rows
+    (g.P.Parts.states (g.P.Parts.put c.args.parts.now (number - 1) new))) c.do_part.result c.do_part.ensures.done
+    (λ reply does. (
+      p,
+      new,
+      c.part-part.ensures.value,
+      g.P.Parts.states_put c.args.parts.now (number - 1) new within,
+      inl (named, subst (λ (command : Command). DoesPart edition command p new reply) c.in_ok-copy.ensures does),
+    ))
 
 pub returns-clause-refused : goal.returns-clause-refused
 returns-clause-refused g c =

@@ -7,7 +7,7 @@ use Rattle.hy_crossing.proofs.doing.do_parts.Given as goal
 -- the parts before the place are done, and the answer is there once the place of the customer's warehouse was passed
 abbrev pub invariant-loop-place : goal.invariant-loop-place
 invariant-loop-place g l =
-    IsDoneUpTo (DoesIfNamed l.command) l.place (g.P.Parts.states l.fn.parts) (g.P.Parts.states l.parts)
+    IsDoneUpTo (DoesIfNamed l.edition l.command) l.place (g.P.Parts.states l.fn.parts) (g.P.Parts.states l.parts)
     × (l.place < customer_home_of l.command → l.answer ≡ None)
-    × (customer_home_of l.command ≤ l.place → RepliesFrom l.command (g.P.Parts.states l.fn.parts) l.answer)
+    × (customer_home_of l.command ≤ l.place → RepliesFrom l.edition l.command (g.P.Parts.states l.fn.parts) l.answer)
     × (l.place-end ≡ length (g.P.Parts.states l.fn.parts))

@@ -14,4 +14,4 @@ pub append-requires-clause-room : goal.append-requires-clause-room
 append-requires-clause-room g c w named =
     subst (λ (log : Log). length (kept_of warehouses_of_commit w log) < max_commits) (sym c.tell_client.ensures.log)
     (few-kept g.K.Loaded.load c.args.command (g.P.Parts.states c.args.parts.now) c.requires.parts c.requires.there
-    g.K.World.passes.partitions c.know_named.ensures.known w named c.args.journal.now.list.log c.requires.done)
+    g.K.World.passes.partitions c.know_named.ensures.known w named c.args.edition c.args.journal.now.list.log c.requires.done)

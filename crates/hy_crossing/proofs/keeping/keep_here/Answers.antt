@@ -1,9 +1,8 @@
 use Rattle.std.proofs.Common.{◌≡◌, ◌-◌, ◌<◌, ◌==◌, ◌++◌, ◌∷◌, [], ℕ, Bool, not, cond, filter, List, length, inl, inr, refl, sym, ap, ◌∙◌, subst, arith}
 use Rattle.std.specs.Prelude.{IfSome, IsSomeAnd, Option}
 use Rattle.hy_rows.proofs.BetweenLaws.{bounds}
-use Rattle.hy_commands.specs.declared.command.Command.{Command}
 use Rattle.hy_commands.specs.declared.command.Commit.TheVariants as commits
-use Rattle.hy_partition.specs.Partition.{projection_of}
+use Rattle.hy_partition.specs.Partition.{PartState, projection_of}
 use Rattle.hy_partition.specs.Parts.{KeepsPart}
 use Rattle.hy_crossing.specs.Crossings.{IsPartition, IsReadyIfNamed}
 use Rattle.hy_crossing.proofs.PlaceLaws.{holds-at}
@@ -33,11 +32,11 @@ keep_part-requires g c =
     let ends = bounds 1 (length rows) number c.requires.there in
     let within : number - 1 < length rows = omega (arith, ends.0, ends.1) in
     let named = sym c.names.ensures ∙ c.if-not-names.false in
-    let ready = holds-at (IsReadyIfNamed command c.args.crossing log number) rows (number - 1) p within
+    let ready = holds-at (IsReadyIfNamed c.args.edition command c.args.crossing log number) rows (number - 1) p within
     c.part-part.ensures.value c.requires.ready named in (
       omega arith,
-      subst (λ (part : Option Command). IsSomeAnd part (λ command. projection_of p.warehouse log
-          ≡ p.kept ++ commits.Cross c.args.crossing command ∷ [])) (sym ready.0) ready.1,
+      subst (λ (part : Option PartState). IsSomeAnd part (λ part. projection_of p.warehouse log
+          ≡ p.kept ++ commits.Cross part.edition c.args.crossing part.command ∷ [])) (sym ready.0) ready.1,
     )
 
 pub returns-clause-kept : goal.returns-clause-kept
@@ -51,7 +50,7 @@ returns-clause-kept g c =
     let ends = bounds 1 (length rows) number c.requires.there in
     let within : number - 1 < length rows = omega (arith, ends.0, ends.1) in
     let named = sym c.names.ensures ∙ c.if-not-names.false in
-    let ready = holds-at (IsReadyIfNamed command c.args.crossing log number) rows (number - 1) p within
+    let ready = holds-at (IsReadyIfNamed c.args.edition command c.args.crossing log number) rows (number - 1) p within
     c.part-part.ensures.value c.requires.ready named in (
       p,
       new,
@@ -59,8 +58,8 @@ returns-clause-kept g c =
       g.P.Parts.states_put c.args.parts.now (number - 1) new within,
       inl (
         named,
-        subst (λ (part : Option Command). IfSome part (λ command.
-            KeepsPart command c.args.crossing log p new c.keep_part.result)) ready.0 c.keep_part.ensures.kept,
+        subst (λ (part : Option PartState). IfSome part (λ part.
+            KeepsPart part.edition part.command c.args.crossing log p new c.keep_part.result)) ready.0 c.keep_part.ensures.kept,
       ),
     )
 

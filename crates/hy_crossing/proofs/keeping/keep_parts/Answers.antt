@@ -16,7 +16,7 @@ loop-place-init g c =
     let command = c.args.command.now in
     let olds = g.P.Parts.states c.args.parts.now in
     let ends = bounds 1 (length olds) (home_of command) (home-there command (length olds) c.requires.there) in (
-      done-start (KeepsPartIfNamed command c.args.crossing c.args.list.now.log) olds,
+      done-start (KeepsPartIfNamed c.args.edition command c.args.crossing c.args.list.now.log) olds,
       λ early. refl,
       λ late. absurd (omega (arith, late, ends.0)),
       refl,
@@ -31,7 +31,7 @@ keep_here-given-requires-clause-is g c =
     let news = g.P.Parts.states c.loop-place.parts in
     let back : place ≡ place + 1 - 1 = omega arith in
     let next : suc place ≡ place + 1 = omega arith in
-    let same = done-get (KeepsPartIfNamed c.args.command.now c.args.crossing c.args.list.now.log) place olds news
+    let same = done-get (KeepsPartIfNamed c.args.edition c.args.command.now c.args.crossing c.args.list.now.log) place olds news
     c.loop-place.invariant.0 in
     subst (λ n. IfSome (slice_get news n) (IsPartition g.K.Loaded.load (place + 1))) back
     (subst (λ n. IfSome (slice_get news place) (IsPartition g.K.Loaded.load n)) next
@@ -48,12 +48,12 @@ keep_here-given-requires-clause-ready g c =
     let news = g.P.Parts.states c.loop-place.parts in
     let back : place ≡ place + 1 - 1 = omega arith in
     let next : suc place ≡ place + 1 = omega arith in
-    let same = done-get (KeepsPartIfNamed command crossing log) place olds news c.loop-place.invariant.0 in
-    subst (λ (log : Log). IfSome (slice_get news (place + 1 - 1)) (IsReadyIfNamed command crossing log (place + 1)))
+    let same = done-get (KeepsPartIfNamed c.args.edition command crossing log) place olds news c.loop-place.invariant.0 in
+    subst (λ (log : Log). IfSome (slice_get news (place + 1 - 1)) (IsReadyIfNamed c.args.edition command crossing log (place + 1)))
     (sym c.loop-place.invariant.3)
-    (subst (λ n. IfSome (slice_get news n) (IsReadyIfNamed command crossing log (place + 1))) back
-    (subst (λ n. IfSome (slice_get news place) (IsReadyIfNamed command crossing log n)) next
-    (subst (λ (row : Option PartitionState). IfSome row (IsReadyIfNamed command crossing log (suc place))) (sym same)
+    (subst (λ n. IfSome (slice_get news n) (IsReadyIfNamed c.args.edition command crossing log (place + 1))) back
+    (subst (λ n. IfSome (slice_get news place) (IsReadyIfNamed c.args.edition command crossing log n)) next
+    (subst (λ (row : Option PartitionState). IfSome row (IsReadyIfNamed c.args.edition command crossing log (suc place))) (sym same)
     (c.requires.ready place))))
 
 pub loop-place-preserved : goal.loop-place-preserved
@@ -68,12 +68,12 @@ loop-place-preserved g c =
     let given = c.keep_here-given.result in
     let done = c.loop-place.invariant.0 in
     let within : place < length olds = omega (arith, c.loop-place-test.true, c.loop-place.invariant.5) in
-    let changes = subst (λ (log : Log). ChangesAt (λ old new. KeepsHere command crossing log (place + 1) old new given)
+    let changes = subst (λ (log : Log). ChangesAt (λ old new. KeepsHere c.args.edition command crossing log (place + 1) old new given)
     (place + 1 - 1) middles news) c.loop-place.invariant.3 c.keep_here-given.ensures.kept in (
-      keep-step command crossing log place olds middles done within given news changes,
-      λ before. c.note_share.ensures ∙ share-early command crossing log place olds middles done within given news
+      keep-step c.args.edition command crossing log place olds middles done within given news changes,
+      λ before. c.note_share.ensures ∙ share-early c.args.edition command crossing log place olds middles done within given news
           changes g.K.Loaded.load c.requires.parts c.loop-place.share c.loop-place.invariant.1 before,
-      λ passed. c.note_share.ensures ∙ share-late command crossing log place olds middles done within given news
+      λ passed. c.note_share.ensures ∙ share-late c.args.edition command crossing log place olds middles done within given news
           changes g.K.Loaded.load c.requires.parts c.loop-place.share c.loop-place.invariant.1
           c.loop-place.invariant.2 passed,
       c.keep_here-given.ensures.log ∙ c.loop-place.invariant.3,
@@ -85,7 +85,7 @@ loop-place-preserved g c =
 
 pub returns-clause-kept : goal.returns-clause-kept
 returns-clause-kept g c =
-    done-end (KeepsPartIfNamed c.args.command.now c.args.crossing c.args.list.now.log) c.loop-place.place
+    done-end (KeepsPartIfNamed c.args.edition c.args.command.now c.args.crossing c.args.list.now.log) c.loop-place.place
     (g.P.Parts.states c.args.parts.now) (g.P.Parts.states c.loop-place.parts) c.loop-place.invariant.0
     (omega (arith, c.loop-place-test.false, c.loop-place.invariant.5))
 

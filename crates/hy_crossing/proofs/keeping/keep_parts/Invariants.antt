@@ -8,7 +8,7 @@ use Rattle.hy_crossing.proofs.keeping.keep_parts.Given as goal
 -- the parts before the place are kept and told, and the share is there once the home was passed
 abbrev pub invariant-loop-place : goal.invariant-loop-place
 invariant-loop-place g l =
-    IsDoneUpTo (KeepsPartIfNamed l.command l.crossing l.fn.list.log) l.place (g.P.Parts.states l.fn.parts)
+    IsDoneUpTo (KeepsPartIfNamed l.edition l.command l.crossing l.fn.list.log) l.place (g.P.Parts.states l.fn.parts)
     (g.P.Parts.states l.parts)
     × (l.place < home_of l.command → l.share ≡ None)
     × (home_of l.command ≤ l.place → l.share ≡ share_of (home_of l.command) l.command)

@@ -3,4 +3,4 @@ use Rattle.hy_database.proofs.KeptLaws.{act-kept}
 use Rattle.hy_database.proofs.theorem.kept_commands_do_the_same.Goals as goal
 
 pub returns : goal.returns
-returns c = λ database command number accepted. act-kept database command number accepted
+returns c = λ database edition command number accepted. act-kept database edition command number accepted

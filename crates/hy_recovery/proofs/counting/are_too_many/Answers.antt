@@ -2,14 +2,14 @@
 use Rattle.std.proofs.Common.{◌≡◌, ◌<◌, ◌≤◌, ◌+◌, length, take, refl, sym, arith}
 use Rattle.std.specs.Prelude.{slice_get, Some}
 use Rattle.hy_sound.specs.Sound.{list_at}
-use Rattle.hy_sound.proofs.ListLaws.{list-there}
+use Rattle.hy_sound.proofs.ListLaws.{item-there}
 use Rattle.hy_recovery.specs.Recovering.{joined}
 use Rattle.hy_recovery.proofs.JoinedLaws.{joined-next}
 use Rattle.hy_recovery.proofs.counting.are_too_many.Goals as goal
 
 pub returns-then-room-count : goal.returns-then-room-count
 returns-then-room-count c =
-    let at = list-there c.args.batches.now c.loop-number.number c.batch.result.now
+    let at = item-there c.args.batches.now c.loop-number.number c.batch.result.now _
     (omega (arith, c.loop-number-test.true, c.count-number-end.ensures)) c.batch.ensures in
     let less = joined-next c.args.batches.now c.loop-number.number c.args.place c.batch.result.now at in
     let more : c.args.most < length (joined c.args.batches.now c.args.place) =

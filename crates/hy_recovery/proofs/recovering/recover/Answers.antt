@@ -5,7 +5,7 @@ use Rattle.hy_rows.specs.Tables.{Lists}
 use Rattle.hy_crossing.specs.Crossings.{ArePartitions}
 use Rattle.hy_crossing.proofs.InformLaws.{pairs-count}
 use Rattle.hy_forks.specs.Drains.{TellsHere}
-use Rattle.hy_sound.proofs.ListLaws.{list-there}
+use Rattle.hy_sound.proofs.ListLaws.{item-there}
 use Rattle.hy_recovery.specs.Recovering.{NoneAreTooMany}
 use Rattle.hy_recovery.specs.inside.Ways.{Aim, AreOnWay, AreThere, untouched}
 use Rattle.hy_recovery.proofs.EndLaws.{marked-partitions, marked-whole}
@@ -20,7 +20,7 @@ run_batch-requires g c =
     let batch = c.batch.result.now in
     let within : c.loop-place.place < length c.args.batches.now =
     omega (arith, c.loop-place-test.true, c.count-place-end.ensures) in
-    let at = list-there c.args.batches.now c.loop-place.place batch within c.batch.ensures in
+    let at = item-there c.args.batches.now c.loop-place.place batch _ within c.batch.ensures in
     let run = c.loop-place.invariant.run in
     let aim = next_aim load c.args.batches.now c.args.max_frames c.args.max_kept c.loop-place.place log parts run batch at in
     let way = run-batch load c.args.batches.now c.args.max_frames c.args.max_kept c.loop-place.place log parts run batch at
@@ -37,7 +37,7 @@ loop-place-preserved g c =
     let news = c.run_batch.new.parts.items in
     let within : c.loop-place.place < length c.args.batches.now =
     omega (arith, c.loop-place-test.true, c.count-place-end.ensures) in
-    let at = list-there c.args.batches.now c.loop-place.place batch within c.batch.ensures in
+    let at = item-there c.args.batches.now c.loop-place.place batch _ within c.batch.ensures in
     let run = c.loop-place.invariant.run in
     let aim = next_aim load c.args.batches.now c.args.max_frames c.args.max_kept c.loop-place.place log parts run batch at in
     let way = run-batch load c.args.batches.now c.args.max_frames c.args.max_kept c.loop-place.place log parts run batch at

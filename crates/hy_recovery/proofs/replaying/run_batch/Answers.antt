@@ -32,12 +32,13 @@ run_crossing-requires g c =
     let parts = c.run_all_locals.new.parts.items in
     let way = c.in_ok-pass.ensures.way aim (c.crossings.invariant.way aim c.requires.way.1) in
     let same : c.next_crossing-last.result - 1 ≡ crossings_in log = omega (arith, c.next_crossing-last.ensures) in
+    let edition = c.in-Some.edition in
     let number = c.in-Some.number in
     let command = c.in-Some.command.now in
-    let finds : FindsCrossing merge (crossings_in log) number command =
-    subst (λ n. FindsCrossing merge n number command) same c.in-Some.ensures in
+    let finds : FindsCrossing merge (crossings_in log) edition number command =
+    subst (λ n. FindsCrossing merge n edition number command) same c.in-Some.ensures in
     let can = subst (λ (command : Command). CanRunCrossing lists number command log parts) (sym c.in_ok-copy.ensures)
-    (can-crossing lists aim merge log parts way number command finds c.in_ok-pass.ensures.stops) in
+    (can-crossing lists aim merge log parts way edition number command finds c.in_ok-pass.ensures.stops) in
     (omega arith, (way-partitions lists aim merge log parts way, (way-whole lists aim merge log parts way, can)))
 
 pub crossings-preserved : goal.crossings-preserved
@@ -49,20 +50,21 @@ crossings-preserved g c =
     let news = c.run_crossing.new.parts.items in
     let later = c.run_crossing.new.journal.list.log in
     let same : c.next_crossing-last.result - 1 ≡ crossings_in log = omega (arith, c.next_crossing-last.ensures) in
+    let edition = c.in-Some.edition in
     let number = c.in-Some.number in
     let command = c.in-Some.command.now in
-    let finds : FindsCrossing merge (crossings_in log) number command =
-    subst (λ n. FindsCrossing merge n number command) same c.in-Some.ensures in
-    let keeps : Pairwise (KeepsWhereNamed command (commits.Cross number command)) 1 parts news =
-    subst (λ (command : Command). Pairwise (KeepsWhereNamed command (commits.Cross number command)) 1 parts news)
+    let finds : FindsCrossing merge (crossings_in log) edition number command =
+    subst (λ n. FindsCrossing merge n edition number command) same c.in-Some.ensures in
+    let keeps : Pairwise (KeepsWhereNamed command (commits.Cross edition number command)) 1 parts news =
+    subst (λ (command : Command). Pairwise (KeepsWhereNamed command (commits.Cross edition number command)) 1 parts news)
     c.in_ok-copy.ensures c.in_ok-pass-2.ensures.kept in
-    let enters : Enters (commits.Cross number command) log later =
-    subst (λ (command : Command). Enters (commits.Cross number command) log later) c.in_ok-copy.ensures
+    let enters : Enters (commits.Cross edition number command) log later =
+    subst (λ (command : Command). Enters (commits.Cross edition number command) log later) c.in_ok-copy.ensures
     c.in_ok-pass-2.ensures.log in
     record {
       way = λ aim is.
-          way-crossing lists aim merge log parts (c.in_ok-pass.ensures.way aim (c.crossings.invariant.way aim is)) number
-          command finds c.in_ok-pass.ensures.stops c.pass_crossing.new.self news later c.if-not-pass_crossing.ensures keeps
+          way-crossing lists aim merge log parts (c.in_ok-pass.ensures.way aim (c.crossings.invariant.way aim is)) edition
+          number command finds c.in_ok-pass.ensures.stops c.pass_crossing.new.self news later c.if-not-pass_crossing.ensures keeps
           enters;
       client = c.in_ok-pass-2.ensures.client ∙ c.in_ok-pass.ensures.client ∙ c.crossings.invariant.client;
     }
@@ -72,9 +74,10 @@ crossings-smaller g c =
     let log = c.run_all_locals.new.journal.list.log in
     let later = c.run_crossing.new.journal.list.log in
     let first = c.crossings.journal.list.log in
+    let edition = c.in-Some.edition in
     let number = c.in-Some.number in
-    let enters : Enters (commits.Cross number c.in_ok-copy.field-0) log later = c.in_ok-pass-2.ensures.log in
-    let more : crossings_in later ≡ suc (crossings_in log) = crossings-next number c.in_ok-copy.field-0 log later enters in
+    let enters : Enters (commits.Cross edition number c.in_ok-copy.field-0) log later = c.in_ok-pass-2.ensures.log in
+    let more : crossings_in later ≡ suc (crossings_in log) = crossings-next edition number c.in_ok-copy.field-0 log later enters in
     let same : crossings_in log ≡ crossings_in first = c.in_ok-pass.ensures.numbers in
     let next : c.next_crossing-last.result ≡ crossings_in log + 1 = c.next_crossing-last.ensures in
     let less : 2 ^ 64 - crossings_in later < 2 ^ 64 - crossings_in first = omega (arith, more, same, next, c.next_crossing-last.type_inv) in
@@ -89,11 +92,12 @@ unreachable-requires g c =
     let parts = c.run_all_locals.new.parts.items in
     let way = c.in_ok-pass.ensures.way aim (c.crossings.invariant.way aim c.requires.way.1) in
     let same : c.next_crossing-last.result - 1 ≡ crossings_in log = omega (arith, c.next_crossing-last.ensures) in
+    let edition = c.in-Some.edition in
     let number = c.in-Some.number in
     let command = c.in-Some.command.now in
-    let finds : FindsCrossing merge (crossings_in log) number command =
-    subst (λ n. FindsCrossing merge n number command) same c.in-Some.ensures in
-    not-lacking lists aim merge log parts way number command finds c.in_ok-pass.ensures.stops
+    let finds : FindsCrossing merge (crossings_in log) edition number command =
+    subst (λ n. FindsCrossing merge n edition number command) same c.in-Some.ensures in
+    not-lacking lists aim merge log parts way edition number command finds c.in_ok-pass.ensures.stops
     c.if-not-pass_crossing.ensures
 
 pub returns-in_default-clause-way : goal.returns-in_default-clause-way

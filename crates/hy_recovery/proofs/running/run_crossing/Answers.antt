@@ -10,9 +10,9 @@ pub returns-clause-kept : goal.returns-clause-kept
 returns-clause-kept g c =
     let crosses = subst (λ (job : JobState). Crosses g.K.Loaded.load job c.args.journal.now.list.log
     c.cross-done.new.journal.list.log c.args.parts.now.items c.cross-done.new.parts.items c.cross-done.result)
-    c.new.ensures c.cross-done.ensures.crosses in
+    c.of_edition.ensures c.cross-done.ensures.crosses in
     ok-then c.pass_of.result _ _ c.pass_of.ensures.accepted (λ pass is.
-    keeps-crossing g.K.Loaded.load c.args.number c.args.command c.args.pass c.args.journal.now.list.log
+    keeps-crossing g.K.Loaded.load c.args.edition c.args.number c.args.command c.args.pass c.args.journal.now.list.log
     c.cross-done.new.journal.list.log c.args.parts.now.items c.cross-done.new.parts.items c.cross-done.result
     c.requires.can crosses is.1)
 
@@ -20,9 +20,9 @@ pub returns-clause-log : goal.returns-clause-log
 returns-clause-log g c =
     let crosses = subst (λ (job : JobState). Crosses g.K.Loaded.load job c.args.journal.now.list.log
     c.cross-done.new.journal.list.log c.args.parts.now.items c.cross-done.new.parts.items c.cross-done.result)
-    c.new.ensures c.cross-done.ensures.crosses in
+    c.of_edition.ensures c.cross-done.ensures.crosses in
     ok-then c.pass_of.result _ _ c.pass_of.ensures.accepted (λ pass is.
-    enters-crossing g.K.Loaded.load c.args.number c.args.command c.args.pass c.args.journal.now.list.log
+    enters-crossing g.K.Loaded.load c.args.edition c.args.number c.args.command c.args.pass c.args.journal.now.list.log
     c.cross-done.new.journal.list.log c.args.parts.now.items c.cross-done.new.parts.items c.cross-done.result
     c.requires.can crosses is.1)
 
@@ -30,8 +30,8 @@ pub returns-clause-refused : goal.returns-clause-refused
 returns-clause-refused g c =
     let crosses = subst (λ (job : JobState). Crosses g.K.Loaded.load job c.args.journal.now.list.log
     c.cross-done.new.journal.list.log c.args.parts.now.items c.cross-done.new.parts.items c.cross-done.result)
-    c.new.ensures c.cross-done.ensures.crosses in
+    c.of_edition.ensures c.cross-done.ensures.crosses in
     err-gives c.pass_of.result _ _ c.pass_of.ensures.refused (λ why is.
-    lacked g.K.Loaded.load c.args.number c.args.command c.args.pass c.args.journal.now.list.log
+    lacked g.K.Loaded.load c.args.edition c.args.number c.args.command c.args.pass c.args.journal.now.list.log
     c.cross-done.new.journal.list.log c.args.parts.now.items c.cross-done.new.parts.items c.cross-done.result
     c.requires.can crosses why is)

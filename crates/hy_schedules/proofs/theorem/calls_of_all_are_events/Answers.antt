@@ -14,7 +14,7 @@ returns-clause-new c = λ n lists frames commits parts count each.
 
 pub returns-clause-begin : goal.returns-clause-begin
 returns-clause-begin c = λ n place log parts news whole job is within known changes.
-    leads-at n place log log parts whole is within (begins job.pass.client job.command) changes.0 changes.1 news refl
+    leads-at n place log log parts whole is within (begins job.pass.client job.edition job.command) changes.0 changes.1 news refl
     changes.2 changes.3 (ap (λ (p : PartitionState). p.drained) changes.4.1)
     (λ before world. c.calls_are_events.ensures.begin n log changes.0 changes.1 (world_at whole (suc place) before) job
     world known changes.4.0 changes.4.1)

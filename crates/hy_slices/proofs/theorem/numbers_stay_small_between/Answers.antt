@@ -3,5 +3,6 @@ use Rattle.hy_slices.proofs.GrowingSlices.{grown-between}
 use Rattle.hy_slices.proofs.theorem.numbers_stay_small_between.Goals as goal
 
 pub returns : goal.returns
-returns c = λ lists number commits command done begun.
-    grown-between lists begun.load number commits command done begun.warehouse begun.begins begun.within begun.known
+returns c = λ lists number commits edition command done begun.
+    grown-between lists begun.load number commits edition command done begun.warehouse begun.begins begun.within
+    begun.known

@@ -4,5 +4,6 @@ use Rattle.hy_slices.proofs.BetweenSlices.{whole-slices}
 use Rattle.hy_slices.proofs.theorem.rows_stay_whole.Goals as goal
 
 pub returns : goal.returns
-returns c = λ items number command tables done under_way.
-    whole-slices items number command tables done under_way.sound under_way.begins under_way.within under_way.known
+returns c = λ items number edition command tables done under_way.
+    whole-slices items number edition command tables done under_way.sound under_way.begins under_way.within
+    under_way.known

@@ -3,13 +3,15 @@ use Rattle.hy_slices.proofs.SliceLaws.{slices-accepted, slices-act, slices-not_r
 use Rattle.hy_slices.proofs.theorem.slices_are_the_command.Goals as goal
 
 pub returns-clause-whole : goal.returns-clause-whole
-returns-clause-whole c = λ items number command tables. slices-accepted items number command tables
+returns-clause-whole c = λ items number edition command tables. slices-accepted items number edition command tables
 
 pub returns-clause-part : goal.returns-clause-part
-returns-clause-part c = λ items number command tables begins. slices-part items number command tables begins
+returns-clause-part c = λ items number edition command tables begins.
+    slices-part items number edition command tables begins
 
 pub returns-clause-rows : goal.returns-clause-rows
-returns-clause-rows c = λ items number command tables begins known. slices-act items number command tables begins known
+returns-clause-rows c = λ items number edition command tables begins known.
+    slices-act items number edition command tables begins known
 
 pub returns-clause-accepted : goal.returns-clause-accepted
 returns-clause-accepted c =

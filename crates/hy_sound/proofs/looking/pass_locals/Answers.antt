@@ -7,5 +7,5 @@ use Rattle.hy_sound.proofs.looking.pass_locals.Goals as goal
 pub returns-then-not-accepts-clause-here : goal.returns-then-not-accepts-clause-here
 returns-then-not-accepts-clause-here c =
     c.commits.invariant.replayable
-    ∙ refused-next c.args.known.now (left_of c.commits.merge c.args.place) c.in-Some-Local.command
+    ∙ refused-next c.args.known.now (left_of c.commits.merge c.args.place) _ c.in-Some-Local.command
     (sym c.in-Some-Local.ensures ∙ ap Some c.in-Some-Local.field-0-is) (sym c.accepts.ensures ∙ c.if-not-accepts.true)

@@ -1,7 +1,6 @@
 -- What the steps come to.
-use Rattle.std.proofs.Common.{◌≡◌, ◌∙◌, sym, true, false, subst}
+use Rattle.std.proofs.Common.{◌∙◌, sym}
 use Rattle.std.proofs.lemmas.Bool.{false≢true}
-use Rattle.std.specs.Prelude.{MatchBool}
 use Rattle.hy_sound.proofs.SoundLaws.{all-stop, leads-crossing, leads-locals, leads-then, sound-end, unsound-before, unsound-lacking, unsound-none, unsound-unknown}
 use Rattle.hy_sound.proofs.looking.take_step.Goals as goal
 use Rattle.hy_sound.proofs.looking.take_step.Goals.{else-accepts-via-then-accepts+else-pass_crossing, else-accepts-via-else-accepts}
@@ -13,9 +12,10 @@ returns-then-pass_crossing c =
     let middle = c.pass_all_locals.new.merge in
     let new = c.pass_crossing.new.self in
     let last = c.args.last in
+    let edition = c.in-Some.edition in
     let number = c.in-Some.number in
     let locals = leads-locals lists last old middle c.if-not-pass_all_locals.ensures in
-    let crossing = leads-crossing lists last number c.in-Some.command.now middle c.in-Some.ensures
+    let crossing = leads-crossing lists last edition number c.in-Some.command.now middle c.in-Some.ensures
     (sym c.if-accepts.ensures) new c.if-pass_crossing.ensures in
     (c.in-Some.ensures.0, leads-then lists last last number old middle new locals crossing)
 
@@ -25,15 +25,16 @@ returns-else-accepts c =
     let old = c.args.merge.now in
     let middle = c.pass_all_locals.new.merge in
     let last = c.args.last in
+    let edition = c.in-Some.edition in
     let number = c.in-Some.number in
     let command = c.in-Some.command.now in
     let locals = leads-locals lists last old middle c.if-not-pass_all_locals.ensures in
     unsound-before lists last last old middle locals (elim c.else-accepts.branch [
       | else-accepts-via-then-accepts+else-pass_crossing w ↦
-          unsound-lacking lists last number command middle c.in-Some.ensures
+          unsound-lacking lists last edition number command middle c.in-Some.ensures
           (all-stop lists old middle c.if-not-pass_all_locals.ensures) w.if-pass_crossing.ensures
       | else-accepts-via-else-accepts w ↦
-          unsound-unknown lists last number command middle c.in-Some.ensures (sym w.if-accepts.ensures)
+          unsound-unknown lists last edition number command middle c.in-Some.ensures (sym w.if-accepts.ensures)
     ])
 
 pub returns-then-is_at_end : goal.returns-then-is_at_end

@@ -5,8 +5,9 @@ use Rattle.hy_tpcc.proofs.delivery.deliver_next.Goals as goal
 
 pub deliver_in-requires : goal.deliver_in-requires
 deliver_in-requires g c =
-    let before = c.requires.done.0 in
-    let now = c.requires.done.1 in
+    let edition = c.requires.done.0 in
+    let before = c.requires.done.1 in
+    let now = c.requires.done.2 in
     let layout = c.args.layout.now in (
       lit< tt,
       (
@@ -14,7 +15,7 @@ deliver_in-requires g c =
         (
           c.requires.writable,
           (
-            sound-delivering layout c.args.delivery.now c.args.place c.args.done before
+            sound-delivering layout edition c.args.delivery.now c.args.place c.args.done before
                 (stored_in g.row.N c.args.space.now) c.requires.next now,
             delivery-begun layout.warehouse c.args.delivery.now before now.begun.begun,
           ),
@@ -27,14 +28,14 @@ returns-clause-done g c =
     let delivered = c.in_ok-number.ensures.delivered in
     record {
       store = delivered.store;
-      step = λ before now.
-          delivered-done c.args.layout.now c.args.delivery.now c.args.place c.args.done before
+      step = λ edition before now.
+          delivered-done c.args.layout.now edition c.args.delivery.now c.args.place c.args.done before
           (stored_in g.row.N c.args.space.now) (stored_in g.row.N c.deliver_in.new.space) delivered.step.rows
           delivered.step.indexes now;
     }
 
 pub returns-clause-number : goal.returns-clause-number
-returns-clause-number g c = λ before now.
+returns-clause-number g c = λ edition before now.
     c.in_ok-number.ensures.number
-    ∙ oldest-delivered c.args.layout.now c.args.delivery.now c.args.place c.args.done before
+    ∙ oldest-delivered c.args.layout.now edition c.args.delivery.now c.args.place c.args.done before
     (stored_in g.row.N c.args.space.now) now

@@ -23,8 +23,8 @@ returns-clause-done g c =
     on_ok-then c.pay_home.result
     (λ paid. record {
       store = paid.store;
-      step =
-          home-part c.args.layout.now c.args.payment.now c.requires.part c.requires.home
+      step = λ edition.
+          home-part c.args.layout.now c.args.payment.now c.requires.part c.requires.home edition
           (stored_in g.row.N c.args.space.now) (stored_in g.row.N c.pay_home.new.space) c.number_of-number.result
           c.number_of-number.ensures paid.changed c.requires.sound.indexes;
     }) c.pay_home.ensures.paid

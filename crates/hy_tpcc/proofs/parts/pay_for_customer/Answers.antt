@@ -24,7 +24,8 @@ returns-clause-done g c =
       store = paid.store;
       step =
           customer-part c.args.layout.now c.args.payment.now c.requires.part c.know_places.ensures.warehouse
-          c.requires.elsewhere (stored_in g.row.N c.args.space.now) (stored_in g.row.N c.pay_customer.new.space)
+          c.requires.elsewhere c.args.edition (stored_in g.row.N c.args.space.now)
+          (stored_in g.row.N c.pay_customer.new.space)
           c.requires.sound paid.changed;
     }) c.pay_customer.ensures.paid
 
@@ -32,4 +33,4 @@ pub returns-clause-reply : goal.returns-clause-reply
 returns-clause-reply g c =
     if_ok-then c.pay_customer.result
     (λ reply is. customer-reply c.args.layout.now c.args.payment.now c.requires.part c.know_places.ensures.warehouse
-    c.requires.elsewhere (stored_in g.row.N c.args.space.now).tables reply is) c.pay_customer.ensures.reply
+    c.requires.elsewhere c.args.edition (stored_in g.row.N c.args.space.now).tables reply is) c.pay_customer.ensures.reply

@@ -32,8 +32,9 @@ pub returns-clause-done : goal.returns-clause-done
 returns-clause-done g c = record {
   store = c.loop-place.invariant.writable.store;
   step =
+      λ edition.
       sells-all c.args.layout.now (subst IsLoad c.load.ensures c.sound.ensures) c.know_places.ensures.warehouse
-      c.args.order.now c.requires.part c.requires.elsewhere c.loop-place.place (stored_in g.row.N c.args.space.now)
+      c.args.order.now c.requires.part c.requires.elsewhere edition c.loop-place.place (stored_in g.row.N c.args.space.now)
       (stored_in g.row.N c.loop-place.space)
       (subst (λ count. count ≤ c.loop-place.place) c.len-place-end.ensures.count c.loop-place-test.false)
       c.loop-place.invariant.sells;

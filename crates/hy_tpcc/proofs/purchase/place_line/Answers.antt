@@ -11,18 +11,18 @@ use Rattle.hy_tpcc.proofs.purchase.place_line.Goals as goal
 
 pub add_line-requires : goal.add_line-requires
 add_line-requires g c =
-    let can = can-add_line c.args.layout.now c.args.order.now c.args.place c.args.done c.requires.done.0
+    let can = can-add_line c.args.layout.now c.requires.done.0 c.args.order.now c.args.place c.args.done c.requires.done.1
     (stored_in g.row.N c.args.space.now) c.line_behind-line.result c.in-Some.item.now
     (subst IsLoad c.load.ensures c.sound.ensures) c.know_places.ensures.warehouse c.requires.behind
     c.requires.next c.line_behind-line.ensures
-    c.in-Some.ensures.item c.in-Some.ensures.number c.requires.done.1 in
+    c.in-Some.ensures.item c.in-Some.ensures.number c.requires.done.2 in
     (lit< tt, (lit< tt, (c.requires.writable, can)))
 
 pub returns-in-Ok-clause-done : goal.returns-in-Ok-clause-done
 returns-in-Ok-clause-done g c = record {
   store = c.in-Ok.ensures.added.store;
-  step = λ before now.
-      line-next c.args.layout.now c.args.order.now c.args.place c.args.done before
+  step = λ edition before now.
+      line-next c.args.layout.now edition c.args.order.now c.args.place c.args.done before
       (stored_in g.row.N c.args.space.now) (stored_in g.row.N c.add_line.new.space) c.line_behind-line.result
       c.requires.behind c.line_behind-line.ensures
       (sym (found-any (is_item c.line_behind-line.result.item) c.args.layout.now.load.items)

@@ -13,8 +13,8 @@ pub own_next_order-number-requires : goal.own_next_order-number-requires
 own_next_order-number-requires g c =
     let near = number-near c.args.layout.now.load (subst IsLoad c.load.ensures c.sound.ensures)
     c.args.layout.now.warehouse c.know_places.ensures.warehouse in
-    let can = can-reply c.args.layout.now c.args.order.now c.args.place c.requires.done.0
-    (stored_in g.row.N c.args.space.now) near c.requires.done.1 in
+    let can = can-reply c.args.layout.now c.requires.done.0 c.args.order.now c.args.place c.requires.done.1
+    (stored_in g.row.N c.args.space.now) near c.requires.done.2 in
     (lit< tt, (c.requires.store, (can.rows, can.begun.district)))
 
 pub overflow_sub-number : goal.overflow_sub-number
@@ -22,7 +22,7 @@ overflow_sub-number g c =
     let near = number-near c.args.layout.now.load (subst IsLoad c.load.ensures c.sound.ensures)
     c.args.layout.now.warehouse c.know_places.ensures.warehouse in
     let s = stored_in g.row.N c.args.space.now in
-    let can = can-reply c.args.layout.now c.args.order.now c.args.place c.requires.done.0 s near c.requires.done.1 in
+    let can = can-reply c.args.layout.now c.requires.done.0 c.args.order.now c.args.place c.requires.done.1 s near c.requires.done.2 in
     let read = c.own_next_order-number.ensures in
     let positive : 0 < (read.0).next_order = All-find (λ (row : District). 0 < row.next_order)
     (is_district c.args.layout.now.warehouse c.args.order.now.district) s.tables.districts
@@ -33,14 +33,14 @@ pub purchase_total-requires : goal.purchase_total-requires
 purchase_total-requires g c =
     let near = number-near c.args.layout.now.load (subst IsLoad c.load.ensures c.sound.ensures)
     c.args.layout.now.warehouse c.know_places.ensures.warehouse in
-    let can = can-reply c.args.layout.now c.args.order.now c.args.place c.requires.done.0
-    (stored_in g.row.N c.args.space.now) near c.requires.done.1 in
+    let can = can-reply c.args.layout.now c.requires.done.0 c.args.order.now c.args.place c.requires.done.1
+    (stored_in g.row.N c.args.space.now) near c.requires.done.2 in
     let fit = items-fit c.args.layout.now.load (subst IsLoad c.load.ensures c.sound.ensures) in
     (lit< tt, (c.requires.store, (can.rows, (can.begun, (fit, (can.known, can.buyer))))))
 
 pub returns : goal.returns
-returns g c = λ before now.
+returns g c = λ edition before now.
     let read = c.own_next_order-number.ensures in
     ap (λ n. replies.NewOrder (n - 1) c.purchase_total.result) read.2
-    ∙ reply-ordered c.args.layout.now c.args.order.now c.args.place before (stored_in g.row.N c.args.space.now)
+    ∙ reply-ordered c.args.layout.now edition c.args.order.now c.args.place before (stored_in g.row.N c.args.space.now)
     read.0 c.purchase_total.result read.1 c.purchase_total.ensures now

@@ -7,15 +7,16 @@ use Rattle.hy_tpcc.proofs.reading.answer_level.Goals as goal
 
 pub stock_level-requires : goal.stock_level-requires
 stock_level-requires g c =
-    let before = c.requires.done.0 in
-    let now = c.requires.done.1 in
+    let edition = c.requires.done.0 in
+    let before = c.requires.done.1 in
+    let now = c.requires.done.2 in
     let layout = c.args.layout.now in
     let command = commands.StockLevel c.args.level.now in (
       lit< tt,
       (
         c.requires.store,
         (
-          sound-begun layout command c.args.place before (stored_in g.row.N c.args.space.now) now,
+          sound-begun layout edition command c.args.place before (stored_in g.row.N c.args.space.now) now,
           (
             home-level layout.warehouse c.args.level.now before now.begun.begun,
             districts-begun layout.warehouse command before

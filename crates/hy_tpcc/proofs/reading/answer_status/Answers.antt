@@ -6,11 +6,12 @@ use Rattle.hy_tpcc.proofs.reading.answer_status.Goals as goal
 
 pub order_status-requires : goal.order_status-requires
 order_status-requires g c =
-    let before = c.requires.done.0 in
-    let now = c.requires.done.1 in
+    let edition = c.requires.done.0 in
+    let before = c.requires.done.1 in
+    let now = c.requires.done.2 in
     let layout = c.args.layout.now in
     let s = stored_in g.row.N c.args.space.now in
-    let sound = sound-begun layout (commands.OrderStatus c.args.status.now) c.args.place before s now in (
+    let sound = sound-begun layout edition (commands.OrderStatus c.args.status.now) c.args.place before s now in (
       lit< tt,
       (
         c.requires.store,

@@ -55,7 +55,7 @@ invariant_of-self-2 g c =
     let begun_sound : IsSound g.row.N room c.begin.new.self (record p { running = Some job }) =
     sound-begun g.row.N _ _ p c.self.invariant.0 room c.begin.new.self job
     (search rules) (search rules) (search rules) (ap (λ (j : RunningJob). j.slices) c.begin-2.ensures) c.begin.ensures.layout
-    (rw same at c.in_default.ensures.begun) (rw same at c.in_default.ensures.under_way)
+    (rw same at c.in_default.ensures.begun) (rw same at (c.in_default.ensures.under_way job.edition))
     (rw again at c.in_default-make_room.ensures.room) in
     subst (λ (list : KeptState Commit).
     (λ (q : PartitionState). IsSound g.row.N list.room c.begin.new.self q × IsTied g.K.Loaded.load list inside.desk q)

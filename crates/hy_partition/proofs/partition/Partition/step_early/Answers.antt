@@ -24,6 +24,7 @@ invariant_of-self-in-Ok-None g c =
     let p : PartitionState = partition_of c.self.inside in
     let inside = c.self.inside in
     let job : RunningJob = record {
+      edition = c.in-Some.running.edition;
       command = c.in-Some.running.command;
       slices = c.in-Some.running.slices;
       pass = c.in-Some.running.pass;
@@ -33,13 +34,13 @@ invariant_of-self-in-Ok-None g c =
     let next : ExecutorState = c.slice.new.self in
     let space : SpaceState = c.slice.new.space in
     let under_way : (before : Tables)
-    → IsUnderWay executor job.command job.slices before (stored g.row.N (owner_bytes p.space))
-    → IsUnderWay next job.command (job.slices + 1) before (stored g.row.N (owner_bytes space)) =
-    rw (c.command.ensures, c.slices-done.ensures) at c.in-Ok-None.ensures.under_way.step in
+    → IsUnderWay executor job.edition job.command job.slices before (stored g.row.N (owner_bytes p.space))
+    → IsUnderWay next job.edition job.command (job.slices + 1) before (stored g.row.N (owner_bytes space)) =
+    rw (c.edition.ensures, c.command.ensures, c.slices-done.ensures) at c.in-Ok-None.ensures.under_way.step in
     let answered : (before : Tables)
-    → IsUnderWay executor job.command job.slices before (stored g.row.N (owner_bytes p.space))
-    → None ≡ answer_of executor.layout job.command job.slices before =
-    rw (c.command.ensures, c.slices-done.ensures, c.in-Ok-None.field-0-is) at c.in-Ok-None.ensures.reply in
+    → IsUnderWay executor job.edition job.command job.slices before (stored g.row.N (owner_bytes p.space))
+    → None ≡ answer_of executor.layout job.edition job.command job.slices before =
+    rw (c.edition.ensures, c.command.ensures, c.slices-done.ensures, c.in-Ok-None.field-0-is) at c.in-Ok-None.ensures.reply in
     let after : PartitionState = record p { running = Some c.advance.new.self; undo = c.slice.new.undo; space = space } in
     let more = more-running g.row.N _ executor p c.self.invariant.0 job running answered in
     let writes = c.slice.ensures.writes in
@@ -58,6 +59,7 @@ returns-in-Ok-None g c =
     let p : PartitionState = partition_of c.self.inside in
     let inside = c.self.inside in
     let job : RunningJob = record {
+      edition = c.in-Some.running.edition;
       command = c.in-Some.running.command;
       slices = c.in-Some.running.slices;
       pass = c.in-Some.running.pass;
@@ -67,13 +69,13 @@ returns-in-Ok-None g c =
     let next : ExecutorState = c.slice.new.self in
     let space : SpaceState = c.slice.new.space in
     let under_way : (before : Tables)
-    → IsUnderWay executor job.command job.slices before (stored g.row.N (owner_bytes p.space))
-    → IsUnderWay next job.command (job.slices + 1) before (stored g.row.N (owner_bytes space)) =
-    rw (c.command.ensures, c.slices-done.ensures) at c.in-Ok-None.ensures.under_way.step in
+    → IsUnderWay executor job.edition job.command job.slices before (stored g.row.N (owner_bytes p.space))
+    → IsUnderWay next job.edition job.command (job.slices + 1) before (stored g.row.N (owner_bytes space)) =
+    rw (c.edition.ensures, c.command.ensures, c.slices-done.ensures) at c.in-Ok-None.ensures.under_way.step in
     let answered : (before : Tables)
-    → IsUnderWay executor job.command job.slices before (stored g.row.N (owner_bytes p.space))
-    → None ≡ answer_of executor.layout job.command job.slices before =
-    rw (c.command.ensures, c.slices-done.ensures, c.in-Ok-None.field-0-is) at c.in-Ok-None.ensures.reply in
+    → IsUnderWay executor job.edition job.command job.slices before (stored g.row.N (owner_bytes p.space))
+    → None ≡ answer_of executor.layout job.edition job.command job.slices before =
+    rw (c.edition.ensures, c.command.ensures, c.slices-done.ensures, c.in-Ok-None.field-0-is) at c.in-Ok-None.ensures.reply in
     let after : PartitionState = record p { running = Some c.advance.new.self; undo = c.slice.new.undo; space = space } in
     let more = more-running g.row.N _ executor p c.self.invariant.0 job running answered in
     let steps : (log : Option Log) → StepsTo job log log p after progress.More =
@@ -88,6 +90,7 @@ unreachable-requires g c =
     let p : PartitionState = partition_of c.self.inside in
     let inside = c.self.inside in
     let job : RunningJob = record {
+      edition = c.in-Some.running.edition;
       command = c.in-Some.running.command;
       slices = c.in-Some.running.slices;
       pass = c.in-Some.running.pass;
@@ -97,9 +100,9 @@ unreachable-requires g c =
     let next : ExecutorState = c.slice.new.self in
     let space : SpaceState = c.slice.new.space in
     let answered : (before : Tables)
-    → IsUnderWay executor job.command job.slices before (stored g.row.N (owner_bytes p.space))
-    → Some c.in-Ok-Some._reply ≡ answer_of executor.layout job.command job.slices before =
-    rw (c.command.ensures, c.slices-done.ensures, c.in-Ok-Some.field-0-is) at c.in-Ok-Some.ensures.reply in
+    → IsUnderWay executor job.edition job.command job.slices before (stored g.row.N (owner_bytes p.space))
+    → Some c.in-Ok-Some._reply ≡ answer_of executor.layout job.edition job.command job.slices before =
+    rw (c.edition.ensures, c.command.ensures, c.slices-done.ensures, c.in-Ok-Some.field-0-is) at c.in-Ok-Some.ensures.reply in
     let last = last-running g.row.N _ executor p c.self.invariant.0 job running c.in-Ok-Some._reply answered in
     c.requires (job-said (λ (j : RunningJob). is_last j ≡ true) c.args.self.now p job c.self.view_is running
     (eq-eqb (job.slices + 1) (slice_count job.command) last))
@@ -109,6 +112,7 @@ invariant_of-self-in-Err g c =
     let p : PartitionState = partition_of c.self.inside in
     let inside = c.self.inside in
     let job : RunningJob = record {
+      edition = c.in-Some.running.edition;
       command = c.in-Some.running.command;
       slices = c.in-Some.running.slices;
       pass = c.in-Some.running.pass;
@@ -145,6 +149,7 @@ returns-in-Some-take g c =
     let p : PartitionState = partition_of c.self.inside in
     let inside = c.self.inside in
     let job : RunningJob = record {
+      edition = c.in-Some.running.edition;
       command = c.in-Some.running.command;
       slices = c.in-Some.running.slices;
       pass = c.in-Some.running.pass;

@@ -28,6 +28,7 @@ unreachable-requires-in-Ok-None g c =
     let p : PartitionState = partition_of c.self.inside in
     let inside = c.self.inside in
     let job : RunningJob = record {
+      edition = c.in-Some.running.edition;
       command = c.in-Some.running.command;
       slices = c.in-Some.running.slices;
       pass = c.in-Some.running.pass;
@@ -37,9 +38,9 @@ unreachable-requires-in-Ok-None g c =
     let next : ExecutorState = c.slice.new.self in
     let space : SpaceState = c.slice.new.space in
     let answered : (before : Tables)
-    → IsUnderWay executor job.command job.slices before (stored g.row.N (owner_bytes p.space))
-    → None ≡ answer_of executor.layout job.command job.slices before =
-    rw (c.command.ensures, c.slices-done.ensures, c.in-Ok-None.field-0-is) at c.in-Ok-None.ensures.reply in
+    → IsUnderWay executor job.edition job.command job.slices before (stored g.row.N (owner_bytes p.space))
+    → None ≡ answer_of executor.layout job.edition job.command job.slices before =
+    rw (c.edition.ensures, c.command.ensures, c.slices-done.ensures, c.in-Ok-None.field-0-is) at c.in-Ok-None.ensures.reply in
     let more = more-running g.row.N _ executor p c.self.invariant.0 job running answered in
     let last : is_last job ≡ true =
     job-known (λ (j : RunningJob). is_last j ≡ true) c.args.self.now p job c.self.view_is running c.requires in
@@ -50,6 +51,7 @@ accept-done-requires-clause-alone g c =
     let p : PartitionState = partition_of c.self.inside in
     let inside = c.self.inside in
     let job : RunningJob = record {
+      edition = c.in-Some.running.edition;
       command = c.in-Some.running.command;
       slices = c.in-Some.running.slices;
       pass = c.in-Some.running.pass;
@@ -59,13 +61,13 @@ accept-done-requires-clause-alone g c =
     let next : ExecutorState = c.slice.new.self in
     let space : SpaceState = c.slice.new.space in
     let under_way : (before : Tables)
-    → IsUnderWay executor job.command job.slices before (stored g.row.N (owner_bytes p.space))
-    → IsUnderWay next job.command (job.slices + 1) before (stored g.row.N (owner_bytes space)) =
-    rw (c.command.ensures, c.slices-done.ensures) at c.in-Ok-Some.ensures.under_way.step in
+    → IsUnderWay executor job.edition job.command job.slices before (stored g.row.N (owner_bytes p.space))
+    → IsUnderWay next job.edition job.command (job.slices + 1) before (stored g.row.N (owner_bytes space)) =
+    rw (c.edition.ensures, c.command.ensures, c.slices-done.ensures) at c.in-Ok-Some.ensures.under_way.step in
     let answered : (before : Tables)
-    → IsUnderWay executor job.command job.slices before (stored g.row.N (owner_bytes p.space))
-    → Some c.in-Ok-Some.reply ≡ answer_of executor.layout job.command job.slices before =
-    rw (c.command.ensures, c.slices-done.ensures, c.in-Ok-Some.field-0-is) at c.in-Ok-Some.ensures.reply in
+    → IsUnderWay executor job.edition job.command job.slices before (stored g.row.N (owner_bytes p.space))
+    → Some c.in-Ok-Some.reply ≡ answer_of executor.layout job.edition job.command job.slices before =
+    rw (c.edition.ensures, c.command.ensures, c.slices-done.ensures, c.in-Ok-Some.field-0-is) at c.in-Ok-Some.ensures.reply in
     let last = last-running g.row.N _ executor p c.self.invariant.0 job running c.in-Ok-Some.reply answered in
     let accepted : refusal_now p job.command ≡ None =
     accepted_now g.row.N _ executor p c.self.invariant.0 next space job running c.slice.ensures.layout
@@ -89,6 +91,7 @@ accept-done-requires-clause-small g c =
     let p : PartitionState = partition_of c.self.inside in
     let inside = c.self.inside in
     let job : RunningJob = record {
+      edition = c.in-Some.running.edition;
       command = c.in-Some.running.command;
       slices = c.in-Some.running.slices;
       pass = c.in-Some.running.pass;
@@ -98,13 +101,13 @@ accept-done-requires-clause-small g c =
     let next : ExecutorState = c.slice.new.self in
     let space : SpaceState = c.slice.new.space in
     let under_way : (before : Tables)
-    → IsUnderWay executor job.command job.slices before (stored g.row.N (owner_bytes p.space))
-    → IsUnderWay next job.command (job.slices + 1) before (stored g.row.N (owner_bytes space)) =
-    rw (c.command.ensures, c.slices-done.ensures) at c.in-Ok-Some.ensures.under_way.step in
+    → IsUnderWay executor job.edition job.command job.slices before (stored g.row.N (owner_bytes p.space))
+    → IsUnderWay next job.edition job.command (job.slices + 1) before (stored g.row.N (owner_bytes space)) =
+    rw (c.edition.ensures, c.command.ensures, c.slices-done.ensures) at c.in-Ok-Some.ensures.under_way.step in
     let answered : (before : Tables)
-    → IsUnderWay executor job.command job.slices before (stored g.row.N (owner_bytes p.space))
-    → Some c.in-Ok-Some.reply ≡ answer_of executor.layout job.command job.slices before =
-    rw (c.command.ensures, c.slices-done.ensures, c.in-Ok-Some.field-0-is) at c.in-Ok-Some.ensures.reply in
+    → IsUnderWay executor job.edition job.command job.slices before (stored g.row.N (owner_bytes p.space))
+    → Some c.in-Ok-Some.reply ≡ answer_of executor.layout job.edition job.command job.slices before =
+    rw (c.edition.ensures, c.command.ensures, c.slices-done.ensures, c.in-Ok-Some.field-0-is) at c.in-Ok-Some.ensures.reply in
     let last = last-running g.row.N _ executor p c.self.invariant.0 job running c.in-Ok-Some.reply answered in
     let accepted : refusal_now p job.command ≡ None =
     accepted_now g.row.N _ executor p c.self.invariant.0 next space job running c.slice.ensures.layout
@@ -116,6 +119,7 @@ invariant_of-self g c =
     let p : PartitionState = partition_of c.self.inside in
     let inside = c.self.inside in
     let job : RunningJob = record {
+      edition = c.in-Some.running.edition;
       command = c.in-Some.running.command;
       slices = c.in-Some.running.slices;
       pass = c.in-Some.running.pass;
@@ -125,19 +129,19 @@ invariant_of-self g c =
     let next : ExecutorState = c.slice.new.self in
     let space : SpaceState = c.slice.new.space in
     let under_way : (before : Tables)
-    → IsUnderWay executor job.command job.slices before (stored g.row.N (owner_bytes p.space))
-    → IsUnderWay next job.command (job.slices + 1) before (stored g.row.N (owner_bytes space)) =
-    rw (c.command.ensures, c.slices-done.ensures) at c.in-Ok-Some.ensures.under_way.step in
+    → IsUnderWay executor job.edition job.command job.slices before (stored g.row.N (owner_bytes p.space))
+    → IsUnderWay next job.edition job.command (job.slices + 1) before (stored g.row.N (owner_bytes space)) =
+    rw (c.edition.ensures, c.command.ensures, c.slices-done.ensures) at c.in-Ok-Some.ensures.under_way.step in
     let answered : (before : Tables)
-    → IsUnderWay executor job.command job.slices before (stored g.row.N (owner_bytes p.space))
-    → Some c.in-Ok-Some.reply ≡ answer_of executor.layout job.command job.slices before =
-    rw (c.command.ensures, c.slices-done.ensures, c.in-Ok-Some.field-0-is) at c.in-Ok-Some.ensures.reply in
+    → IsUnderWay executor job.edition job.command job.slices before (stored g.row.N (owner_bytes p.space))
+    → Some c.in-Ok-Some.reply ≡ answer_of executor.layout job.edition job.command job.slices before =
+    rw (c.edition.ensures, c.command.ensures, c.slices-done.ensures, c.in-Ok-Some.field-0-is) at c.in-Ok-Some.ensures.reply in
     let last = last-running g.row.N _ executor p c.self.invariant.0 job running c.in-Ok-Some.reply answered in
     let accepted : refusal_now p job.command ≡ None =
     accepted_now g.row.N _ executor p c.self.invariant.0 next space job running c.slice.ensures.layout
     c.in-Ok-Some.ensures.under_way.store under_way c.slice.ensures.writes.children last in
     let list : KeptState Commit = c.accept-done.new.kept in
-    let longer : projection_of list.warehouse list.seen ≡ p.kept ++ kept_of job.command =
+    let longer : projection_of list.warehouse list.seen ≡ p.kept ++ kept_of job.edition job.command =
     ap (λ warehouse. projection_of warehouse list.seen) c.accept-done.ensures.warehouse ∙ c.accept-done.ensures.kept in
     let after : PartitionState = record p {
       seen = list.seen;
@@ -167,6 +171,7 @@ invariant_of-self-in-Err g c =
     let p : PartitionState = partition_of c.self.inside in
     let inside = c.self.inside in
     let job : RunningJob = record {
+      edition = c.in-Some.running.edition;
       command = c.in-Some.running.command;
       slices = c.in-Some.running.slices;
       pass = c.in-Some.running.pass;
@@ -203,6 +208,7 @@ returns-in-Ok-Some g c =
     let p : PartitionState = partition_of c.self.inside in
     let inside = c.self.inside in
     let job : RunningJob = record {
+      edition = c.in-Some.running.edition;
       command = c.in-Some.running.command;
       slices = c.in-Some.running.slices;
       pass = c.in-Some.running.pass;
@@ -212,19 +218,19 @@ returns-in-Ok-Some g c =
     let next : ExecutorState = c.slice.new.self in
     let space : SpaceState = c.slice.new.space in
     let under_way : (before : Tables)
-    → IsUnderWay executor job.command job.slices before (stored g.row.N (owner_bytes p.space))
-    → IsUnderWay next job.command (job.slices + 1) before (stored g.row.N (owner_bytes space)) =
-    rw (c.command.ensures, c.slices-done.ensures) at c.in-Ok-Some.ensures.under_way.step in
+    → IsUnderWay executor job.edition job.command job.slices before (stored g.row.N (owner_bytes p.space))
+    → IsUnderWay next job.edition job.command (job.slices + 1) before (stored g.row.N (owner_bytes space)) =
+    rw (c.edition.ensures, c.command.ensures, c.slices-done.ensures) at c.in-Ok-Some.ensures.under_way.step in
     let answered : (before : Tables)
-    → IsUnderWay executor job.command job.slices before (stored g.row.N (owner_bytes p.space))
-    → Some c.in-Ok-Some.reply ≡ answer_of executor.layout job.command job.slices before =
-    rw (c.command.ensures, c.slices-done.ensures, c.in-Ok-Some.field-0-is) at c.in-Ok-Some.ensures.reply in
+    → IsUnderWay executor job.edition job.command job.slices before (stored g.row.N (owner_bytes p.space))
+    → Some c.in-Ok-Some.reply ≡ answer_of executor.layout job.edition job.command job.slices before =
+    rw (c.edition.ensures, c.command.ensures, c.slices-done.ensures, c.in-Ok-Some.field-0-is) at c.in-Ok-Some.ensures.reply in
     let last = last-running g.row.N _ executor p c.self.invariant.0 job running c.in-Ok-Some.reply answered in
     let accepted : refusal_now p job.command ≡ None =
     accepted_now g.row.N _ executor p c.self.invariant.0 next space job running c.slice.ensures.layout
     c.in-Ok-Some.ensures.under_way.store under_way c.slice.ensures.writes.children last in
     let list : KeptState Commit = c.accept-done.new.kept in
-    let longer : projection_of list.warehouse list.seen ≡ p.kept ++ kept_of job.command =
+    let longer : projection_of list.warehouse list.seen ≡ p.kept ++ kept_of job.edition job.command =
     ap (λ warehouse. projection_of warehouse list.seen) c.accept-done.ensures.warehouse ∙ c.accept-done.ensures.kept in
     let after : PartitionState = record p {
       seen = list.seen;
@@ -237,9 +243,9 @@ returns-in-Ok-Some g c =
     } in
     let serial = c.args.journal.now.list.log in
     let answer : c.accept-done.result
-    ≡ accepted_answer job p.warehouse c.in-Ok-Some.reply (serial ++ entered_by job.command job.pass) =
+    ≡ accepted_answer job p.warehouse c.in-Ok-Some.reply (serial ++ entered_by job.edition job.command job.pass) =
     c.accept-done.ensures.done
-    ∙ ap (λ warehouse. accepted_answer job warehouse c.in-Ok-Some.reply (serial ++ entered_by job.command job.pass))
+    ∙ ap (λ warehouse. accepted_answer job warehouse c.in-Ok-Some.reply (serial ++ entered_by job.edition job.command job.pass))
     c.self.invariant.1.book.warehouse_is in
     let steps : StepsTo job (Some serial) (Some c.accept-done.new.journal.list.log) p
     (record after { running = None; finished = Some c.accept-done.result }) progress.Finished =
@@ -263,6 +269,7 @@ returns-in-Err g c =
     let p : PartitionState = partition_of c.self.inside in
     let inside = c.self.inside in
     let job : RunningJob = record {
+      edition = c.in-Some.running.edition;
       command = c.in-Some.running.command;
       slices = c.in-Some.running.slices;
       pass = c.in-Some.running.pass;

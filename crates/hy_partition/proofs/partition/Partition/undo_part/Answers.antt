@@ -1,8 +1,7 @@
 use Rattle.std.proofs.Common.{◌≡◌, Option, None, ap, refl, sym, ◌∙◌, subst}
-use Rattle.hy_commands.specs.declared.command.Command.{Command}
 use Rattle.hy_undo.specs.PrivatePages.{GivesUpPages}
 use Rattle.hy_partition.specs.Jobs.{RunningJob}
-use Rattle.hy_partition.specs.Partition.{PartitionState}
+use Rattle.hy_partition.specs.Partition.{PartState, PartitionState}
 use Rattle.hy_partition.specs.Parts.{HasNoPart}
 use Rattle.hy_partition.specs.inside.Soundness.{IsSound, IsTied}
 use Rattle.hy_partition.specs.inside.Views.{partition_of}
@@ -17,7 +16,7 @@ invariant_of-self g c =
     let idle : p.running ≡ None = ap (λ (q : PartitionState). q.running) c.self.view_is ∙ c.requires.idle in
     let back = c.roll_back.ensures in
     let after : PartitionState = record p { undo = c.roll_back.new.self; space = c.roll_back.new.space } in
-    subst (λ (part : Option Command). IsSound g.row.N inside.kept.room inside.executor (record after { part = part })
+    subst (λ (part : Option PartState). IsSound g.row.N inside.kept.room inside.executor (record after { part = part })
     × IsTied g.K.Loaded.load inside.kept inside.desk (record after { part = part })) (sym c.clear.ensures)
     (subst (λ (running : Option RunningJob).
     IsSound g.row.N inside.kept.room inside.executor (record after { running = running; part = None })

@@ -9,6 +9,6 @@ invariant-loop-place l =
     record {
       count : count_of l.self ≡ count_of l.initial.self;
       passed : (k : ℕ) → k < l.place
-          → IsPassedAt l.number l.command k (left_of l.initial.self k) (left_of l.self k);
+          → IsPassedAt l.edition l.number l.command k (left_of l.initial.self k) (left_of l.self k);
       others : (k : ℕ) → l.place ≤ k → left_of l.self k ≡ left_of l.initial.self k;
     }

@@ -1,4 +1,4 @@
-use Rattle.hy_hyper.proofs.forked.run.Given as goal
+use Rattle.hy_hyper.proofs.forked.run_on.Given as goal
 
 -- the kit that was just made
 abbrev pub ghosts-run_in_world-K-World : goal.ghosts-run_in_world-K-World
