@@ -84,11 +84,7 @@ impl<K: Loaded> Shop<K> {
         if place >= self.parts.len() {
             return Err(Refusal::NoSuchWarehouse);
         }
-        finish(
-            &mut self.parts[place],
-            &mut self.journal,
-            Job::new(command, pass),
-        )
+        finish(&mut self.parts[place], &mut self.journal, command, pass)
     }
 
     /// A session over all warehouses as they are now.
@@ -116,16 +112,17 @@ impl<K: Loaded> Shop<K> {
     }
 }
 
-/// Runs a job to its end. Its client comes back.
+/// Runs a command to its end. Its client comes back.
 fn finish<K: Loaded>(
     partition: &mut Partition<SIZE, K>,
     journal: &mut Journal<Commit, K>,
-    job: Job<K>,
+    command: Command,
+    pass: Pass<Commit, K>,
 ) -> Result<Pass<Commit, K>, Refusal>
     ensures terms { terms_of partition.new ≡ terms_of partition.old }
     ensures part { partition.new.part ≡ partition.old.part }
 {
-    if let Err((_job, refusal)) = partition.begin(job) {
+    if let Err((_job, refusal)) = partition.begin(Job::new(command, pass)) {
         return Err(refusal);
     }
     partition.finish_running(journal);

@@ -4,10 +4,12 @@ use Rattle.std.specs.Prelude.{IfSome, MatchOption, slice_get}
 use Rattle.std.proofs.lemmas.Bool.{true≢false}
 use Rattle.hy_rows.specs.Tables.{Lists}
 use Rattle.hy_commands.specs.declared.command.Command.{Command}
+use Rattle.hy_commands.specs.declared.edition.Edition.{Edition}
+use Rattle.hy_commands.specs.declared.edition.Edition.TheVariants as editions
 use Rattle.hy_partition.specs.Jobs.{Log, RunningJob}
-use Rattle.hy_partition.specs.Partition.{PartitionState, projection_of, terms_of}
+use Rattle.hy_partition.specs.Partition.{PartitionState, may_run, projection_of, terms_of}
 use Rattle.hy_partition.specs.Steps.{Accepts, Refuses}
-use Rattle.hy_crossing.specs.Crossings.{AreInformed, ArePartitions, EndsIfNamed, EndsJobs, HaveNoPart, IsInformed, IsPartition, TellsIfNamed, TellsNamed, is_named}
+use Rattle.hy_crossing.specs.Crossings.{AllMayRun, AreInformed, ArePartitions, EndsIfNamed, EndsJobs, HaveNoPart, IsInformed, IsPartition, TellsIfNamed, TellsNamed, is_named}
 use Rattle.hy_crossing.specs.Lists.{InTurn, Pairwise}
 use Rattle.hy_crossing.proofs.PairLaws.{pairs-hold}
 
@@ -88,6 +90,16 @@ some-then (Some row) one other a leads = leads row a
 pub still-partition : (lists : Lists) (number : ℕ) (old new : PartitionState) → terms_of new ≡ terms_of old
     → IsPartition lists number old → IsPartition lists number new
 still-partition lists number old new same is = (ap (λ t. t.load) same ∙ is.0, ap (λ t. t.warehouse) same ∙ is.1)
+
+-- each partition is one where commands may run, where all are
+pub may-at : (edition : Edition) (parts : List PartitionState) (place : ℕ) → AllMayRun edition parts
+    → IfSome (slice_get parts place) (λ p. may_run p.replays edition ≡ true)
+may-at editions.First parts place may = may place
+may-at editions.Second parts place may = at (slice_get parts place)
+  where
+    at : (found : Option PartitionState) → IfSome found (λ p. may_run p.replays editions.Second ≡ true)
+    at None = tt
+    at (Some p) = refl
 
 module _ (lists : Lists) (command : Command) where
   record IsWhole (number : ℕ) (p : PartitionState) : Type 0 where
@@ -175,6 +187,33 @@ module _ (lists : Lists) (command : Command) where
             (to-next HasEnded middles (turn-hold (EndsIfNamed command) IsWhole HasEnded ends-here 1 before after olds
             middles ends (from-one IsWhole olds wholes)));
       }
+
+  -- where a log is replayed, it is so still
+  abbrev Replays : ℕ → PartitionState → Type 0
+  Replays number p = p.replays ≡ true
+
+  replays-ended : (number : ℕ) (before after : Log) (old new : PartitionState)
+      → EndsIfNamed command number before after old new → Replays number old → Replays number new
+  replays-ended number before after old new ends was = elim ends [
+    | inl named ↦ ap (λ t. t.replays) (ended-job before after old new old.running refl named.1).2 ∙ was
+    | inr other ↦ ap (λ (p : PartitionState). p.replays) other.1.0 ∙ was
+  ]
+
+  replays-told : (log : Log) (number : ℕ) (old new : PartitionState) → TellsIfNamed command log number old new
+      → Replays number old → Replays number new
+  replays-told log number old new tells was = elim tells [
+    | inl named ↦ ap (λ (p : PartitionState). p.replays) named.1.0 ∙ was
+    | inr other ↦ ap (λ (p : PartitionState). p.replays) other.1 ∙ was
+  ]
+
+  pub may-still : (before after : Log) (olds middles news : List PartitionState)
+      → EndsJobs command before after olds middles → TellsNamed command after middles news → (edition : Edition)
+      → AllMayRun edition olds → AllMayRun edition news
+  may-still before after olds middles news ends tells editions.First may =
+      each-then (TellsIfNamed command after) Replays Replays (replays-told after) middles news tells
+      (to-next Replays middles (turn-hold (EndsIfNamed command) Replays Replays replays-ended 1 before after olds
+      middles ends (from-one Replays olds may)))
+  may-still before after olds middles news ends tells editions.Second may = tt
 
 module _ (lists : Lists) (command : Command) (log : Log) (parts : List PartitionState)
     (informed : AreInformed lists command log parts) where

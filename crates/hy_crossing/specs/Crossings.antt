@@ -1,7 +1,7 @@
 -- What a command over several warehouses does to the partitions of a load, step by step: what runs is ended, the command
 -- is looked at, and its parts are done in all warehouses that it names or in none, and kept. At the end the steps make
 -- one whole.
-use Rattle.std.specs.Prelude.{◌≡◌, ◌⊎◌, ◌<◌, ◌≤◌, ℕ, suc, ◌+◌, ◌-◌, ◌==◌, ◌&&◌, ◌||◌, Bool, true, false, if◌then◌else◌, List, [], ◌∷◌, ◌++◌, length, map, slice_get, Option, None, Some, IfSome, MatchOption}
+use Rattle.std.specs.Prelude.{◌≡◌, ⊤, ◌⊎◌, ◌<◌, ◌≤◌, ℕ, suc, ◌+◌, ◌-◌, ◌==◌, ◌&&◌, ◌||◌, Bool, true, false, if◌then◌else◌, List, [], ◌∷◌, ◌++◌, length, map, slice_get, Option, None, Some, IfSome, MatchOption}
 use Rattle.std.specs.List.{list_any}
 use mathlib.Core.List.{IsPrefix}
 use Rattle.hy_ledger.specs.declared.view.ShareState.{ShareState}
@@ -15,6 +15,7 @@ use Rattle.hy_passes.specs.declared.entry.Entry.{Entry}
 use Rattle.hy_passes.specs.SerialList.{numbers_of}
 use Rattle.hy_commands.specs.declared.command.Commit.{Commit}
 use Rattle.hy_commands.specs.declared.edition.Edition.{Edition}
+use Rattle.hy_commands.specs.declared.edition.Edition.TheVariants as editions
 use Rattle.hy_commands.specs.Commands.{home_of, number_of, warehouses_of, warehouses_of_commit}
 use Rattle.hy_commands.specs.Parts.{Database, customer_home_of, database_of, refusal_in}
 use Rattle.hy_database.specs.Database.{act_on_all, database_after, kept_in}
@@ -36,6 +37,11 @@ IsPartition lists number p = (p.load ≡ lists) × (p.warehouse ≡ number)
 pub record ArePartitions (lists : Lists) (parts : List PartitionState) : Type 0 where
   pub count : length parts ≡ length lists.tables.warehouses
   pub each : (place : ℕ) → IfSome (slice_get parts place) (IsPartition lists (suc place))
+
+-- by an edition commands may run in all partitions: by the first one only where all replay a log
+abbrev pub AllMayRun : Edition → List PartitionState → Type 0
+AllMayRun editions.First parts = (place : ℕ) → IfSome (slice_get parts place) (λ p. p.replays ≡ true)
+AllMayRun editions.Second parts = ⊤
 
 -- whether a command names the warehouse with a number
 abbrev pub is_named : Command → ℕ → Bool

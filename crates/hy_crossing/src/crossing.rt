@@ -1,8 +1,9 @@
 //! A whole command over several warehouses.
 
 ghost use Rattle.std.specs.Prelude.{◌≡◌, ◌⊎◌, None, length, nat_lt, true};
+ghost use Rattle.hy_commands.specs.declared.edition.Edition.{Edition};
 ghost use Rattle.hy_commands.specs.Commands.{warehouses_of};
-ghost use Rattle.hy_crossing.specs.Crossings.{AcceptsAll, AreInformed, ArePartitions, Crosses, HaveNoPart, Informs, IsPayerIn, RefusesAll, loaded_refusal};
+ghost use Rattle.hy_crossing.specs.Crossings.{AcceptsAll, AllMayRun, AreInformed, ArePartitions, Crosses, HaveNoPart, Informs, IsPayerIn, RefusesAll, loaded_refusal};
 
 use crate::before::{end_jobs, prepare, tell_named};
 use crate::doing::do_parts;
@@ -23,6 +24,7 @@ fn inform<const N: usize, K: Loaded, P: Parts<Part = Partition<N, K>>>(
     ensures informs { Informs command.now journal.old.list.log journal.new.list.log (P.states parts.old)
         (P.states parts.new) }
     ensures informed { AreInformed K.load command.now journal.new.list.log (P.states parts.new) }
+    ensures editions { (edition : Edition) → AllMayRun edition (P.states parts.old) → AllMayRun edition (P.states parts.new) }
 {
     end_jobs(parts, journal, command);
     tell_named(parts, journal, command);
@@ -38,6 +40,7 @@ fn do_all<const N: usize, K: Loaded, P: Parts<Part = Partition<N, K>>>(
     requires informed { AreInformed K.load job.command journal.old.list.log (P.states parts.old) }
     requires accepted { loaded_refusal K.load job.command (P.states parts.old) ≡ None }
     requires payer { IsPayerIn (P.states parts.old) job.command number }
+    requires edition { AllMayRun job.edition (P.states parts.old) }
     requires several { nat_lt 1 (length (warehouses_of job.command)) ≡ true }
     ensures does { AcceptsAll K.load job journal.old.list.log journal.new.list.log (P.states parts.old)
         (P.states parts.new) result
@@ -58,7 +61,7 @@ fn do_all<const N: usize, K: Loaded, P: Parts<Part = Partition<N, K>>>(
 
 /// Runs a command over several warehouses. What runs in those that it names is ended first; what runs elsewhere stays as
 /// it is. Then the whole of it is done, or none of it, and the refusal is the reply: the first of E8, E4, E5, E6, E3, E7,
-/// E2, E1.
+/// E2, E1. A job of the first edition is run only where all partitions replay a log.
 pub fn cross<const N: usize, K: Loaded, P: Parts<Part = Partition<N, K>>>(
     parts: &mut P,
     journal: &mut Journal<Commit, K>,
@@ -67,6 +70,7 @@ pub fn cross<const N: usize, K: Loaded, P: Parts<Part = Partition<N, K>>>(
     requires parts { ArePartitions K.load (P.states parts.old) }
     requires whole { HaveNoPart (P.states parts.old) }
     requires several { nat_lt 1 (length (warehouses_of job.command)) ≡ true }
+    requires edition { AllMayRun job.edition (P.states parts.old) }
     ensures crosses { Crosses K.load job journal.old.list.log journal.new.list.log (P.states parts.old)
         (P.states parts.new) result }
     ensures parts { ArePartitions K.load (P.states parts.new) }

@@ -22,7 +22,6 @@ use Rattle.hy_partition.specs.Schedules.{Does, Event, Underway, World, entered, 
 use Rattle.hy_commands.specs.Parts.{refusal_in}
 use Rattle.hy_commands.specs.declared.command.Commit.TheVariants as commits
 use Rattle.hy_database.specs.Database.{kept_in}
-use Rattle.hy_batches.proofs.CommitForms.{edition_is}
 use Rattle.hy_crossing.specs.Crossings.{database_behind, next_number}
 use Rattle.hy_crossing.proofs.AcceptLaws.{same-refusal}
 use Rattle.hy_schedules.specs.Schedules.{ChangesPlace, DoesAll, DoesAt, DoesCross, Ends, EndsIn, EventOfAll, Place, Whole, each_changed, entry_behind, is_local, named_in, place_at, refusal_behind, with_commit, with_drained, with_entry, with_place, with_snapshot, without_snapshot, world_at}
@@ -31,7 +30,6 @@ use Rattle.hy_schedules.proofs.OrderLaws.{there-between}
 use Rattle.hy_schedules.proofs.PlaceLaws.{each-changed, each-replaced, holds-place, length-each, length-with_place}
 use Rattle.hy_rows.proofs.BetweenLaws.{IsBetween-bounds}
 use Rattle.hy_recovery.proofs.PlaceLaws.{get-set_here, get-set_other, get-within}
-use Rattle.hy_durability.specs.Durability.{is_new}
 use Rattle.hy_durability.proofs.FitLaws.{AreFit, IsFit, crossing-fit, entered-fit, known-local}
 
 -- whether an event is a drain
@@ -139,12 +137,12 @@ module _ (lists : Lists) (old new : World) where
       new_run = runs-none (ap (λ (w : World). w.running) is);
     }
 
-    adds-does : (number : ℕ) (event : Event) → is_local event ≡ true → is_new (all.at number event) ≡ true
+    adds-does : (number : ℕ) (event : Event) → is_local event ≡ true
         → Does event old new → Adds lists old new
-    adds-does number (one.begins client edition command) here second does =
+    adds-does number (one.begins client command) here does =
         adds-none (ap (λ (w : World). w.log) does.3) (ap (λ (w : World). w.load) does.3)
-        (subst RunsNew (sym (ap (λ (w : World). w.running) does.3)) (edition_is edition editions.Second second))
-    adds-does number one.steps here second does = by old.running refl does
+        (subst RunsNew (sym (ap (λ (w : World). w.running) does.3)) refl)
+    adds-does number one.steps here does = by old.running refl does
       where
         by : (running : Option Underway) → old.running ≡ running
             → MatchOption running ⊥ (one.DoesStep old new) → Adds lists old new
@@ -158,17 +156,17 @@ module _ (lists : Lists) (old new : World) where
                 (runs-none (ap (λ (w : World). w.running) refused))
           ]
         ]
-    adds-does number one.takes here second does =
+    adds-does number one.takes here does =
         adds-none (ap (λ (w : World). w.log) does.1) (ap (λ (w : World). w.load) does.1)
         (runs-still (ap (λ (w : World). w.running) does.1))
-    adds-does number (one.forks client child) here second does =
+    adds-does number (one.forks client child) here does =
         adds-none (ap (λ (w : World). w.log) does.1) (ap (λ (w : World). w.load) does.1)
         (runs-still (ap (λ (w : World). w.running) does.1))
-    adds-does number (one.closes child) here second does =
+    adds-does number (one.closes child) here does =
         adds-none (ap (λ (w : World). w.log) does.1) (ap (λ (w : World). w.load) does.1)
         (runs-still (ap (λ (w : World). w.running) does.1))
-    adds-does number (one.looks client) here second does = absurd (false≢true here)
-    adds-does number (one.enters entry) here second does = absurd (false≢true here)
+    adds-does number (one.looks client) here does = absurd (false≢true here)
+    adds-does number (one.enters entry) here does = absurd (false≢true here)
 
     adds-ends : Ends old new → Adds lists old new
     adds-ends ends = by old.running refl ends
@@ -280,10 +278,10 @@ module _ (lists : Lists) where
       ]
 
   -- a command of several warehouses
-  grows-crosses : (client : ℕ) (edition : Edition) (command : Command) (old new : Whole) → edition ≡ editions.Second
+  grows-crosses : (client : ℕ) (command : Command) (old new : Whole)
       → old.load ≡ lists → length old.places ≡ length lists.tables.warehouses → AllRunNew old.places
-      → DoesCross client edition command old new → Grows lists old new
-  grows-crosses client edition command old new second load count runs does = elim does.does [
+      → DoesCross client command old new → Grows lists old new
+  grows-crosses client command old new load count runs does = elim does.does [
     | inl same ↦ subst (λ (w : Whole). Grows lists old w) (sym same) ended
     | inr accepted ↦ subst (λ (w : Whole). Grows lists old w) (sym accepted.1)
         (grows-then lists old does.ended (with_entry does.ended client entry) ended (entering accepted.0))
@@ -293,19 +291,19 @@ module _ (lists : Lists) where
       ended = grows-ends (named_in old command) old does.ended load count runs does.ends
 
       entry : Entry Commit
-      entry = entry_behind does.ended edition command (old.known client)
+      entry = entry_behind does.ended command (old.known client)
 
       fit-on : (lists' : Lists) → lists' ≡ lists
           → refusal_in (database_behind lists' does.ended.log) command ≡ None
           → IsFit lists
-          (commits.Cross edition (next_number does.ended.log) (kept_in (database_behind lists' does.ended.log) command))
+          (commits.Cross editions.Second (next_number does.ended.log) (kept_in (database_behind lists' does.ended.log) command))
       fit-on lists' same none =
           subst (λ (l : Lists). refusal_in (database_behind l does.ended.log) command ≡ None
           → IsFit lists
-          (commits.Cross edition (next_number does.ended.log) (kept_in (database_behind l does.ended.log) command)))
+          (commits.Cross editions.Second (next_number does.ended.log) (kept_in (database_behind l does.ended.log) command)))
           (sym same)
-          (crossing-fit lists (database_behind lists does.ended.log) edition (next_number does.ended.log) command
-          (same-refusal lists does.ended.log) second does.several)
+          (crossing-fit lists (database_behind lists does.ended.log) editions.Second (next_number does.ended.log) command
+          (same-refusal lists does.ended.log) refl does.several)
           none
 
       entering : refusal_behind does.ended command ≡ None → Grows lists does.ended (with_entry does.ended client entry)
@@ -320,31 +318,31 @@ module _ (lists : Lists) where
         new_run = new-each (with_commit entry.commit) (running-commit entry.commit) does.ended.places ended.new_run;
       }
 
-  -- an event that is no drain, and begins what is of the second edition, if anything
-  pub grows : (event : EventOfAll) (old new : Whole) → is_drain event ≡ false → is_new event ≡ true → old.load ≡ lists
+  -- an event that is no drain
+  pub grows : (event : EventOfAll) (old new : Whole) → is_drain event ≡ false → old.load ≡ lists
       → length old.places ≡ length lists.tables.warehouses → AllRunNew old.places → DoesAll event old new
       → Grows lists old new
-  grows (all.at number event) old new other second load count runs does =
-      grows-place (Does event) (λ a b l t r. adds-does lists a b l t r number event does.0 second) number old new load
+  grows (all.at number event) old new other load count runs does =
+      grows-place (Does event) (λ a b l t r. adds-does lists a b l t r number event does.0) number old new load
       count runs does.1
-  grows (all.crosses client edition command) old new other second load count runs does =
-      grows-crosses client edition command old new (edition_is edition editions.Second second) load count runs does
-  grows (all.forks_all client children) old new other second load count runs does =
+  grows (all.crosses client command) old new other load count runs does =
+      grows-crosses client command old new load count runs does
+  grows (all.forks_all client children) old new other load count runs does =
       grows-same lists old new (ap (λ (w : Whole). w.log) does.1) (ap (λ (w : Whole). w.load) does.1)
       (ap (λ (w : Whole). length w.places) does.1 ∙ length-each (with_snapshot old children) 1 old.places)
       (λ number. ap (λ (w : Whole). drained_at w.places number) does.1
       ∙ drained-each (with_snapshot old children) (λ n place. refl) old.places number)
       (subst (λ (w : Whole). AllRunNew w.places) (sym does.1)
       (new-each (with_snapshot old children) (λ n place. refl) old.places runs))
-  grows (all.closes_all children) old new other second load count runs does =
+  grows (all.closes_all children) old new other load count runs does =
       grows-same lists old new (ap (λ (w : Whole). w.log) does.1) (ap (λ (w : Whole). w.load) does.1)
       (ap (λ (w : Whole). length w.places) does.1 ∙ length-each (without_snapshot children) 1 old.places)
       (λ number. ap (λ (w : Whole). drained_at w.places number) does.1
       ∙ drained-each (without_snapshot children) (λ n place. refl) old.places number)
       (subst (λ (w : Whole). AllRunNew w.places) (sym does.1)
       (new-each (without_snapshot children) (λ n place. refl) old.places runs))
-  grows all.drains old new other second load count runs does = absurd (true≢false other)
-  grows (all.looks client) old new other second load count runs does =
+  grows all.drains old new other load count runs does = absurd (true≢false other)
+  grows (all.looks client) old new other load count runs does =
       grows-same lists old new (ap (λ (w : Whole). w.log) does) (ap (λ (w : Whole). w.load) does)
       (ap (λ (w : Whole). length w.places) does) (λ number. ap (λ (w : Whole). drained_at w.places number) does)
       (subst (λ (w : Whole). AllRunNew w.places) (sym does) runs)

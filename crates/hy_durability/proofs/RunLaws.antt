@@ -27,7 +27,7 @@ use Rattle.hy_schedules.proofs.PlaceLaws.{length-each}
 use Rattle.hy_recovery.specs.Recovering.{joined}
 use Rattle.hy_recovery.specs.inside.Ways.{crossings_in}
 use Rattle.hy_recovery.proofs.PlaceLaws.{at-place, each-from, get-some, get-within}
-use Rattle.hy_durability.specs.Durability.{AreDurable, RunsGiving, batch_of, given, is_new}
+use Rattle.hy_durability.specs.Durability.{AreDurable, RunsGiving, batch_of, given}
 use Rattle.hy_durability.proofs.BatchLaws.{batch-told, lists-are, projection-behind, sound-batch}
 use Rattle.hy_durability.proofs.FitLaws.{AreFit, IsFit}
 use Rattle.hy_durability.proofs.GrowLaws.{AllRunNew, drained-all, drained_at, grows, is_drain, new-each}
@@ -85,7 +85,7 @@ pub runs-of : (events : List EventOfAll) (old new : Whole) (batches : Batches) �
     → RunsAll events old new
 runs-of [] old new batches run = run.0
 runs-of (event ∷ events) old new batches run =
-    (run.0, elim run.3 [ inl same ↦ inl same.0 | inr does ↦ inr does.1 ], runs-of events run.0 new run.2 run.4)
+    (run.0, elim run.3 [ inl same ↦ inl same.0 | inr does ↦ inr does.0 ], runs-of events run.0 new run.2 run.4)
 
 module _ (lists : Lists) where
   joined-more : (batches : Batches) (batch : Batch) (place : ℕ)
@@ -109,9 +109,9 @@ module _ (lists : Lists) where
 
     -- an event that is no drain
     drained-other : (event : EventOfAll) (old new : Whole) (batches : Batches) → is_drain event ≡ false
-        → is_new event ≡ true → IsDrained lists old batches → DoesAll event old new → IsDrained lists new batches
-    drained-other event old new batches other second is does =
-        let more = grows lists event old new other second is.load is.count is.new_run does in
+        → IsDrained lists old batches → DoesAll event old new → IsDrained lists new batches
+    drained-other event old new batches other is does =
+        let more = grows lists event old new other is.load is.count is.new_run does in
         record {
           front = is.front;
           rest = is.rest ++ more.more;
@@ -184,19 +184,19 @@ module _ (lists : Lists) where
 
     -- any event
     drained-event : (event : EventOfAll) (old new : Whole) (batches : Batches) → KeepsEverything lists old
-        → IsDrained lists old batches → is_new event ≡ true → DoesAll event old new
+        → IsDrained lists old batches → DoesAll event old new
         → IsDrained lists new (batches ++ given event old)
-    drained-event all.drains old new batches everything is second does = drained-drain old new batches everything is does
-    drained-event (all.at number event) old new batches everything is second does =
-        still new batches (drained-other (all.at number event) old new batches refl second is does)
-    drained-event (all.crosses client edition command) old new batches everything is second does =
-        still new batches (drained-other (all.crosses client edition command) old new batches refl second is does)
-    drained-event (all.forks_all client children) old new batches everything is second does =
-        still new batches (drained-other (all.forks_all client children) old new batches refl second is does)
-    drained-event (all.closes_all children) old new batches everything is second does =
-        still new batches (drained-other (all.closes_all children) old new batches refl second is does)
-    drained-event (all.looks client) old new batches everything is second does =
-        still new batches (drained-other (all.looks client) old new batches refl second is does)
+    drained-event all.drains old new batches everything is does = drained-drain old new batches everything is does
+    drained-event (all.at number event) old new batches everything is does =
+        still new batches (drained-other (all.at number event) old new batches refl is does)
+    drained-event (all.crosses client command) old new batches everything is does =
+        still new batches (drained-other (all.crosses client command) old new batches refl is does)
+    drained-event (all.forks_all client children) old new batches everything is does =
+        still new batches (drained-other (all.forks_all client children) old new batches refl is does)
+    drained-event (all.closes_all children) old new batches everything is does =
+        still new batches (drained-other (all.closes_all children) old new batches refl is does)
+    drained-event (all.looks client) old new batches everything is does =
+        still new batches (drained-other (all.looks client) old new batches refl is does)
 
     drained-run : (events done : List EventOfAll) (old new : Whole) (before batches : Batches)
         → RunsAll done (fresh_whole lists) old → IsDrained lists old before → RunsGiving events old new batches
@@ -209,11 +209,11 @@ module _ (lists : Lists) where
         let here : IsDrained lists mid (before ++ run.1) = elim run.3 [
           | inl same ↦ subst (λ rows. IsDrained lists mid (before ++ rows)) (sym same.1)
               (still mid before (subst (λ (w : Whole). IsDrained lists w before) (sym same.0) is))
-          | inr does ↦ subst (λ rows. IsDrained lists mid (before ++ rows)) (sym does.2)
-              (drained-event event old mid before (keeps lists done old is_load ran) is does.0 does.1)
+          | inr does ↦ subst (λ rows. IsDrained lists mid (before ++ rows)) (sym does.1)
+              (drained-event event old mid before (keeps lists done old is_load ran) is does.0)
         ] in
         let on : RunsAll (done ++ event ∷ []) (fresh_whole lists) mid =
-        runs-more done event (fresh_whole lists) old mid ran (elim run.3 [ inl same ↦ inl same.0 | inr does ↦ inr does.1 ]) in
+        runs-more done event (fresh_whole lists) old mid ran (elim run.3 [ inl same ↦ inl same.0 | inr does ↦ inr does.0 ]) in
         let all : IsDrained lists new ((before ++ run.1) ++ run.2) =
         drained-run events (done ++ event ∷ []) mid new (before ++ run.1) run.2 on here run.4 in
         subst (IsDrained lists new) (append_assoc before run.1 run.2 ∙ ap (λ rows. before ++ rows) (sym run.5)) all

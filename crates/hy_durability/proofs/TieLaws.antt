@@ -1,5 +1,6 @@
 -- What a drain answers is the batch of the model.
 use Rattle.std.proofs.Common.{◌≡◌, ℕ, suc, List, [], ◌∷◌, drop, map, refl, sym, ap, ◌∙◌}
+use Rattle.std.specs.Prelude.{if◌then◌else◌}
 use Rattle.hy_commands.specs.declared.command.Commit.{Commit}
 use Rattle.hy_commands.specs.declared.edition.Edition.TheVariants as editions
 use Rattle.hy_batches.specs.Batches.{Batch}
@@ -17,7 +18,8 @@ undrained-placed : (n : ℕ) (log : Log) (whole : Whole) (number : ℕ) (parts :
 undrained-placed n log whole number [] [] are = refl
 undrained-placed n log whole number (p ∷ parts) (place ∷ places) are =
     ap (λ rows. rows ∷ map undrained parts)
-    (sym (ap (λ k. drop k place.kept) are.0.drained ∙ ap (drop p.drained) are.0.world.kept))
+    (ap (λ b. if b then [] else drop p.drained p.kept) are.0.world.live
+    ∙ sym (ap (λ k. drop k place.kept) are.0.drained ∙ ap (drop p.drained) are.0.world.kept))
     ∙ ap (λ rows. drop place.drained place.kept ∷ rows) (undrained-placed n log whole (suc number) parts places are.1)
 undrained-placed n log whole number [] (place ∷ places) are = absurd are
 undrained-placed n log whole number (p ∷ parts) [] are = absurd are

@@ -1,17 +1,16 @@
 -- What the drains of a database give, one behind another, in whatever order its calls are made.
-use Rattle.std.specs.Prelude.{◌≡◌, ◌⊎◌, ℕ, suc, Bool, true, ◌<◌, ◌≤◌, ◌^◌, List, [], ◌∷◌, ◌++◌, drop, length, map, take, IfSome, Result, Ok, Err}
+use Rattle.std.specs.Prelude.{◌≡◌, ◌⊎◌, ℕ, suc, true, ◌<◌, ◌≤◌, ◌^◌, List, [], ◌∷◌, ◌++◌, drop, length, map, take, IfSome, Result, Ok, Err}
 use mathlib.Core.List.{IsPrefix}
 use Rattle.hy_schema.specs.declared.refusal.Refusal.{Refusal}
 use Rattle.hy_schema.specs.declared.refusal.Refusal.TheVariants as refusals
 use Rattle.hy_rows.specs.Tables.{Lists}
 use Rattle.hy_commands.specs.declared.edition.Edition.TheVariants as editions
-use Rattle.hy_batches.specs.Batches.{Batch, is_edition}
+use Rattle.hy_batches.specs.Batches.{Batch}
 use Rattle.hy_batches.specs.Grammar.{are_batches}
 use Rattle.hy_batches.specs.Logs.{IsLog, Reads}
 use Rattle.hy_sound.specs.Sound.{IsSoundLog}
 use Rattle.hy_recovery.specs.Recovering.{IsWhyUnrecovered, joined}
-use Rattle.hy_partition.specs.Schedules.{begins}
-use Rattle.hy_schedules.specs.Schedules.{DoesAll, EventOfAll, Place, Whole, at, crosses, drains, place_at}
+use Rattle.hy_schedules.specs.Schedules.{DoesAll, EventOfAll, Place, Whole, drains, place_at}
 
 -- a batch: the commits of each warehouse since the last drain, of the second edition
 abbrev pub batch_of : List Place → Batch
@@ -23,17 +22,10 @@ abbrev pub given : EventOfAll → Whole → List Batch
 given drains old = batch_of old.places ∷ []
 given event old = []
 
--- whether a command that an event begins, if it begins one, is of the second edition, as all new commands are
-abbrev pub is_new : EventOfAll → Bool
-is_new (at number (begins client edition command)) = is_edition edition editions.Second
-is_new (crosses client edition command) = is_edition edition editions.Second
-is_new event = true
-
 -- what a call comes to, with the batch that it gives; one that is refused changes nothing and gives none
 abbrev pub Gives : EventOfAll → Whole → Whole → List Batch → Type 0
 Gives event old new batches =
-    ((new ≡ old) × (batches ≡ []))
-    ⊎ ((is_new event ≡ true) × DoesAll event old new × (batches ≡ given event old))
+    ((new ≡ old) × (batches ≡ [])) ⊎ (DoesAll event old new × (batches ≡ given event old))
 
 -- one event after another, with the batches that they give
 abbrev pub RunsGiving : List EventOfAll → Whole → Whole → List Batch → Type 0

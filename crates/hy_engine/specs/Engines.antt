@@ -17,7 +17,7 @@ use Rattle.hy_partition.specs.Snapshots.{SnapshotState}
 use Rattle.hy_partition.specs.Steps.{Accepts, IsUnbegun, Refuses, begin_refusal, with_job}
 use Rattle.hy_crossing.specs.Crossings.{ArePartitions, database_behind}
 use Rattle.hy_redo.specs.Calls.{Answers, LogState}
-use Rattle.hy_forks.specs.Drains.{drained_of}
+use Rattle.hy_forks.specs.Drains.{are_new, drained_of}
 use Rattle.hy_forks.specs.Forks.{SpellsDatabase, are_from}
 use Rattle.hy_forks.specs.Origins.{Origin}
 
@@ -95,9 +95,11 @@ IsWhyUnseen why = (why ≡ refusals.NoSuchWarehouse) ⊎ (why ≡ refusals.NoFra
 
 -- ---- drains
 
--- a batch has what some partitions of a load had kept since a drain, whatever that is: so a list for each warehouse
+-- a batch has what some partitions of a load had kept since a drain, whatever that is, all of it of the second edition: so
+-- a list for each warehouse
 abbrev pub IsDrainOf : Lists → Batch → Type 0
-IsDrainOf lists batch = (parts : List PartitionState) × ArePartitions lists parts × (batch ≡ drained_of parts)
+IsDrainOf lists batch =
+    (are_new batch ≡ true) × (parts : List PartitionState) × ArePartitions lists parts × (batch ≡ drained_of parts)
 
 -- why nothing was drained
 abbrev pub IsWhyUndrained : Refusal → Type 0

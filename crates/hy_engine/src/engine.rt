@@ -6,8 +6,9 @@ ghost use Rattle.hy_rows.specs.Limits.{max_warehouses};
 ghost use Rattle.hy_engine.specs.Engines.{IsCapacity};
 
 use crate::gate::Gate;
+use crate::new_job::NewJob;
 use hy_commands::Commit;
-use hy_partition::{Done, Job, Loaded, Partition};
+use hy_partition::{Done, Loaded, Partition};
 use hy_passes::Journal;
 use hy_queues::Line;
 use hy_rows::MAX_WAREHOUSES;
@@ -26,7 +27,7 @@ pub struct Engine<const N: usize, K: Loaded, G: Gate> {
     pub(crate) parts: Vec<Mutex<Partition<N, K>>>,
     pub(crate) journal: Mutex<Journal<Commit, K>>,
     pub(crate) turn: Mutex<()>,
-    pub(crate) jobs: Vec<Line<Job<K>>>,
+    pub(crate) jobs: Vec<Line<NewJob<K>>>,
     pub(crate) answers: Vec<Line<Done<K>>>,
     pub(crate) gate: G,
     spare: Mutex<Spare<N, K>>,
@@ -173,7 +174,7 @@ fn unlocked<T: Drop>(locks: Vec<Mutex<T>>, room: Vec<T>) -> Vec<T>
 #[derive(Drop)]
 struct Rooms<const N: usize, K: Loaded> {
     parts: Vec<Mutex<Partition<N, K>>>,
-    jobs: Vec<Line<Job<K>>>,
+    jobs: Vec<Line<NewJob<K>>>,
     answers: Vec<Line<Done<K>>>,
     spare: Spare<N, K>,
 }

@@ -10,6 +10,7 @@ mod engine;
 mod gate;
 mod holding;
 mod locking;
+mod new_job;
 mod submitting;
 mod working;
 

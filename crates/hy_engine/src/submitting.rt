@@ -2,22 +2,25 @@
 
 ghost use Rattle.std.specs.Prelude.{◌≡◌, ◌⊎◌, ◌↔◌, ◌<◌, ◌≤◌, IfErr, IsTrue, OnOk, length, nat_lt, true};
 ghost use Rattle.hy_schema.specs.declared.refusal.Refusal.{Refusal};
+ghost use Rattle.hy_commands.specs.declared.edition.Edition.TheVariants as editions;
 ghost use Rattle.hy_commands.specs.Commands.{home_of, warehouses_of};
 ghost use Rattle.hy_engine.specs.Engines.{IsHome, IsWhyBack};
 
 use crate::engine::Engine;
 use crate::gate::Gate;
 use crate::locking::lock_soon;
+use crate::new_job::NewJob;
 use hy_crossing::cross;
 use hy_partition::{Done, Job, Loaded};
+use hy_queues::Line;
 use hy_schema::Refusal;
 use std::alloc::Global;
 use std::sync::Wait;
 
 impl<const N: usize, K: Loaded, G: Gate + Drop> Engine<N, K, G> {
-    /// Hands a job in. That of one warehouse waits in its queue for the worker; that of several is done at once, on the
-    /// caller's thread. Either answer comes by `answer`. A job that is taken has a client and a home that are the
-    /// engine's. Another one comes back as it was: with E8 exactly where its client isn't one of the engine's; else
+    /// Hands a job in, of the second edition. That of one warehouse waits in its queue for the worker; that of several is
+    /// done at once, on the caller's thread. Either answer comes by `answer`. A job that is taken has a client and a home
+    /// that are the engine's. Another one comes back as it was: with E8 exactly where its client isn't one of the engine's; else
     /// with E16; or with E4, where its home isn't there or it names several warehouses; or with E17, where its home is
     /// there and it names one. No clause says that the engine was closed behind E16 or the queue full behind E17, as
     /// the code does.
@@ -27,16 +30,16 @@ impl<const N: usize, K: Loaded, G: Gate + Drop> Engine<N, K, G> {
         alloc: Global,
         job: Job<K>,
     ) -> Result<(), (Job<K>, Refusal)>
+        requires { job.edition ≡ editions.Second }
         ensures client { OnOk result (job.pass.client < self.now.clients) }
         ensures home { OnOk result (IsHome self.now (home_of job.command)) }
         ensures back { IfErr result (λ refused. refused.0 ≡ job) }
         ensures refused { IfErr result (λ refused. IsWhyBack self.now job refused.1) }
     {
-        let edition = job.edition();
         let (command, pass) = job.open();
         let is_client = (pass.client() as usize) < self.answers.len();
         let home = command.home();
-        let job = Job::of_edition(edition, command, pass);
+        let job = Job::new(command, pass);
         if !is_client {
             return Err((job, Refusal::OutOfRange));
         }
@@ -45,7 +48,7 @@ impl<const N: usize, K: Loaded, G: Gate + Drop> Engine<N, K, G> {
         }
         let line = &self.jobs[home as usize - 1];
         if !job.command().is_crossing() {
-            return line.put(rt, job);
+            return wait_in(rt, line, job);
         }
         if line.is_closed(rt) {
             return Err((job, Refusal::Closed));
@@ -81,6 +84,7 @@ impl<const N: usize, K: Loaded, G: Gate + Drop> Engine<N, K, G> {
         job: Job<K>,
     ) -> Result<Done<K>, (Job<K>, Refusal)>
         requires several { nat_lt 1 (length (warehouses_of job.command)) ≡ true }
+        requires new { job.edition ≡ editions.Second }
         ensures { IfErr result (λ refused. (refused.0 ≡ job) × (refused.1 ≡ Refusal.NoSuchWarehouse)) }
     {
         let Ok(room) = self.room(alloc) else {
@@ -116,5 +120,21 @@ impl<const N: usize, K: Loaded, G: Gate + Drop> Engine<N, K, G> {
             self.hand_over(rt, done);
         }
         unreachable!()
+    }
+}
+
+/// Puts a job into a warehouse's queue. It comes back with E16 or E17.
+fn wait_in<R: Wait, K: Loaded>(
+    rt: &R,
+    line: &Line<NewJob<K>>,
+    job: Job<K>,
+) -> Result<(), (Job<K>, Refusal)>
+    requires { job.edition ≡ editions.Second }
+    ensures back { IfErr result (λ refused. refused.0 ≡ job) }
+    ensures refused { IfErr result (λ refused. (refused.1 ≡ Refusal.Closed) ⊎ (refused.1 ≡ Refusal.QueueFull)) }
+{
+    match line.put(rt, NewJob::new(job)) {
+        Ok(()) => Ok(()),
+        Err((waiting, refusal)) => Err((waiting.open(), refusal)),
     }
 }

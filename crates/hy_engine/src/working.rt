@@ -10,7 +10,8 @@ ghost use Rattle.hy_engine.specs.inside.Early.{AreEarly, EndsRun};
 use crate::engine::Engine;
 use crate::gate::Gate;
 use crate::locking::lock_soon;
-use hy_partition::{Done, Job, Loaded, Partition, Progress};
+use crate::new_job::NewJob;
+use hy_partition::{Done, Loaded, Partition, Progress};
 use hy_schema::Refusal;
 use std::sync::Wait;
 
@@ -39,11 +40,11 @@ impl<const N: usize, K: Loaded, G: Gate + Drop> Engine<N, K, G> {
         rt: &R,
         warehouse: u8,
         part: &mut Partition<N, K>,
-        job: Job<K>,
+        job: NewJob<K>,
     ) -> Done<K>
         ensures { AnswersJob job part.old part.new result }
     {
-        match part.begin(job) {
+        match part.begin(job.open()) {
             Ok(()) => self.run_slices(rt, warehouse, part),
             Err((job, refusal)) => job.refuse(refusal),
         }

@@ -11,3 +11,4 @@ pub mod TellLaws
 pub mod ResultLaws
 pub mod LackLaws
 pub mod ForkedLaws
+pub mod DrainLaws

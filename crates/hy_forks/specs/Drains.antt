@@ -1,10 +1,11 @@
 -- What was committed since the last drain.
-use Rattle.std.specs.Prelude.{◌≡◌, ℕ, List, length, map}
+use Rattle.std.specs.Prelude.{◌≡◌, ℕ, Bool, List, length, map}
+use Rattle.std.specs.List.{list_all}
 use mathlib.Core.List.{IsPrefix}
 use Rattle.hy_commands.specs.declared.edition.Edition.TheVariants as editions
 use Rattle.hy_batches.specs.Batches.{Batch}
 use Rattle.hy_partition.specs.Jobs.{Log}
-use Rattle.hy_partition.specs.Partition.{PartitionState, projection_of, undrained}
+use Rattle.hy_partition.specs.Partition.{PartitionState, is_new, projection_of, undrained}
 
 -- a partition was told the whole serial list, of which it has kept all that names it
 abbrev pub TellsHere : Log → ℕ → PartitionState → PartitionState → Type 0
@@ -20,3 +21,7 @@ DrainsHere log number old new =
 -- the batch of what was committed in each partition since its last drain: of the second edition, as new commands are
 abbrev pub drained_of : List PartitionState → Batch
 drained_of parts = record { edition = editions.Second; lists = map undrained parts }
+
+-- whether all commits of a batch are of the second edition
+abbrev pub are_new : Batch → Bool
+are_new batch = list_all (list_all is_new) batch.lists

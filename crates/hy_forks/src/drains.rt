@@ -1,10 +1,12 @@
 //! What was committed since the last drain.
 
-ghost use Rattle.std.specs.Prelude.{◌≡◌, IfErr, IfOk, OnErr, OnOk};
+ghost use Rattle.std.specs.Prelude.{◌≡◌, true, IfErr, IfOk, OnErr, OnOk};
+ghost use Rattle.std.specs.List.{list_all};
 ghost use Rattle.hy_schema.specs.declared.refusal.Refusal.{Refusal};
+ghost use Rattle.hy_partition.specs.Partition.{is_new, undrained};
 ghost use Rattle.hy_crossing.specs.Crossings.{ArePartitions, HaveNoPart};
 ghost use Rattle.hy_crossing.specs.Lists.{Pairwise};
-ghost use Rattle.hy_forks.specs.Drains.{DrainsHere, drained_of};
+ghost use Rattle.hy_forks.specs.Drains.{DrainsHere, are_new, drained_of};
 ghost use Rattle.hy_forks.specs.Histories.{IsOneHistory};
 
 use crate::knowing::{know_list, know_load};
@@ -27,18 +29,30 @@ fn copy_commits(alloc: Global, commits: &[Commit]) -> Result<Vec<Commit>, AllocE
     Ok(copies)
 }
 
+/// Copies of the commits of a partition since its last drain. An error where it finds no memory.
+fn copy_part<const N: usize, K: Loaded>(
+    alloc: Global,
+    part: &Partition<N, K>,
+) -> Result<Vec<Commit>, AllocError>
+    ensures copies { IfOk result (λ copies. copies.items ≡ undrained part.now) }
+    ensures new { IfOk result (λ copies. list_all is_new copies.items ≡ true) }
+{
+    part.ties();
+    copy_commits(alloc, part.undrained())
+}
+
 /// Copies of the commits of each partition since its last drain. An error where it finds no memory.
 fn copy_undrained<const N: usize, K: Loaded, P: Parts<Part = Partition<N, K>>>(
     alloc: Global,
     parts: &mut P,
 ) -> Result<Batch, AllocError>
     ensures copies { IfOk result (λ batch. batch ≡ drained_of (P.states parts.old)) }
+    ensures new { IfOk result (λ batch. are_new batch ≡ true) }
     ensures same { P.states parts.new ≡ P.states parts.old }
 {
     let mut copies = Vec::with_capacity(alloc, parts.len())?;
     for place in 0..parts.len() {
-        let commits = parts.part(place).undrained();
-        copies.push_reserved(copy_commits(alloc, commits)?);
+        copies.push_reserved(copy_part(alloc, parts.part(place))?);
     }
     Ok(Batch::new(Edition::Second, copies))
 }
@@ -68,8 +82,8 @@ fn mark_each<const N: usize, K: Loaded, P: Parts<Part = Partition<N, K>>>(
     }
 }
 
-/// The commits of each warehouse since the last drain, as a batch of the second edition, which then count as drained.
-/// Refused with E1, and then nothing is marked.
+/// The commits of each warehouse since the last drain, as a batch of the second edition, of which they all are; they then
+/// count as drained. Refused with E1, and then nothing is marked.
 pub fn drain<const N: usize, K: Loaded, P: Parts<Part = Partition<N, K>>>(
     alloc: Global,
     parts: &mut P,
@@ -78,6 +92,7 @@ pub fn drain<const N: usize, K: Loaded, P: Parts<Part = Partition<N, K>>>(
     requires parts { ArePartitions K.load (P.states parts.old) }
     requires whole { HaveNoPart (P.states parts.old) }
     ensures drained { IfOk result (λ batch. batch ≡ drained_of (P.states parts.old)) }
+    ensures new { IfOk result (λ batch. are_new batch ≡ true) }
     ensures marked { OnOk result
         (Pairwise (DrainsHere journal.old.list.log) 1 (P.states parts.old) (P.states parts.new)) }
     ensures history { OnOk result

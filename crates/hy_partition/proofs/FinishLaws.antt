@@ -9,7 +9,7 @@ use Rattle.hy_undo.specs.UndoLog.{undone}
 use Rattle.hy_undo.proofs.PrivatePageLaws.{SameForChildren-then}
 use Rattle.hy_tpcc.specs.Executor.{ExecutorState}
 use Rattle.hy_partition.specs.Jobs.{DoneState, Log, RunningJob, entered_by, with_slice_done}
-use Rattle.hy_partition.specs.Partition.{PartitionState, refusal_now}
+use Rattle.hy_partition.specs.Partition.{PartitionState, Terms, refusal_now}
 use Rattle.hy_partition.specs.Steps.{Accepts, AcceptsBehind, Ends, KeepsNothing, KeepsRest, LacksFrame, Refuses, RefusesAt, StepsTo}
 use Rattle.hy_partition.specs.declared.job.Progress.{Progress}
 use Rattle.hy_partition.specs.declared.job.Progress.TheVariants as progress
@@ -146,8 +146,7 @@ module _ (old now new : PartitionState) (first job : RunningJob) (way : IsOnItsW
         undo = ends.undo;
         finished = ends.finished;
         rest = record {
-          terms = ends.rest.terms ∙ ap (λ most. record { load = now.load; warehouse = now.warehouse; max_kept = most })
-              (ap (λ t. t.max_kept) way.rest.terms);
+          terms = ends.rest.terms ∙ ap (λ (t : Terms). record t { load = now.load; warehouse = now.warehouse }) way.rest.terms;
           drained = ends.rest.drained ∙ way.rest.drained;
           part = ends.rest.part ∙ way.rest.part;
           snapshots = ends.rest.snapshots ∙ way.rest.snapshots;

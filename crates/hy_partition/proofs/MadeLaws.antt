@@ -1,7 +1,8 @@
 -- Why a partition isn't made.
-use Rattle.std.proofs.Common.{◌≡◌, ◌≤◌, ℕ, [], None, Result, Err, inl, inr, refl, sym, ap, ◌∙◌, subst, arith, true≢false}
+use Rattle.std.proofs.Common.{◌≡◌, ◌≤◌, ℕ, [], None, Result, Err, inl, inr, refl, sym, ap, ◌∙◌, subst, arith, true, false, true≢false}
 use Rattle.std.proofs.lemmas.Int.{ints}
 use Rattle.std.specs.Prelude.{length}
+use Rattle.std.specs.List.{list_all}
 use Rattle.hy_frames.specs.declared.errors.Shortage.{Shortage}
 use Rattle.hy_frames.specs.declared.errors.Shortage.TheVariants as shortages
 use Rattle.hy_rows.specs.Tables.{Lists}
@@ -19,7 +20,7 @@ use Rattle.hy_tpcc.specs.Executor.{ExecutorState}
 use Rattle.hy_commands.specs.Replay.{rows_after}
 use Rattle.hy_partition.specs.Accounts.{home_commits, taken_in}
 use Rattle.hy_partition.specs.Limits.{IsWhyUnmade, most_kept}
-use Rattle.hy_partition.specs.Partition.{PartitionState, projection_of}
+use Rattle.hy_partition.specs.Partition.{PartitionState, is_new, projection_of}
 use Rattle.hy_partition.specs.Steps.{Begins}
 use Rattle.hy_partition.specs.inside.Soundness.{IsLaid, IsSound, IsTied}
 use Rattle.hy_partition.proofs.SoundLaws.{sound-new}
@@ -43,6 +44,7 @@ module _ (n : ℕ) (lists : Lists) (number frames most : ℕ) (executor : Execut
     load = executor.layout.load;
     warehouse = executor.layout.warehouse;
     max_kept = most;
+    replays = false;
     seen = list.seen;
     kept = projection_of list.warehouse list.seen;
     drained = 0;
@@ -78,6 +80,7 @@ module _ (n : ℕ) (lists : Lists) (number frames most : ℕ) (executor : Execut
     desk_of = ap (λ (d : DeskState). d.warehouse) desk_is ∙ sym number_is;
     tickets = λ child out. absurd (true≢false (sym out ∙ ap (λ (d : DeskState). is_out d.out child) desk_is));
     within = omega arith;
+    new = ap (list_all is_new) none_kept;
     book = record {
       warehouse_is = ap (λ (b : BookState). b.warehouse) book_is ∙ sym number_is;
       commits_are = ap (λ (b : BookState). b.commits) book_is
@@ -89,7 +92,7 @@ module _ (n : ℕ) (lists : Lists) (number frames most : ℕ) (executor : Execut
 
   pub begins-made : Begins lists number frames most made
   begins-made = record {
-    terms = ap (λ l. record { load = l.load; warehouse = l.warehouse; max_kept = most }) laid.layout;
+    terms = ap (λ l. record { load = l.load; warehouse = l.warehouse; max_kept = most; replays = false }) laid.layout;
     seen = untold;
     kept = none_kept;
     drained = refl;

@@ -16,7 +16,7 @@ use Rattle.hy_schema.specs.Loads.{IsLoad}
 use Rattle.hy_commands.specs.declared.command.Command.{Command}
 use Rattle.hy_commands.specs.declared.command.Commit.{Commit}
 use Rattle.hy_commands.specs.declared.command.Commit.TheVariants as commits
-use Rattle.hy_commands.specs.declared.edition.Edition.{Edition}
+use Rattle.hy_commands.specs.declared.edition.Edition.TheVariants as editions
 use Rattle.hy_commands.specs.Commands.{is_reader, kept_of, warehouses_of_commit}
 use Rattle.hy_commands.proofs.NamedLaws.{named-accepted}
 use Rattle.hy_commands.specs.Invariant.{MeetsOwnConditions}
@@ -187,14 +187,14 @@ module _ (lists : Lists) (number : ℕ) where
       ]
     ]
 
-    abbrev begun : ℕ → Edition → Command → Underway
-    begun client edition command =
-        record { edition = edition; command = command; slices = 0; client = client; stamp = world.known client }
+    abbrev begun : ℕ → Command → Underway
+    begun client command =
+        record { edition = editions.Second; command = command; slices = 0; client = client; stamp = world.known client }
 
     in_order-event : (event : Event) (new : World) → Does event world new → IsInOrder lists number new
-    in_order-event (begins client edition command) new does = subst (λ (w : World). IsInOrder lists number w) (sym does.3)
-        (in_order-same (Some (begun client edition command)) world.waits (λ job is.
-        let same : begun client edition command ≡ job = cc in
+    in_order-event (begins client command) new does = subst (λ (w : World). IsInOrder lists number w) (sym does.3)
+        (in_order-same (Some (begun client command)) world.waits (λ job is.
+        let same : begun client command ≡ job = cc in
         subst (λ (j : Underway). j.stamp ≤ length world.log) same (order.known client)))
     in_order-event steps new does = at world.running refl does
       where
@@ -302,6 +302,7 @@ module _ (n : ℕ) (log after : Log) (p q : PartitionState) (world : World) (job
       step_to (with_refused world) (inr (inr refl)) (record {
         load = is.load ∙ sym (ap (λ t. t.load) ends.2.terms);
         warehouse = is.warehouse ∙ sym (ap (λ t. t.warehouse) ends.2.terms);
+        live = ap (λ t. t.replays) ends.2.terms ∙ is.live;
         log_is = is.log_is ∙ sym same;
         kept = is.kept ∙ sym refuses.nothing.kept;
         running = sym (ap (option_map underway) ends.0);
@@ -313,6 +314,7 @@ module _ (n : ℕ) (log after : Log) (p q : PartitionState) (world : World) (job
   leads-step progress.More did = step_to (with_slice world (underway job)) (inl (did.0, refl)) (record {
     load = is.load ∙ sym (ap (λ t. t.load) did.2.rest.terms);
     warehouse = is.warehouse ∙ sym (ap (λ t. t.warehouse) did.2.rest.terms);
+    live = ap (λ t. t.replays) did.2.rest.terms ∙ is.live;
     log_is = is.log_is ∙ sym (some_same did.1);
     kept = is.kept ∙ sym did.2.nothing.kept;
     running = sym (ap (option_map underway) did.2.running);
@@ -333,6 +335,7 @@ module _ (n : ℕ) (log after : Log) (p q : PartitionState) (world : World) (job
         step_to (with_accepted world (underway job)) (inr (inl (last.0, accepted, refl))) (record {
           load = is.load ∙ sym (ap (λ t. t.load) does.ends.rest.terms);
           warehouse = is.warehouse ∙ sym (ap (λ t. t.warehouse) does.ends.rest.terms);
+          live = ap (λ t. t.replays) does.ends.rest.terms ∙ is.live;
           log_is = sym grown;
           kept = sym kept;
           running = sym (ap (option_map underway) does.ends.running);

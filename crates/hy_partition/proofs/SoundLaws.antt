@@ -34,7 +34,7 @@ use Rattle.hy_partition.specs.Headline.{SpellsBeginning}
 use Rattle.hy_ledger.specs.Books.{BookState}
 use Rattle.hy_partition.specs.Jobs.{DoneState, Log, RunningJob, with_slice_done}
 use Rattle.hy_partition.specs.Limits.{most_kept}
-use Rattle.hy_partition.specs.Partition.{PartState, PartitionState, commits_of, layout_of, outcome_now, refusal_now, rows_after, rows_now}
+use Rattle.hy_partition.specs.Partition.{PartState, PartitionState, commits_of, layout_of, may_run, outcome_now, refusal_now, rows_after, rows_now}
 use Rattle.hy_partition.specs.Parts.{rows_with_part}
 use Rattle.hy_partition.specs.inside.Soundness.{HoldsPart, IsIdle, IsSound, IsStoreOf, Rests, Runs}
 use Rattle.hy_partition.proofs.ReplayLaws.{bounds-rows, grown-now, places-rows, replay-crossed, replay-kept_of, sound-rows, stays_in_bounds}
@@ -159,9 +159,9 @@ module _ (n room : ℕ) (executor : ExecutorState) (p : PartitionState) (sound :
       → begin_refusal_of executor.layout.warehouse job.command (stored n (owner_bytes p.space)).tables ≡ None
       → (StaysInBounds executor.layout job.edition job.command (stored n (owner_bytes p.space)).tables
       → IsUnderWay executor' job.edition job.command 0 (stored n (owner_bytes p.space)).tables (stored n (owner_bytes p.space)))
-      → (is_reader job.command ≡ false → (length p.kept ≢ p.max_kept) × (1 ≤ room'))
+      → (is_reader job.command ≡ false → (length p.kept ≢ p.max_kept) × (1 ≤ room')) → may_run p.replays job.edition ≡ true
       → IsSound n room' executor' (record p { running = Some job })
-  sound-begun room' executor' job idle no_part no_reply fresh layout begins under_way room_for =
+  sound-begun room' executor' job idle no_part no_reply fresh layout begins under_way room_for may =
       let pages = (rests idle no_part).pages in
       let begins_now : begin_refusal_of p.warehouse job.command (rows_now p) ≡ None =
       rw (sound.layout, pages.rows) at begins in
@@ -170,6 +170,7 @@ module _ (n room : ℕ) (executor : ExecutorState) (p : PartitionState) (sound :
       (stays_in_bounds p.load p.warehouse p.kept sound.load sound.warehouse job.edition job.command few begins_now) in
       let begun : Runs n room' executor' (record p { running = Some job }) job = record {
         no_part = no_part;
+        edition = may;
         begins = begins_now;
         no_reply = no_reply;
         slices = omega (arith, fresh, first_slice job.command);
@@ -223,6 +224,7 @@ module _ (n room : ℕ) (executor : ExecutorState) (p : PartitionState) (sound :
       }
       idle (Some part) was = record {
         has_part = was.has_part;
+        edition = was.edition;
         pages = subst (λ (pages : List (List (List ℕ))).
             IsStoreOf n (rows_with_part p part.edition part.command) pages) (sym owner.bytes) was.pages;
         has_room = was.has_room;
@@ -234,6 +236,7 @@ module _ (n room : ℕ) (executor : ExecutorState) (p : PartitionState) (sound :
       moved None was = idle p.part was
       moved (Some job) was = record {
         no_part = was.no_part;
+        edition = was.edition;
         begins = was.begins;
         no_reply = was.no_reply;
         slices = was.slices;
@@ -269,6 +272,7 @@ module _ (n room : ℕ) (executor : ExecutorState) (p : PartitionState) (sound :
       idle None was = record { undo = was.undo; pages = was.pages }
       idle (Some part) was = record {
         has_part = was.has_part;
+        edition = was.edition;
         pages = was.pages;
         has_room = was.has_room;
         below_max = was.below_max;
@@ -279,6 +283,7 @@ module _ (n room : ℕ) (executor : ExecutorState) (p : PartitionState) (sound :
       still None was = idle p.part was
       still (Some job) was = record {
         no_part = was.no_part;
+        edition = was.edition;
         begins = was.begins;
         no_reply = was.no_reply;
         slices = was.slices;
@@ -406,6 +411,7 @@ module _ (n room : ℕ) (executor : ExecutorState) (p : PartitionState) (sound :
         record p { running = Some (with_slice_done job); undo = undo; space = space } in
         let begun : Runs n room executor' after (with_slice_done job) = record {
           no_part = was.no_part;
+          edition = was.edition;
           begins = was.begins;
           no_reply = was.no_reply;
           slices = more;
@@ -504,14 +510,15 @@ module _ (n room : ℕ) (executor : ExecutorState) (p : PartitionState) (sound :
       → HasStore n (owner_bytes space) → DoesPart executor.layout part.edition part.command (stored n (owner_bytes p.space))
       (stored n (owner_bytes space)) → IsUndoLog n space undo
       → undone (owner_bytes space) undo ≡ undone (owner_bytes p.space) p.undo → SameForChildren p.space space
-      → 1 ≤ room' → length p.kept < p.max_kept
+      → 1 ≤ room' → length p.kept < p.max_kept → may_run p.replays part.edition ≡ true
       → IsSound n room' executor' (record p { part = Some part; undo = undo; space = space })
-  sound-parted room' executor' space undo part idle no_part has_part layout store does log bytes children some_room few =
+  sound-parted room' executor' space undo part idle no_part has_part layout store does log bytes children some_room few may =
       let after : PartitionState = record p { part = Some part; undo = undo; space = space } in
       let rows : (stored n (owner_bytes space)).tables ≡ rows_with_part p part.edition part.command =
       rw (sound.layout, (rests idle no_part).pages.rows) at does.rows in
       let holding : HoldsPart n room' after part = record {
         has_part = has_part;
+        edition = may;
         pages = record { store = store; rows = rows; indexes = does.indexes };
         has_room = some_room;
         below_max = few;

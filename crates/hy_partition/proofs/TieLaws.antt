@@ -1,20 +1,25 @@
 -- The parts of a partition stay tied.
-use Rattle.std.proofs.Common.{◌≡◌, ◌≢◌, ℕ, ◌==◌, ◌||◌, Bool, true, false, not, cond, List, [], ◌∷◌, ◌++◌, length, Option, Some, None, inl, inr, refl, sym, ap, ◌∙◌, subst, arith, eq-eqb, length-append, true≢false}
-use Rattle.std.specs.Prelude.{IsSome, is_some, slice_index_or}
-use Rattle.std.proofs.lemmas.Bool.{cases_eq, eqb-true}
+use Rattle.std.proofs.Common.{◌≡◌, ◌≢◌, ◌≤◌, ℕ, ◌==◌, ◌||◌, Bool, true, false, not, cond, List, [], ◌∷◌, ◌++◌, length, drop, ap₂, Option, Some, None, inl, inr, refl, sym, ap, ◌∙◌, subst, arith, eq-eqb, length-append, true≢false}
+use Rattle.std.specs.Prelude.{◌&&◌, if◌then◌else◌, IsSome, is_some, slice_index_or}
+use Rattle.std.specs.List.{list_all}
+use Rattle.std.proofs.lemmas.Bool.{and_parts, cases_eq, eqb-true}
+use Rattle.std.proofs.lemmas.List.{drop-append-le}
 use Rattle.hy_rows.specs.Tables.{Lists}
 use Rattle.hy_passes.specs.Worlds.{KeptState}
 use Rattle.hy_ledger.specs.Books.{BookState}
 use Rattle.hy_tickets.specs.Desks.{DeskState, is_out, without}
 use Rattle.hy_commands.specs.declared.command.Commit.{Commit}
 use Rattle.hy_commands.specs.declared.command.Commit.TheVariants as commits
-use Rattle.hy_commands.specs.Commands.{kept_of}
+use Rattle.hy_commands.specs.declared.command.Command.{Command}
+use Rattle.hy_commands.specs.declared.edition.Edition.{Edition}
+use Rattle.hy_commands.specs.declared.edition.Edition.TheVariants as editions
+use Rattle.hy_commands.specs.Commands.{is_reader, kept_of}
 use Rattle.hy_space.specs.Space.{SpaceState}
 use Rattle.hy_undo.specs.UndoLog.{UndoLog}
 use Rattle.hy_tpcc.specs.Executor.{ExecutorState}
 use Rattle.hy_partition.specs.Accounts.{IsBookOf, with_command}
 use Rattle.hy_partition.specs.Jobs.{DoneState, RunningJob}
-use Rattle.hy_partition.specs.Partition.{PartState, PartitionState, commits_of, refusal_now}
+use Rattle.hy_partition.specs.Partition.{PartState, PartitionState, commits_of, is_new, may_run, refusal_now}
 use Rattle.hy_partition.specs.inside.Soundness.{IsSound, IsTied}
 use Rattle.hy_partition.specs.Parts.{with_part_entered}
 use Rattle.hy_partition.proofs.AccountLaws.{booked, booked-part, crossing-writes}
@@ -56,6 +61,37 @@ out-less (first ∷ out) number other is =
     by false gone false here is later =
         later (ap (λ b. b || is_out (without out number) other) (sym here) ∙ is)
 
+-- what a partition that replays no log keeps is of the second edition
+new-kept : (edition : Edition) (command : Command) → may_run false edition ≡ true
+    → list_all is_new (kept_of edition command) ≡ true
+new-kept editions.First command may = absurd (true≢false (sym may))
+new-kept editions.Second command may = elim (is_reader command) as (λ b.
+    list_all is_new (cond b [] (commits.Local editions.Second command ∷ [])) ≡ true) [
+      | true ↦ refl
+      | false ↦ refl
+    ]
+
+new-crossing : (edition : Edition) (number : ℕ) (command : Command) → may_run false edition ≡ true
+    → list_all is_new (commits.Cross edition number command ∷ []) ≡ true
+new-crossing editions.First number command may = absurd (true≢false (sym may))
+new-crossing editions.Second number command may = refl
+
+new-append : (one more : List Commit) → list_all is_new one ≡ true → list_all is_new more ≡ true
+    → list_all is_new (one ++ more) ≡ true
+new-append [] more one other = other
+new-append (commit ∷ commits) more one other =
+    let parts = and_parts (is_new commit) (list_all is_new commits) one in
+    ap₂ (λ a b. a && b) parts.0 (new-append commits more parts.1 other)
+
+-- and so is what isn't drained then
+new-more : (replays : Bool) (drained : ℕ) (kept more : List Commit) → drained ≤ length kept
+    → list_all is_new (if replays then [] else drop drained kept) ≡ true
+    → (replays ≡ false → list_all is_new more ≡ true)
+    → list_all is_new (if replays then [] else drop drained (kept ++ more)) ≡ true
+new-more true drained kept more within old new = refl
+new-more false drained kept more within old new =
+    ap (list_all is_new) (drop-append-le drained kept more within) ∙ new-append (drop drained kept) more old (new refl)
+
 module _ (world : Lists) (list : KeptState Commit) (desk : DeskState) (p : PartitionState) (tied : IsTied world list desk p) where
   -- a job begins, goes on, or is refused
   pub tied-same : (room : ℕ) (running : Option RunningJob) (undo : UndoLog) (finished : Option DoneState) (space : SpaceState)
@@ -67,6 +103,7 @@ module _ (world : Lists) (list : KeptState Commit) (desk : DeskState) (p : Parti
     desk_of = tied.desk_of;
     tickets = tied.tickets;
     within = tied.within;
+    new = tied.new;
     book = tied.book;
   }
 
@@ -80,6 +117,7 @@ module _ (world : Lists) (list : KeptState Commit) (desk : DeskState) (p : Parti
     desk_of = tied.desk_of;
     tickets = tied.tickets;
     within = tied.within;
+    new = tied.new;
     book = tied.book;
   }
 
@@ -92,6 +130,7 @@ module _ (world : Lists) (list : KeptState Commit) (desk : DeskState) (p : Parti
       → IsTied world list' desk (record p { seen = list'.seen; kept = kept; book = book; part = None; undo = undo })
   tied-part_kept n room executor list' part crossing kept book undo sound is same longer more =
       let held = holds n room executor p sound part (part_idle n room executor p sound part is) is in
+      let commit = commits.Cross part.edition crossing part.command in
       record {
         load_is = tied.load_is;
         list_of = same ∙ tied.list_of;
@@ -103,6 +142,9 @@ module _ (world : Lists) (list : KeptState Commit) (desk : DeskState) (p : Parti
           ap length longer,
           length-append p.kept (commits.Cross part.edition crossing part.command ∷ []),
         );
+        new = subst (λ commits. list_all is_new (if p.replays then [] else drop p.drained commits) ≡ true) (sym longer)
+            (new-more p.replays p.drained p.kept (commit ∷ []) tied.within tied.new
+            (λ live. new-crossing part.edition crossing part.command (subst (λ b. may_run b part.edition ≡ true) live held.edition)));
         book = subst (λ commits. IsBookOf p.load p.warehouse commits book) (sym longer)
             (subst (λ b. IsBookOf p.load p.warehouse (p.kept ++ commits.Cross part.edition crossing part.command ∷ []) b)
             (sym more)
@@ -114,7 +156,7 @@ module _ (world : Lists) (list : KeptState Commit) (desk : DeskState) (p : Parti
   pub tied-accepted : (n room : ℕ) (executor : ExecutorState) (list' : KeptState Commit) (job : RunningJob) (kept : List Commit)
       (book : BookState) (undo : UndoLog) (finished : Option DoneState) (space : SpaceState) → IsSound n room executor p
       → refusal_now p job.command ≡ None → list'.warehouse ≡ list.warehouse → kept ≡ p.kept ++ kept_of job.edition job.command
-      → book ≡ with_command p.book job.command
+      → book ≡ with_command p.book job.command → may_run p.replays job.edition ≡ true
       → IsTied world list' desk (record p {
         seen = list'.seen;
         kept = kept;
@@ -124,12 +166,15 @@ module _ (world : Lists) (list : KeptState Commit) (desk : DeskState) (p : Parti
         finished = finished;
         space = space;
       })
-  tied-accepted n room executor list' job kept book undo finished space sound accepted same longer more = record {
+  tied-accepted n room executor list' job kept book undo finished space sound accepted same longer more may = record {
     load_is = tied.load_is;
     list_of = same ∙ tied.list_of;
     desk_of = tied.desk_of;
     tickets = tied.tickets;
     within = omega (arith, tied.within, ap length longer, length-append p.kept (kept_of job.edition job.command));
+    new = subst (λ commits. list_all is_new (if p.replays then [] else drop p.drained commits) ≡ true) (sym longer)
+        (new-more p.replays p.drained p.kept (kept_of job.edition job.command) tied.within tied.new
+        (λ live. new-kept job.edition job.command (subst (λ b. may_run b job.edition ≡ true) live may)));
     book = subst (λ commits. IsBookOf p.load p.warehouse commits book) (sym longer)
         (subst (λ b. IsBookOf p.load p.warehouse (p.kept ++ kept_of job.edition job.command) b) (sym more)
         (booked p.load p.warehouse p.kept p.book job.edition job.command (sound_now n room executor p sound) accepted tied.book));
@@ -156,6 +201,7 @@ module _ (world : Lists) (list : KeptState Commit) (desk : DeskState) (p : Parti
           ∙ tied.tickets other (out-more desk.out child other out (λ is. apart (sym is)))
     ];
     within = omega (arith, tied.within, ap length still);
+    new = subst (λ commits. list_all is_new (if p.replays then [] else drop p.drained commits) ≡ true) (sym still) tied.new;
     book = subst (λ commits. IsBookOf p.load p.warehouse commits p.book) (sym still) tied.book;
   }
 
@@ -171,6 +217,7 @@ module _ (world : Lists) (list : KeptState Commit) (desk : DeskState) (p : Parti
     tickets = λ other out.
         let was = out-less desk.out child other out in ap is_some (others other was.0) ∙ tied.tickets other was.1;
     within = tied.within;
+    new = tied.new;
     book = tied.book;
   }
 
@@ -183,5 +230,6 @@ module _ (world : Lists) (list : KeptState Commit) (desk : DeskState) (p : Parti
     desk_of = tied.desk_of;
     tickets = λ other out. ap (λ all. is_some (slice_index_or all other None)) same ∙ tied.tickets other out;
     within = tied.within;
+    new = tied.new;
     book = tied.book;
   }

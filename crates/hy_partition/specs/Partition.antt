@@ -1,12 +1,13 @@
 -- One warehouse: the load that it began from, what was kept since, the job that runs, the pages and the snapshots.
-use Rattle.std.specs.Prelude.{ℕ, List, Option, None, drop, slice_index_or}
+use Rattle.std.specs.Prelude.{ℕ, Bool, true, false, if◌then◌else◌, List, [], Option, None, drop, slice_index_or}
 use Rattle.hy_passes.specs.SerialList.{kept_of}
 use Rattle.hy_ledger.specs.Books.{BookState}
 use Rattle.hy_commands.specs.declared.command.Command.{Command}
 use Rattle.hy_commands.specs.declared.command.Commit.{Commit}
 use Rattle.hy_commands.specs.declared.edition.Edition.{Edition}
+use Rattle.hy_commands.specs.declared.edition.Edition.TheVariants as editions
 use Rattle.hy_rows.specs.Tables.{Lists, Tables, of_warehouse}
-use Rattle.hy_commands.specs.Commands.{warehouses_of_commit}
+use Rattle.hy_commands.specs.Commands.{edition_of, warehouses_of_commit}
 use Rattle.hy_commands.specs.Replay.{replay}
 use Rattle.hy_commands.specs.Transactions.{Outcome, act, refusal_of}
 use Rattle.hy_schema.specs.declared.refusal.Refusal.{Refusal}
@@ -22,10 +23,12 @@ pub record PartState : Type 0 where
 
 -- the value of a partition
 pub record PartitionState : Type 0 where
-  -- the load that it began from, which warehouse of it this is, and how many commits may be kept
+  -- the load that it began from, which warehouse of it this is, how many commits may be kept, and whether a log is
+  -- replayed here, by whichever edition it was written
   pub load : Lists
   pub warehouse : ℕ
   pub max_kept : ℕ
+  pub replays : Bool
   -- what it has been told of the serial list, its commits in order, how many of them were drained, and its accounts
   pub seen : Log
   pub kept : List Commit
@@ -41,14 +44,20 @@ pub record PartitionState : Type 0 where
   pub space : SpaceState
   pub snapshots : List (Option ℕ)
 
--- what no call changes
+-- what no call changes, but for those that begin and end a replay
 pub record Terms : Type 0 where
   pub load : Lists
   pub warehouse : ℕ
   pub max_kept : ℕ
+  pub replays : Bool
 
 abbrev pub terms_of : PartitionState → Terms
-terms_of p = record { load = p.load; warehouse = p.warehouse; max_kept = p.max_kept }
+terms_of p = record { load = p.load; warehouse = p.warehouse; max_kept = p.max_kept; replays = p.replays }
+
+-- whether commands may run by an edition where a log is replayed, or isn't: by the first one only where it is
+abbrev pub may_run : Bool → Edition → Bool
+may_run replays editions.First = replays
+may_run replays editions.Second = true
 
 -- the warehouse of the load
 abbrev pub layout_of : PartitionState → LayoutState
@@ -65,9 +74,17 @@ rows_now p = rows_after p p.kept
 abbrev pub projection_of : ℕ → Log → List Commit
 projection_of warehouse log = kept_of warehouses_of_commit warehouse log
 
--- the commits since the last drain
+-- the commits since the last drain; while a log is replayed there are none, for the log has them
 abbrev pub undrained : PartitionState → List Commit
-undrained p = drop p.drained p.kept
+undrained p = if p.replays then [] else drop p.drained p.kept
+
+-- whether a commit is of the second edition, as all new ones are
+abbrev pub is_new : Commit → Bool
+is_new commit = is_second (edition_of commit)
+  where
+    is_second : Edition → Bool
+    is_second editions.First = false
+    is_second editions.Second = true
 
 -- the number of commits of an open snapshot, or none where no snapshot has this child of the page tables
 abbrev pub commits_of : PartitionState → ℕ → Option ℕ

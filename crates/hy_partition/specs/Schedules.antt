@@ -11,6 +11,7 @@ use Rattle.hy_rows.specs.Tables.{Lists, Tables, of_warehouse}
 use Rattle.hy_commands.specs.declared.command.Command.{Command}
 use Rattle.hy_commands.specs.declared.command.Commit.{Commit}
 use Rattle.hy_commands.specs.declared.edition.Edition.{Edition}
+use Rattle.hy_commands.specs.declared.edition.Edition.TheVariants as editions
 use Rattle.hy_commands.specs.Commands.{kept_of, warehouses_of_commit}
 use Rattle.hy_commands.specs.Invariant.{MeetsOwnConditions}
 use Rattle.hy_commands.specs.Replay.{replay}
@@ -71,11 +72,11 @@ fresh_world lists number = record {
 
 -- ---- events
 
--- a client's command begins, by an edition; the command that runs does a step; its answer is taken; a client takes a
+-- a client's command begins, by the second edition; the command that runs does a step; its answer is taken; a client takes a
 -- snapshot under a number; that under a number is closed; a client looks; a commit of other warehouses enters the serial
 -- list
 pub data Event : Type 0 where
-  begins : ℕ → Edition → Command → Event
+  begins : ℕ → Command → Event
   steps : Event
   takes : Event
   forks : ℕ → ℕ → Event
@@ -128,11 +129,11 @@ DoesStep old new job =
 
 -- what an event does
 abbrev pub Does : Event → World → World → Type 0
-Does (begins client edition command) old new =
+Does (begins client command) old new =
     (old.running ≡ None) × (old.waits ≡ false) × (begin_refusal_of old.warehouse command (rows_of old) ≡ None)
     × (new ≡ record old {
       running = Some (record {
-        edition = edition;
+        edition = editions.Second;
         command = command;
         slices = 0;
         client = client;
@@ -202,10 +203,11 @@ underway job = record {
   stamp = length job.pass.seen;
 }
 
--- a world is that of a partition, beside a journal with this serial list
+-- a world is that of a partition that replays no log, beside a journal with this serial list
 pub record IsWorldOf (n : ℕ) (log : Log) (p : PartitionState) (world : World) : Type 0 where
   pub load : world.load ≡ p.load
   pub warehouse : world.warehouse ≡ p.warehouse
+  pub live : p.replays ≡ false
   pub log_is : world.log ≡ log
   pub kept : world.kept ≡ p.kept
   pub running : world.running ≡ option_map underway p.running

@@ -214,7 +214,7 @@ pub record Closes (old new : PartitionState) (child : ℕ) : Type 0 where
 
 -- a partition with the rows of one warehouse of a load, with nothing kept and no snapshot
 pub record Begins (lists : Lists) (number frames commits : ℕ) (p : PartitionState) : Type 0 where
-  pub terms : terms_of p ≡ record { load = lists; warehouse = number; max_kept = commits }
+  pub terms : terms_of p ≡ record { load = lists; warehouse = number; max_kept = commits; replays = false }
   pub seen : p.seen ≡ []
   pub kept : p.kept ≡ []
   pub drained : p.drained ≡ 0

@@ -34,7 +34,7 @@ use Rattle.hy_ledger.specs.Books.{new_book}
 use Rattle.hy_passes.specs.Worlds.{PassState, new_client}
 use Rattle.hy_partition.specs.Accounts.{with_command}
 use Rattle.hy_partition.specs.Jobs.{RunningJob, begun, entered_by, is_last, refused_answer, share_of}
-use Rattle.hy_partition.specs.Partition.{PartitionState, outcome_now, rows_now}
+use Rattle.hy_partition.specs.Partition.{PartitionState, is_new, may_run, outcome_now, rows_now, undrained}
 use Rattle.hy_partition.specs.Headline.{Headline, SpellsBeginning}
 use Rattle.hy_partition.specs.Steps.{begin_refusal}
 
@@ -51,6 +51,7 @@ with_kept kept max_kept = record {
   load = record { items = items; tables = sample };
   warehouse = 1;
   max_kept = max_kept;
+  replays = false;
   seen = map (λ commit. record { commit = commit; stamp = 0 }) kept;
   kept = kept;
   drained = 0;
@@ -105,7 +106,33 @@ begun_by_first_edition : begun (record { edition = editions.First; command = pay
     ≡ record (job pay 0) { edition = editions.First }
 begun_by_first_edition = refl
 
+-- by the first edition a command runs only while a log is replayed
+by_which_it_may : map (may_run false) (editions.First ∷ editions.Second ∷ []) ≡ false ∷ true ∷ []
+by_which_it_may = refl
+
+by_which_it_replays : map (may_run true) (editions.First ∷ editions.Second ∷ []) ≡ true ∷ true ∷ []
+by_which_it_replays = refl
+
 -- ---- what is kept and answered
+
+-- of three commits of which one was drained two are left, and none while a log is replayed
+abbrev thrice : PartitionState
+thrice = record (with_kept
+    (commits.Local editions.First pay ∷ commits.Local editions.Second pay ∷ commits.Cross editions.Second 1 pay ∷ []) 5) {
+      drained = 1;
+    }
+
+undrained_of_thrice : undrained thrice ≡ commits.Local editions.Second pay ∷ commits.Cross editions.Second 1 pay ∷ []
+undrained_of_thrice = refl
+
+undrained_while_replayed : undrained (record thrice { replays = true }) ≡ []
+undrained_while_replayed = refl
+
+new_of_thrice : map is_new thrice.kept ≡ false ∷ true ∷ true ∷ []
+new_of_thrice = refl
+
+old_crossing : is_new (commits.Cross editions.First 1 pay) ≡ false
+old_crossing = refl
 
 -- a command that only reads adds nothing
 kept_of_reader : full.kept ++ kept_of editions.Second (status 1) ≡ full.kept
@@ -227,6 +254,7 @@ small = record {
   load = record { items = []; tables = record no_rows { warehouses = before ∷ [] } };
   warehouse = 1;
   max_kept = 5;
+  replays = false;
   seen = [];
   kept = [];
   drained = 0;

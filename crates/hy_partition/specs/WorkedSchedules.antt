@@ -66,7 +66,7 @@ last = closed (record paid { waits = false }) 0
 
 abbrev events : List Event
 events =
-    forks 6 0 ∷ begins 5 editions.Second (status 1) ∷ steps ∷ takes ∷ begins 5 editions.Second pay ∷ steps ∷ forks 6 1
+    forks 6 0 ∷ begins 5 (status 1) ∷ steps ∷ takes ∷ begins 5 pay ∷ steps ∷ forks 6 1
     ∷ steps ∷ takes ∷ closes 0 ∷ []
 
 runs : Runs events (fresh_world lists 1) last
@@ -78,11 +78,11 @@ runs = (first, inr (refl, refl), begun)
     between : Runs (forks 6 1 ∷ steps ∷ takes ∷ closes 0 ∷ []) half last
     between = (opened half 1, inr (refl, refl), (paid, inr (inr (inl (refl, refl, refl))), after))
 
-    second : Runs (begins 5 editions.Second pay ∷ steps ∷ forks 6 1 ∷ steps ∷ takes ∷ closes 0 ∷ []) idle last
+    second : Runs (begins 5 pay ∷ steps ∷ forks 6 1 ∷ steps ∷ takes ∷ closes 0 ∷ []) idle last
     second = (paying, inr (refl, refl, refl, refl), (half, inr (inl (refl, refl)), between))
 
     begun : Runs
-        (begins 5 editions.Second (status 1) ∷ steps ∷ takes ∷ begins 5 editions.Second pay ∷ steps ∷ forks 6 1 ∷ steps
+        (begins 5 (status 1) ∷ steps ∷ takes ∷ begins 5 pay ∷ steps ∷ forks 6 1 ∷ steps
         ∷ takes ∷ closes 0 ∷ []) first last
     begun = (
       reading,
@@ -149,7 +149,7 @@ not_kept_as_second (inr (inr ended)) =
     let kept = ap (λ (w : World). length w.kept) ended in absurd (omega (arith, kept))
 
 -- a second command doesn't begin before the answer to the first is taken
-not_begun : Does (begins 5 editions.Second pay) read (record read { running = Some (job pay 0) }) → ⊥
+not_begun : Does (begins 5 pay) read (record read { running = Some (job pay 0) }) → ⊥
 not_begun does = let waits = does.1 in absurd (cc)
 
 -- a snapshot doesn't have other rows than those of all that is kept
@@ -175,6 +175,7 @@ small_is : IsWorldOf 64 [] small small_world
 small_is = record {
   load = refl;
   warehouse = refl;
+  live = refl;
   log_is = refl;
   kept = refl;
   running = refl;

@@ -1,6 +1,7 @@
 //! The partition of one warehouse.
 
 ghost use Rattle.std.specs.Prelude.{◌≡◌, ◌≢◌, ℕ, ◌+◌, ◌++◌, ◌∷◌, ◌<◌, ◌≤◌, ◌==◌, not, filter, true, false, vec_capacity, slice_index_or, ◌↔◌, ◌⊎◌, IsTrue, IsSome, IsSomeAnd, IfSome, List, [], length, take, Option, Some, None, Ok, Err, IfOk, IfErr, IsOk, IsOkAnd, OnOk, OnErr, MatchOption, MatchResult};
+ghost use Rattle.std.specs.List.{list_all};
 ghost use mathlib.Core.List.{IsPrefix};
 ghost use Rattle.hy_worlds.specs.Origins.{desk_of};
 ghost use Rattle.hy_rows.specs.Spelling.{Spells};
@@ -20,7 +21,7 @@ ghost use Rattle.hy_writers.specs.Waiting.{IsSoundStore};
 ghost use Rattle.hy_space.specs.Space.{SameForChildren, owner_bytes};
 ghost use Rattle.hy_partition.specs.Accounts.{IsBookOf};
 ghost use Rattle.hy_partition.specs.Headline.{Headline};
-ghost use Rattle.hy_partition.specs.Partition.{PartitionState, layout_of, projection_of, rows_now, undrained};
+ghost use Rattle.hy_partition.specs.Partition.{PartitionState, is_new, layout_of, may_run, projection_of, rows_now, undrained};
 ghost use Rattle.hy_partition.specs.Limits.{IsWhyUnmade, most_kept};
 ghost use Rattle.hy_partition.specs.inside.Soundness.{IsLaid};
 ghost use Rattle.hy_partition.specs.inside.Room.{IsUndone, LacksRoom, room_refusal};
@@ -57,6 +58,7 @@ pub struct Partition<const N: usize, K: Loaded> {
     desk: Desk<K>,
     book: Book<K>,
     max_kept: u64,
+    replays: bool,
     drained: usize,
     running: Option<Running<K>>,
     part: Option<Part>,
@@ -114,6 +116,7 @@ impl<const N: usize, K: Loaded> Partition<N, K> {
                     desk,
                     book,
                     max_kept,
+                    replays: false,
                     drained: 0,
                     running: None,
                     part: None,
@@ -135,12 +138,14 @@ impl<const N: usize, K: Loaded> Partition<N, K> {
     }
 
     /// That the load is a load, and the one that the world names, and the warehouse one of the kit; that no more was
-    /// drained than is kept, and no more is kept than may be; and that the book has what was taken in.
+    /// drained than is kept, and no more is kept than may be; that what isn't drained is of the second edition; and that the
+    /// book has what was taken in.
     pub fn ties(&self)
         ensures load { self.now.load ≡ K.load }
         ensures sound { IsLoad self.now.load }
         ensures range { (1 ≤ self.now.warehouse) × (self.now.warehouse ≤ K.passes.partitions) }
         ensures drained { self.now.drained ≤ length self.now.kept }
+        ensures new { list_all is_new (undrained self.now) ≡ true }
         ensures few { length self.now.kept ≤ self.now.max_kept }
         ensures limit { self.now.max_kept ≤ most_kept }
         ensures book { IsBookOf self.now.load self.now.warehouse self.now.kept self.now.book }
@@ -149,11 +154,12 @@ impl<const N: usize, K: Loaded> Partition<N, K> {
         let _drained = self.drained;
     }
 
-    /// Begins a job, and makes room for its commit, if it will have one. A refusal gives the job back and changes
-    /// nothing. It is the first of these that holds: E9 where a job runs, the part of a command over several warehouses
-    /// is done, or an answer wasn't taken; E8, E4, E5, E6 of the command; E3 where the command doesn't only read and as
-    /// many commits are kept as may be; E1.
+    /// Begins a job, and makes room for its commit, if it will have one. A job of the first edition begins only while a log
+    /// is replayed. A refusal gives the job back and changes nothing. It is the first of these that holds: E9 where a job
+    /// runs, the part of a command over several warehouses is done, or an answer wasn't taken; E8, E4, E5, E6 of the
+    /// command; E3 where the command doesn't only read and as many commits are kept as may be; E1.
     pub fn begin(&mut self, job: Job<K>) -> Result<(), (Job<K>, Refusal)>
+        requires edition { may_run self.old.replays job.edition ≡ true }
         ensures begun { OnOk result (self.new ≡ with_job self.old job) }
         ensures accepted { OnOk result (begin_refusal self.old job.command ≡ None) }
         ensures refused { IfErr result (λ refused. IsUnbegun self.old job.command refused.1) }
@@ -380,13 +386,14 @@ impl<const N: usize, K: Loaded> Partition<N, K> {
         self.kept.tell(journal);
     }
 
-    /// Does the part of a command over several warehouses, which the database doesn't refuse, by an edition, and makes
-    /// room for its commit. The warehouse whose customer the command names answers the reply. A refusal undoes what was
-    /// done: E2 where no frame is free, or E1.
+    /// Does the part of a command over several warehouses, which the database doesn't refuse, by an edition, the first one
+    /// only while a log is replayed, and makes room for its commit. The warehouse whose customer the command names answers
+    /// the reply. A refusal undoes what was done: E2 where no frame is free, or E1.
     pub fn do_part(&mut self, edition: Edition, command: Command) -> Result<Option<Reply>, Refusal>
         requires idle { (self.old.running ≡ None) × (self.old.part ≡ None) }
         requires has_part { HasPart (layout_of self.old) command }
         requires few { length self.old.kept < self.old.max_kept }
+        requires edition { may_run self.old.replays edition ≡ true }
         ensures done { IfOk result (DoesPart edition command self.old self.new) }
         ensures pages { OnOk result (Spells N (owner_bytes self.new.space) (rows_with_part self.old edition command)) }
         ensures undone { OnErr result (HasNoPart self.old self.new) }
@@ -480,10 +487,13 @@ impl<const N: usize, K: Loaded> Partition<N, K> {
         self.kept.list()
     }
 
-    /// The commits since the last drain, in order.
+    /// The commits since the last drain, in order. There are none while a log is replayed.
     pub fn undrained(&self) -> &[Commit]
         ensures { result.now ≡ undrained self.now }
     {
+        if self.replays {
+            return &[];
+        }
         &self.kept.list()[self.drained..]
     }
 
@@ -492,6 +502,24 @@ impl<const N: usize, K: Loaded> Partition<N, K> {
         ensures { self.new ≡ record self.old { drained = length self.old.kept } }
     {
         self.drained = self.kept.list().len();
+    }
+
+    /// Begins the replay of a log, whose commits may be of the first edition. They come from the log, so that none of them is
+    /// drained into one again.
+    pub fn begin_replay(&mut self)
+        requires { self.old.kept ≡ [] }
+        ensures { self.new ≡ record self.old { replays = true } }
+    {
+        self.replays = true;
+    }
+
+    /// Ends it: all commits count as drained, and new ones are of the second edition.
+    pub fn end_replay(&mut self)
+        requires { (self.old.running ≡ None) × (self.old.part ≡ None) }
+        ensures { self.new ≡ record self.old { drained = length self.old.kept; replays = false } }
+    {
+        self.mark_drained();
+        self.replays = false;
     }
 
     /// The accounts: the commits of this warehouse, and the cents that it took in since the load.

@@ -7,6 +7,7 @@ ghost use Rattle.hy_passes.specs.SerialList.{names};
 ghost use Rattle.hy_rows.specs.Tables.{Lists};
 ghost use Rattle.hy_schema.specs.Loads.{IsLoad};
 ghost use Rattle.hy_commands.specs.declared.command.Commit.{Commit};
+ghost use Rattle.hy_commands.specs.declared.edition.Edition.TheVariants as editions;
 ghost use Rattle.hy_commands.specs.Commands.{warehouses_of_commit};
 ghost use Rattle.hy_commands.specs.Replay.{HasWarehouse};
 ghost use Rattle.hy_partition.specs.declared.job.Progress.{Progress};
@@ -26,15 +27,17 @@ pub fn every_schedule()
 {}
 
 /// Does nothing: its contract says that the calls on a partition are events of the model: what `new`, `begin`, `step`,
-/// `take_done`, `fork` and `close` promise leads from a partition with its world to one with the world after the event. A
-/// call that is refused leaves the world, also a fork that was refused half-way. A look of a client, and a commit that
-/// enters the serial list from another partition, leave the partition, and are events too.
+/// `take_done`, `fork` and `close` promise leads from a partition with its world to one with the world after the event;
+/// a job that begins is of the second edition, as it has to be where no log is replayed. A call that is refused leaves the
+/// world, also a fork that was refused half-way. A look of a client, and a commit that enters the serial list from another
+/// partition, leave the partition, and are events too.
 pub fn calls_are_events()
     ensures new { (n : ℕ) (lists : Lists) (number frames commits : ℕ) (p : PartitionState)
         → Begins lists number frames commits p → IsWorldOf n [] p (fresh_world lists number) }
     ensures begin { (n : ℕ) (log : Log) (p q : PartitionState) (world : World) (job : JobState) → IsWorldOf n log p world
-        → world.known job.pass.client ≡ length job.pass.seen → begin_refusal p job.command ≡ None → q ≡ with_job p job
-        → Leads n (begins job.pass.client job.edition job.command) world log q }
+        → world.known job.pass.client ≡ length job.pass.seen → job.edition ≡ editions.Second
+        → begin_refusal p job.command ≡ None → q ≡ with_job p job
+        → Leads n (begins job.pass.client job.command) world log q }
     ensures step { (n : ℕ) (log after : Log) (p q : PartitionState) (world : World) (job : RunningJob)
         (progress : Progress) → IsWorldOf n log p world → p.running ≡ Some job
         → StepsTo job (Some log) (Some after) p q progress → Leads n steps world after q }

@@ -19,6 +19,7 @@ use Rattle.hy_commands.specs.declared.command.Who.TheVariants as who
 use Rattle.hy_commands.specs.declared.reply.Reply.{Reply}
 use Rattle.hy_commands.specs.declared.reply.Reply.TheVariants as replies
 use Rattle.hy_commands.specs.declared.edition.Edition.{Edition}
+use Rattle.hy_commands.specs.declared.edition.Edition.TheVariants as editions
 use Rattle.hy_commands.specs.Customers.{customer_meant}
 use Rattle.hy_commands.specs.Parts.{Database, by_number, customer_home_of, database_of, is_by_number, refusal_in}
 use Rattle.hy_commands.specs.Transactions.{accepted, has_customer}
@@ -29,7 +30,7 @@ use Rattle.hy_batches.specs.Grammar.{names}
 use Rattle.hy_partition.specs.Jobs.{DoneState, JobState, Log, RunningJob, told}
 use Rattle.hy_partition.specs.Partition.{PartitionState, terms_of}
 use Rattle.hy_partition.specs.Steps.{is_full}
-use Rattle.hy_crossing.specs.Crossings.{AcceptsAll, Crosses, EndsIfNamed, KeepsIfNamed, RefusesAll, TellsIfNamed, crossing_entry, crossing_refusal, database_behind, entry_of, is_named, next_number, some_is_full, with_full}
+use Rattle.hy_crossing.specs.Crossings.{AcceptsAll, AllMayRun, Crosses, EndsIfNamed, KeepsIfNamed, RefusesAll, TellsIfNamed, crossing_entry, crossing_refusal, database_behind, entry_of, is_named, next_number, some_is_full, with_full}
 use Rattle.hy_crossing.specs.Lists.{InTurn, Pairwise}
 use Rattle.hy_crossing.proofs.AcceptLaws.{same-refusal}
 use Rattle.hy_crossing.proofs.PairLaws.{pairs-then}
@@ -64,6 +65,12 @@ still-all command number before after [] (new ∷ news) rest turn = absurd turn
 still-all command number before after (old ∷ olds) [] rest turn = absurd turn
 
 -- ---- a command that names its customer by number is kept as it is
+
+-- where all partitions replay a log, commands may run in all by either edition
+pub all-may : (edition : Edition) (parts : List PartitionState)
+    → ((place : ℕ) → IfSome (slice_get parts place) (λ p. p.replays ≡ true)) → AllMayRun edition parts
+all-may editions.First parts all = all
+all-may editions.Second parts all = tt
 
 module _ (database : Database) (command : Command) (unrefused : refusal_in database command ≡ None) where
   abbrev rows : Tables

@@ -1,4 +1,4 @@
--- The end of a recovery: all partitions are marked, and why there is none.
+-- The end of a recovery: the replay ends in all partitions, and why there is none.
 use Rattle.std.proofs.Common.{◌≡◌, ◌⊎◌, ◌<◌, ◌≤◌, ℕ, suc, List, [], length, Result, Ok, Err, Some, None, inl, inr, refl, sym, ap, ◌∙◌, subst, arith}
 use Rattle.std.specs.Prelude.{IfSome, slice_get}
 use Rattle.hy_rows.specs.Tables.{Lists}
@@ -10,35 +10,35 @@ use Rattle.hy_partition.specs.Partition.{PartitionState}
 use Rattle.hy_crossing.specs.Crossings.{ArePartitions, HaveNoPart}
 use Rattle.hy_sound.specs.Sound.{IsSoundLog, Looks}
 use Rattle.hy_recovery.specs.Recovering.{IsWhyUnrecovered, NoneAreTooMany}
-use Rattle.hy_recovery.specs.inside.Ways.{Aim, AreThere, IsBound, IsShortage, Marked, Marks}
+use Rattle.hy_recovery.specs.inside.Ways.{Aim, AreThere, IsBound, IsShortage, Becomes, replayed}
 use Rattle.hy_recovery.proofs.PlaceLaws.{at-place, each-from, get-some, get-within}
 
--- ---- marked partitions are those of the load
+-- ---- the partitions are those of the load still
 
 module _ (lists : Lists) (aim : Aim) (log : Log) (parts : List PartitionState) (there : AreThere lists aim log parts)
-    (marked : List PartitionState) (marks : Marks parts marked) where
-  bound-before : (place : ℕ) (new : PartitionState) → slice_get marked place ≡ Some new
-      → (old : PartitionState) × IsBound lists aim [] place old × Marked old new
+    (ended : List PartitionState) (becomes : Becomes replayed parts ended) where
+  bound-before : (place : ℕ) (new : PartitionState) → slice_get ended place ≡ Some new
+      → (old : PartitionState) × IsBound lists aim [] place old × (new ≡ replayed old)
   bound-before place new at =
-      let within : place < length parts = omega (arith, get-within marked place new at, marks.count) in
+      let within : place < length parts = omega (arith, get-within ended place new at, becomes.count) in
       let first = get-some parts place within in (
         first.0,
         at-place (IsBound lists aim [] place) parts place first.0 first.1 (there.each place),
-        marks.each place first.0 new first.1 at,
+        becomes.each place first.0 new first.1 at,
       )
 
-  pub marked-partitions : ArePartitions lists marked
-  marked-partitions = record {
-    count = marks.count ∙ there.count;
-    each = λ place. each-from _ (slice_get marked place) (λ new at.
+  pub ended-partitions : ArePartitions lists ended
+  ended-partitions = record {
+    count = becomes.count ∙ there.count;
+    each = λ place. each-from _ (slice_get ended place) (λ new at.
         let before = bound-before place new at in (
           ap (λ (p : PartitionState). p.load) before.2 ∙ ap (λ t. t.load) before.1.terms,
           ap (λ (p : PartitionState). p.warehouse) before.2 ∙ ap (λ t. t.warehouse) before.1.terms,
         ));
   }
 
-  pub marked-whole : HaveNoPart marked
-  marked-whole place = each-from _ (slice_get marked place) (λ new at.
+  pub ended-whole : HaveNoPart ended
+  ended-whole place = each-from _ (slice_get ended place) (λ new at.
       let before = bound-before place new at in
       ap (λ (p : PartitionState). p.part) before.2 ∙ before.1.rest.part)
 

@@ -1,5 +1,5 @@
 -- The batches of a log one behind another.
-use Rattle.std.proofs.Common.{◌≡◌, ◌<◌, ◌≤◌, ◌+◌, ◌&&◌, ℕ, zero, suc, true, List, [], ◌∷◌, ◌++◌, take, drop, length, Option, Some, None, refl, sym, ap, ◌∙◌, subst, arith, length-append}
+use Rattle.std.proofs.Common.{◌≡◌, ◌<◌, ◌≤◌, ◌+◌, ◌&&◌, ℕ, zero, suc, true, false, List, [], ◌∷◌, ◌++◌, take, drop, length, Option, Some, None, refl, sym, ap, ◌∙◌, subst, arith, length-append}
 use Rattle.std.specs.Prelude.{IfSome, IsSomeAnd, nat_le, slice_get, slice_index_or}
 use Rattle.std.specs.List.{flat_map, list_all}
 use Rattle.std.proofs.lemmas.Bool.{and_parts}
@@ -16,7 +16,7 @@ use Rattle.hy_batches.specs.Batches.{Batch, is_edition, may_follow}
 use Rattle.hy_batches.specs.Grammar.{are_batches, are_batches_behind, are_lists, commit_fits, fits, is_allowed, is_batch, is_commit, is_list}
 use Rattle.hy_batches.proofs.ListLaws.{flat_map-taken}
 use Rattle.hy_partition.specs.Jobs.{Log}
-use Rattle.hy_partition.specs.Partition.{PartitionState, terms_of}
+use Rattle.hy_partition.specs.Partition.{PartitionState, Terms, terms_of}
 use Rattle.hy_partition.specs.Steps.{Begins}
 use Rattle.hy_crossing.specs.Crossings.{next_number}
 use Rattle.hy_crossing.specs.Lists.{Pairwise}
@@ -30,7 +30,7 @@ use Rattle.hy_sound.proofs.LogLaws.{sound-next}
 use Rattle.hy_sound.proofs.MergeLaws.{left-first}
 use Rattle.hy_sound.proofs.SoundLaws.{sound-from}
 use Rattle.hy_recovery.specs.Recovering.{AreRecovered, GoesOn, IsRecovered, NoneAreTooMany, joined}
-use Rattle.hy_recovery.specs.inside.Ways.{Aim, AreOnWay, AreThere, IsBound, Marked, Marks, crossings_in, may_stand, untouched}
+use Rattle.hy_recovery.specs.inside.Ways.{Aim, AreOnWay, AreThere, IsBound, Becomes, crossings_in, may_stand, replayed, replaying, untouched}
 use Rattle.hy_recovery.proofs.PlaceLaws.{at-place, each-from, get-some, get-within, pairs-at}
 
 -- ---- lists
@@ -129,22 +129,30 @@ pub record AreRun (lists : Lists) (batches : List Batch) (frames most place : �
   pub later : AreSound lists last total (drop place batches)
 
 pub run-none : (lists : Lists) (batches : List Batch) (frames most total : ℕ) (log : Log)
-    (parts : List PartitionState) → AllBegin lists frames most parts → log ≡ [] → AreSound lists 0 total batches
+    (first parts : List PartitionState) → AllBegin lists frames most first → Becomes replaying first parts → log ≡ []
+    → AreSound lists 0 total batches
     → AreRun lists batches frames most 0 log parts
-run-none lists batches frames most total log parts begin none sound = record {
+run-none lists batches frames most total log first parts begin becomes none sound = record {
   last = 0;
   total = total;
   there = record {
-    count = begin.count;
+    count = becomes.count ∙ begin.count;
     each = λ place. each-from _ (slice_get parts place) (λ p at.
-        let is = at-place (Begins lists (suc place) frames most) parts place p at (begin.each place) in
+        let within : place < length first = omega (arith, get-within parts place p at, becomes.count) in
+        let old = get-some first place within in
+        let was = at-place (Begins lists (suc place) frames most) first place old.0 old.1 (begin.each place) in
+        let same : p ≡ replaying old.0 = becomes.each place old.0 p old.1 at in
         record {
-          terms = is.terms;
-          kept = append-nil p.kept ∙ is.kept;
-          drained = is.drained;
-          rest = record { running = is.running; part = is.part; finished = is.finished };
-          max_frames = is.max_frames;
-          snapshots = is.snapshots;
+          terms = ap terms_of same ∙ ap (λ (t : Terms). record t { replays = true }) was.terms;
+          kept = append-nil p.kept ∙ ap (λ (p : PartitionState). p.kept) same ∙ was.kept;
+          drained = ap (λ (p : PartitionState). p.drained) same ∙ was.drained;
+          rest = record {
+            running = ap (λ (p : PartitionState). p.running) same ∙ was.running;
+            part = ap (λ (p : PartitionState). p.part) same ∙ was.part;
+            finished = ap (λ (p : PartitionState). p.finished) same ∙ was.finished;
+          };
+          max_frames = ap (λ (p : PartitionState). p.space.frames.max) same ∙ was.max_frames;
+          snapshots = λ child. ap (λ (p : PartitionState). slice_index_or p.snapshots child None) same ∙ was.snapshots child;
         });
     last = ap crossings_in none;
   };
@@ -225,32 +233,32 @@ module _ (lists : Lists) (batches : List Batch) (frames most place : ℕ) (log :
     (omega (arith, run.there.last)),
   )
 
-  pub recovered : (marked told : List PartitionState) → Marks parts marked → Pairwise (TellsHere log) 1 marked told
-      → length told ≡ length marked → AreRecovered lists frames most batches told
-  recovered marked told marks tells count = record {
-    count = count ∙ marks.count ∙ run.there.count;
+  pub recovered : (ended told : List PartitionState) → Becomes replayed parts ended → Pairwise (TellsHere log) 1 ended told
+      → length told ≡ length ended → AreRecovered lists frames most batches told
+  recovered ended told becomes tells count = record {
+    count = count ∙ becomes.count ∙ run.there.count;
     each = λ k. each-from _ (slice_get told k) (λ new there.
-        by k new there (slice_get marked k) refl
-        (at-place (λ new. IsSomeAnd (slice_get marked k) (λ old. TellsHere log (1 + k) old new)) told k new there
-        (pairs-at (TellsHere log) 1 marked told tells k)));
+        by k new there (slice_get ended k) refl
+        (at-place (λ new. IsSomeAnd (slice_get ended k) (λ old. TellsHere log (1 + k) old new)) told k new there
+        (pairs-at (TellsHere log) 1 ended told tells k)));
   }
     where
       by : (k : ℕ) (new : PartitionState) → slice_get told k ≡ Some new → (found : Option PartitionState)
-          → slice_get marked k ≡ found → IsSomeAnd found (λ old. TellsHere log (1 + k) old new)
+          → slice_get ended k ≡ found → IsSomeAnd found (λ old. TellsHere log (1 + k) old new)
           → IsRecovered lists frames most (joined batches k) (suc k) new
       by k new there None at has = absurd has
       by k new there (Some middle) at has =
-          let within : k < length parts = omega (arith, get-within marked k middle at, marks.count) in
+          let within : k < length parts = omega (arith, get-within ended k middle at, becomes.count) in
           let first = get-some parts k within in
           let is = at-place (IsBound lists (aim_of batches frames most place run.last) [] k) parts k first.0 first.1
           (run.there.each k) in
-          let mark : Marked first.0 middle = marks.each k first.0 middle first.1 at in
-          let same : new ≡ record first.0 { seen = log; drained = length first.0.kept } =
+          let mark : middle ≡ replayed first.0 = becomes.each k first.0 middle first.1 at in
+          let same : new ≡ record first.0 { seen = log; drained = length first.0.kept; replays = false } =
           has.0 ∙ ap (λ (p : PartitionState). record p { seen = log }) mark in
           let goal : first.0.kept ≡ joined batches k =
           sym (append-nil first.0.kept) ∙ is.kept ∙ ap (λ rows. joined rows k) whole in
           record {
-            terms = ap terms_of same ∙ is.terms;
+            terms = ap terms_of same ∙ ap (λ (t : Terms). record t { replays = false }) is.terms;
             kept = ap (λ (p : PartitionState). p.kept) same ∙ goal;
             drained =
                 ap (λ (p : PartitionState). p.drained) same

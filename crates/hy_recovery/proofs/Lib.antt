@@ -4,5 +4,5 @@ pub mod CrossedLaws
 pub mod WayLaws
 pub mod JoinedLaws
 pub mod ResultLaws
-pub mod MarkLaws
+pub mod BecomeLaws
 pub mod EndLaws

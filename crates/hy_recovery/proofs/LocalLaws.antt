@@ -16,6 +16,7 @@ use Rattle.hy_commands.specs.declared.command.Commit.TheVariants as commits
 use Rattle.hy_commands.specs.declared.reply.Reply.{Reply}
 use Rattle.hy_commands.specs.declared.reply.Reply.TheVariants as replies
 use Rattle.hy_commands.specs.declared.edition.Edition.{Edition}
+use Rattle.hy_commands.specs.declared.edition.Edition.TheVariants as editions
 use Rattle.hy_commands.specs.Commands.{is_in_range, is_reader, kept_of, warehouses_of}
 use Rattle.hy_commands.specs.Customers.{identity_of}
 use Rattle.hy_commands.specs.Parts.{customer_home_of, database_of, is_there, refusal_in, rows_of}
@@ -26,12 +27,17 @@ use Rattle.hy_commands.proofs.SameCustomers.{has_customer-same, same-customers}
 use Rattle.hy_database.proofs.PartLaws.{named-customer_home}
 use Rattle.hy_batches.specs.Grammar.{command_fits, is_allowed, names, names_several}
 use Rattle.hy_partition.specs.Jobs.{DoneState, JobState, Log, RunningJob, accepted_answer, begun, entered_by, refused_answer, told}
-use Rattle.hy_partition.specs.Partition.{PartitionState, outcome_now, refusal_now, rows_now, terms_of}
+use Rattle.hy_partition.specs.Partition.{PartitionState, may_run, outcome_now, refusal_now, rows_now, terms_of}
 use Rattle.hy_partition.specs.Steps.{Accepts, Ends, IsUnbegun, Refuses, begin_refusal, is_busy, is_full, with_job}
 use Rattle.hy_sound.specs.Sound.{is_known}
 use Rattle.hy_recovery.specs.inside.Ways.{CanRunLocal, Enters, IsAtRest, IsShortage, KeepsOne}
 
 -- ---- what such a command has passed
+
+-- where a log is replayed, commands may run by either edition
+pub may-replay : (replays : Bool) (edition : Edition) → replays ≡ true → may_run replays edition ≡ true
+may-replay replays editions.First is = is
+may-replay replays editions.Second is = refl
 
 pub none-is : {Row : Type 0} (found : Option Row) → is_none found ≡ true → found ≡ None
 none-is None is = refl

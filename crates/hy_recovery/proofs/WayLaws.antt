@@ -67,6 +67,11 @@ module _ (lists : Lists) (aim : Aim) (merge : MergeState) (log : Log) (parts : L
   way-rest place = each-from IsAtRest (slice_get parts place) (λ p at.
       (at-place (IsBound lists aim (left_of merge place) place) parts place p at (way.each place)).rest)
 
+  way-replays : (place : ℕ) → IfSome (slice_get parts place) (λ p. p.replays ≡ true)
+  way-replays place = each-from (λ p. p.replays ≡ true) (slice_get parts place) (λ p at.
+      ap (λ t. t.replays)
+      (at-place (IsBound lists aim (left_of merge place) place) parts place p at (way.each place)).terms)
+
   -- where a commit is left, there is room for it
   room : (place : ℕ) (p : PartitionState) (commit : Commit) → slice_get parts place ≡ Some p
       → next_of (left_of merge place) ≡ Some commit → length p.kept < p.max_kept
@@ -106,6 +111,7 @@ module _ (lists : Lists) (aim : Aim) (merge : MergeState) (log : Log) (parts : L
     pub can-local : CanRunLocal edition command p
     can-local = record {
       rest = bound.rest;
+      replays = ap (λ t. t.replays) bound.terms;
       allowed =
           ap (λ t. may_stand t.warehouse (commits.Local edition command)) bound.terms
           ∙ allowed-next place (commits.Local edition command) within next;
@@ -198,6 +204,7 @@ module _ (lists : Lists) (aim : Aim) (merge : MergeState) (log : Log) (parts : L
       known = known-crossing lists (crossings_in log) edition number command merge finds aim.last way.sound;
       next = finds.0;
       rest = way-rest;
+      replays = way-replays;
       few = λ place. each-from _ (slice_get parts place) (λ p at named.
           room place p (commits.Cross edition number command) at
           (next-here place (omega (arith, get-within parts place p at, way.lists_are)) named));

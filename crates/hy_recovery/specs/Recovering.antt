@@ -1,5 +1,5 @@
 -- What is recovered from the batches of a log.
-use Rattle.std.specs.Prelude.{◌≡◌, ℕ, suc, ◌<◌, ◌≤◌, List, length, slice_get, IfSome, None}
+use Rattle.std.specs.Prelude.{◌≡◌, false, ℕ, suc, ◌<◌, ◌≤◌, List, length, slice_get, IfSome, None}
 use Rattle.std.specs.List.{flat_map}
 use Rattle.hy_rows.specs.Tables.{Lists}
 use Rattle.hy_schema.specs.declared.refusal.Refusal.{Refusal}
@@ -15,11 +15,11 @@ use Rattle.hy_sound.specs.Sound.{AreSound, IsFirstUnsound, IsSoundLog, list_at}
 abbrev pub joined : List Batch → ℕ → List Commit
 joined batches place = flat_map (λ batch. list_at batch.lists place) batches
 
--- the partition of the warehouse with a number of a load, with these commits kept and drained; nothing runs there, no
--- answer waits, no snapshot is open
+-- the partition of the warehouse with a number of a load, with these commits kept and drained; no log is replayed any
+-- more, nothing runs there, no answer waits, no snapshot is open
 pub record IsRecovered (lists : Lists) (frames most : ℕ) (commits : List Commit) (number : ℕ) (p : PartitionState)
     : Type 0 where
-  pub terms : terms_of p ≡ record { load = lists; warehouse = number; max_kept = most }
+  pub terms : terms_of p ≡ record { load = lists; warehouse = number; max_kept = most; replays = false }
   pub kept : p.kept ≡ commits
   pub drained : p.drained ≡ length p.kept
   pub running : p.running ≡ None

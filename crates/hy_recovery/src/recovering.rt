@@ -11,7 +11,7 @@ ghost use Rattle.hy_partition.specs.Partition.{PartitionState};
 ghost use Rattle.hy_crossing.specs.Crossings.{ArePartitions, HaveNoPart, database_behind};
 ghost use Rattle.hy_forks.specs.Histories.{IsOneHistory};
 ghost use Rattle.hy_recovery.specs.Recovering.{AreRecovered, GoesOn, IsWhyUnrecovered};
-ghost use Rattle.hy_recovery.specs.inside.Ways.{Marks};
+ghost use Rattle.hy_recovery.specs.inside.Ways.{Becomes, replayed, replaying};
 
 use crate::counting::some_are_too_many;
 use crate::replaying::run_batch;
@@ -27,12 +27,23 @@ use hy_schema::Refusal;
 use hy_sound::check_log;
 use std::alloc::Global;
 
-/// Notes for each partition that all its commits were drained.
-fn mark_all<const N: usize, K: Loaded>(parts: &mut Vec<Partition<N, K>>)
-    ensures { Marks parts.old.items parts.new.items }
+/// Begins the replay in each partition.
+fn begin_all<const N: usize, K: Loaded>(parts: &mut Vec<Partition<N, K>>)
+    requires { (place : ℕ) → IfSome (slice_get parts.old.items place) (λ p. p.kept ≡ []) }
+    ensures { Becomes replaying parts.old.items parts.new.items }
 {
     for place in 0..parts.len() {
-        parts[place].mark_drained();
+        parts[place].begin_replay();
+    }
+}
+
+/// Ends it in each.
+fn end_all<const N: usize, K: Loaded>(parts: &mut Vec<Partition<N, K>>)
+    requires { (place : ℕ) → IfSome (slice_get parts.old.items place) (λ p. (p.running ≡ None) × (p.part ≡ None)) }
+    ensures { Becomes replayed parts.old.items parts.new.items }
+{
+    for place in 0..parts.len() {
+        parts[place].end_replay();
     }
 }
 
@@ -77,10 +88,11 @@ pub fn recover<const N: usize, K: Loaded>(
         return Err(Refusal::HistoryFull);
     }
     let mut parts = partitions_of::<N, K>(alloc, load, seats, max_frames, max_kept)?;
+    begin_all(&mut parts);
     for place in 0..batches.count() as usize {
         pass = run_batch(alloc, &mut parts, &mut journal, batches.batch(place), pass)?;
     }
-    mark_all(&mut parts);
+    end_all(&mut parts);
     find_history(&mut parts, &mut journal);
     load.sound();
     every_database_is_consistent();

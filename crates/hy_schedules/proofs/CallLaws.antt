@@ -49,6 +49,7 @@ place-carried n log after whole next number p place load log_is is = record {
   world = record {
     load = load ∙ is.world.load;
     warehouse = is.world.warehouse;
+    live = is.world.live;
     log_is = log_is;
     kept = is.world.kept;
     running = is.world.running;
@@ -197,6 +198,7 @@ place-beside n log after whole next number p q place kept drained beside load lo
   world = record {
     load = load ∙ is.world.load ∙ sym (ap (λ t. t.load) beside.terms);
     warehouse = is.world.warehouse ∙ sym (ap (λ t. t.warehouse) beside.terms);
+    live = ap (λ t. t.replays) beside.terms ∙ is.world.live;
     log_is = log_is;
     kept = kept_is;
     running = is.world.running ∙ sym (ap (option_map underway) beside.running);
@@ -231,7 +233,7 @@ terms-step old new job does = elim does [
 
 terms-event : (event : Event) (old new : World) → Does event old new
     → (new.load ≡ old.load) × (new.warehouse ≡ old.warehouse)
-terms-event (begins client edition command) old new does =
+terms-event (begins client command) old new does =
     (ap (λ (w : World). w.load) does.3, ap (λ (w : World). w.warehouse) does.3)
 terms-event steps old new does = by old.running does
   where

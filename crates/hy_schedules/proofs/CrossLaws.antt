@@ -11,6 +11,8 @@ use Rattle.hy_schema.specs.Loads.{IsLoad}
 use Rattle.hy_schema.specs.declared.refusal.Refusal.{Refusal}
 use Rattle.hy_schema.specs.declared.refusal.Refusal.TheVariants as refusals
 use Rattle.hy_commands.specs.declared.command.Command.{Command}
+use Rattle.hy_commands.specs.declared.edition.Edition.{Edition}
+use Rattle.hy_commands.specs.declared.edition.Edition.TheVariants as editions
 use Rattle.hy_commands.specs.declared.command.Commit.{Commit}
 use Rattle.hy_commands.specs.Commands.{kept_of, warehouses_of, warehouses_of_commit}
 use Rattle.hy_commands.specs.Parts.{refusal_in}
@@ -77,6 +79,7 @@ module _ (n : ℕ) (log after : Log) (p q : PartitionState) (world : World) (is 
           is = record {
             load = is.load ∙ sym (ap (λ t. t.load) does.ends.rest.terms);
             warehouse = is.warehouse ∙ sym (ap (λ t. t.warehouse) does.ends.rest.terms);
+            live = ap (λ t. t.replays) does.ends.rest.terms ∙ is.live;
             log_is = sym grown;
             kept = sym kept;
             running = sym (ap (option_map underway) does.ends.running);
@@ -102,6 +105,7 @@ module _ (n : ℕ) (log after : Log) (p q : PartitionState) (world : World) (is 
           is = record {
             load = is.load ∙ sym (ap (λ t. t.load) ends.2.terms);
             warehouse = is.warehouse ∙ sym (ap (λ t. t.warehouse) ends.2.terms);
+            live = ap (λ t. t.replays) ends.2.terms ∙ is.live;
             log_is = is.log_is ∙ sym (same_Some after log refuses.log);
             kept = is.kept ∙ sym refuses.refused.nothing.kept;
             running = sym (ap (option_map underway) ends.0);
@@ -312,138 +316,141 @@ load-is n log lists whole (p ∷ parts) [] is are some = absurd is
 module _ (n : ℕ) (lists : Lists) (job : JobState) (log after : Log) (parts news : List PartitionState)
     (answer : DoneState) (whole : Whole) (is : IsWholeOf n log parts whole) (is_load : IsLoad lists)
     (are : ArePartitions lists parts) (several : nat_lt 1 (length (warehouses_of job.command)) ≡ true)
-    (known : whole.known job.pass.client ≡ length job.pass.seen) (does : Crosses lists job log after parts news answer)
-  where
-    from : EndedFrom n job.command 1 (length whole.places) does.log does.informs.ended [] whole
-    from = ended-turn n job.command 1 log does.log parts does.informs.ended [] whole.places whole refl refl is.0 is.1
-        does.informs.ends
+    (known : whole.known job.pass.client ≡ length job.pass.seen) (new : job.edition ≡ editions.Second)
+    (does : Crosses lists job log after parts news answer) where
+  from : EndedFrom n job.command 1 (length whole.places) does.log does.informs.ended [] whole
+  from = ended-turn n job.command 1 log does.log parts does.informs.ended [] whole.places whole refl refl is.0 is.1
+      does.informs.ends
 
-    abbrev ended_whole : Whole
-    ended_whole = from.next
+  abbrev ended_whole : Whole
+  ended_whole = from.next
 
-    load : ended_whole.load ≡ lists
-    load =
-        from.load
-        ∙ load-is n log lists whole parts whole.places is.1 are (omega (arith, are.count, is_load.warehouses.whole))
+  load : ended_whole.load ≡ lists
+  load =
+      from.load
+      ∙ load-is n log lists whole parts whole.places is.1 are (omega (arith, are.count, is_load.warehouses.whole))
 
-    -- partitions that were told stay as the model sees them
-    informed : ArePlacesOf n does.log ended_whole 1 does.middle ended_whole.places
-    informed =
-        places-same n does.log does.log ended_whole ended_whole (TellsIfNamed job.command does.log) told 1
-        does.informs.ended does.middle ended_whole.places does.informs.tells
-        (subst (λ (l : List Place). ArePlacesOf n does.log ended_whole 1 does.informs.ended l) (sym from.places)
-        from.are)
-      where
-        told : (number : ℕ) (p q : PartitionState) (place : Place) → TellsIfNamed job.command does.log number p q
-            → IsPlaceOf n does.log ended_whole number p place → IsPlaceOf n does.log ended_whole number q place
-        told number p q place tells was = elim tells [
-          | inl named ↦
-              subst (λ (now : PartitionState). IsPlaceOf n does.log ended_whole number now place) (sym named.1.0)
-              (place-stays n does.log ended_whole number p (record p { seen = does.log }) place
-              (beside-told p does.log p.drained) refl refl was)
-          | inr unnamed ↦
-              subst (λ (now : PartitionState). IsPlaceOf n does.log ended_whole number now place) (sym unnamed.1) was
-        ]
+  -- partitions that were told stay as the model sees them
+  informed : ArePlacesOf n does.log ended_whole 1 does.middle ended_whole.places
+  informed =
+      places-same n does.log does.log ended_whole ended_whole (TellsIfNamed job.command does.log) told 1
+      does.informs.ended does.middle ended_whole.places does.informs.tells
+      (subst (λ (l : List Place). ArePlacesOf n does.log ended_whole 1 does.informs.ended l) (sym from.places)
+      from.are)
+    where
+      told : (number : ℕ) (p q : PartitionState) (place : Place) → TellsIfNamed job.command does.log number p q
+          → IsPlaceOf n does.log ended_whole number p place → IsPlaceOf n does.log ended_whole number q place
+      told number p q place tells was = elim tells [
+        | inl named ↦
+            subst (λ (now : PartitionState). IsPlaceOf n does.log ended_whole number now place) (sym named.1.0)
+            (place-stays n does.log ended_whole number p (record p { seen = does.log }) place
+            (beside-told p does.log p.drained) refl refl was)
+        | inr unnamed ↦
+            subst (λ (now : PartitionState). IsPlaceOf n does.log ended_whole number now place) (sym unnamed.1) was
+      ]
 
-    -- refused, no part of it is left
-    crosses-refused : RefusesAll lists job does.log after does.middle news answer
-        → LeadsAll n (crosses job.pass.client job.edition job.command) whole after news
-    crosses-refused refuses = (
-      ended_whole,
-      record { several = several; ended = ended_whole; ends = from.ends; does = inl refl },
-      (
-        from.log_is ∙ sym refuses.log_is,
-        places-same n does.log after ended_whole ended_whole (LeavesIfNamed job.command) left 1 does.middle news
-            ended_whole.places refuses.parts informed,
-      ),
-    )
-      where
-        left : (number : ℕ) (p q : PartitionState) (place : Place) → LeavesIfNamed job.command number p q
-            → IsPlaceOf n does.log ended_whole number p place → IsPlaceOf n after ended_whole number q place
-        left number p q place leaves was =
-            let later = place-carried n does.log after ended_whole ended_whole number p place refl
-            (from.log_is ∙ sym refuses.log_is) was in
-            let same : q ≡ p → IsPlaceOf n after ended_whole number q place = λ same.
-            subst (λ (now : PartitionState). IsPlaceOf n after ended_whole number now place) (sym same) later in
-            elim leaves [
-              | inl named ↦ elim named.1 [
-                | inl stays ↦ same stays
-                | inr before ↦ place-stays n after ended_whole number p q place (beside-keeps p q before.beside)
-                    before.nothing.kept before.beside.drained later
-              ]
-              | inr unnamed ↦ same unnamed.1
+  -- refused, no part of it is left
+  crosses-refused : RefusesAll lists job does.log after does.middle news answer
+      → LeadsAll n (crosses job.pass.client job.command) whole after news
+  crosses-refused refuses = (
+    ended_whole,
+    record { several = several; ended = ended_whole; ends = from.ends; does = inl refl },
+    (
+      from.log_is ∙ sym refuses.log_is,
+      places-same n does.log after ended_whole ended_whole (LeavesIfNamed job.command) left 1 does.middle news
+          ended_whole.places refuses.parts informed,
+    ),
+  )
+    where
+      left : (number : ℕ) (p q : PartitionState) (place : Place) → LeavesIfNamed job.command number p q
+          → IsPlaceOf n does.log ended_whole number p place → IsPlaceOf n after ended_whole number q place
+      left number p q place leaves was =
+          let later = place-carried n does.log after ended_whole ended_whole number p place refl
+          (from.log_is ∙ sym refuses.log_is) was in
+          let same : q ≡ p → IsPlaceOf n after ended_whole number q place = λ same.
+          subst (λ (now : PartitionState). IsPlaceOf n after ended_whole number now place) (sym same) later in
+          elim leaves [
+            | inl named ↦ elim named.1 [
+              | inl stays ↦ same stays
+              | inr before ↦ place-stays n after ended_whole number p q place (beside-keeps p q before.beside)
+                  before.nothing.kept before.beside.drained later
             ]
+            | inr unnamed ↦ same unnamed.1
+          ]
 
-    -- accepted, it enters all lists that it names
-    crosses-accepted : AcceptsAll lists job does.log after does.middle news answer
-        → LeadsAll n (crosses job.pass.client job.edition job.command) whole after news
-    crosses-accepted accepts = (
-      next,
-      record { several = several; ended = ended_whole; ends = from.ends; does = inr (accepted, refl) },
-      (
-        log_is,
-        places-changed n does.log after ended_whole next (with_commit entry.commit)
-            (KeepsIfNamed job.command (entry_of lists job does.log).commit after) kept 1 does.middle news
-            ended_whole.places accepts.parts informed,
-      ),
-    )
-      where
-        entry : Entry Commit
-        entry = entry_behind ended_whole job.edition job.command (whole.known job.pass.client)
+  -- accepted, it enters all lists that it names
+  crosses-accepted : AcceptsAll lists job does.log after does.middle news answer
+      → LeadsAll n (crosses job.pass.client job.command) whole after news
+  crosses-accepted accepts = (
+    next,
+    record { several = several; ended = ended_whole; ends = from.ends; does = inr (accepted, refl) },
+    (
+      log_is,
+      places-changed n does.log after ended_whole next (with_commit entry.commit)
+          (KeepsIfNamed job.command (entry_of lists job does.log).commit after) kept 1 does.middle news
+          ended_whole.places accepts.parts informed,
+    ),
+  )
+    where
+      entry : Entry Commit
+      entry = entry_behind ended_whole job.command (whole.known job.pass.client)
 
-        next : Whole
-        next = with_entry ended_whole job.pass.client entry
+      next : Whole
+      next = with_entry ended_whole job.pass.client entry
 
-        accepted : refusal_behind ended_whole job.command ≡ None
-        accepted =
-            ap (λ (l : Lists). refusal_in (database_behind l ended_whole.log) job.command) load
-            ∙ ap (λ (list : Log). refusal_in (database_behind lists list) job.command) from.log_is
-            ∙ unrefused _ (refusal_in (database_behind lists does.log) job.command) accepts.accepted
+      accepted : refusal_behind ended_whole job.command ≡ None
+      accepted =
+          ap (λ (l : Lists). refusal_in (database_behind l ended_whole.log) job.command) load
+          ∙ ap (λ (list : Log). refusal_in (database_behind lists list) job.command) from.log_is
+          ∙ unrefused _ (refusal_in (database_behind lists does.log) job.command) accepts.accepted
 
-        entry_is : entry_of lists job does.log ≡ entry
-        entry_is =
-            sym (ap (λ (l : Lists). crossing_entry job.edition (kept_in (database_behind l ended_whole.log) job.command)
-            (whole.known job.pass.client) ended_whole.log) load
-            ∙ ap (λ (list : Log). crossing_entry job.edition (kept_in (database_behind lists list) job.command)
-            (whole.known job.pass.client) list) from.log_is
-            ∙ ap (λ stamp. crossing_entry job.edition (kept_in (database_behind lists does.log) job.command) stamp does.log) known)
+      entry_is : entry_of lists job does.log ≡ entry
+      entry_is =
+          sym (ap (λ (l : Lists). crossing_entry editions.Second (kept_in (database_behind l ended_whole.log) job.command)
+          (whole.known job.pass.client) ended_whole.log) load
+          ∙ ap (λ (list : Log). crossing_entry editions.Second (kept_in (database_behind lists list) job.command)
+          (whole.known job.pass.client) list) from.log_is
+          ∙ ap (λ stamp. crossing_entry editions.Second (kept_in (database_behind lists does.log) job.command) stamp does.log)
+          known
+          ∙ ap (λ (edition : Edition). crossing_entry edition (kept_in (database_behind lists does.log) job.command)
+          (length job.pass.seen) does.log) (sym new))
 
-        log_is : next.log ≡ after
-        log_is =
-            ap (λ (list : Log). list ++ entry ∷ []) from.log_is
-            ∙ ap (λ (one : Entry Commit). does.log ++ one ∷ []) (sym entry_is)
-            ∙ sym accepts.log_is
+      log_is : next.log ≡ after
+      log_is =
+          ap (λ (list : Log). list ++ entry ∷ []) from.log_is
+          ∙ ap (λ (one : Entry Commit). does.log ++ one ∷ []) (sym entry_is)
+          ∙ sym accepts.log_is
 
-        named_is : (number : ℕ) → names warehouses_of_commit number entry.commit ≡ is_named job.command number
-        named_is number =
-            ap (λ named. list_any (λ one. one == number) named)
-            (by_number-warehouses job.command
-            (customer_rows job.command (database_behind ended_whole.load ended_whole.log)))
+      named_is : (number : ℕ) → names warehouses_of_commit number entry.commit ≡ is_named job.command number
+      named_is number =
+          ap (λ named. list_any (λ one. one == number) named)
+          (by_number-warehouses job.command
+          (customer_rows job.command (database_behind ended_whole.load ended_whole.log)))
 
-        kept : (number : ℕ) (p q : PartitionState) (place : Place)
-            → KeepsIfNamed job.command (entry_of lists job does.log).commit after number p q
-            → IsPlaceOf n does.log ended_whole number p place
-            → IsPlaceOf n after next number q (with_commit entry.commit number place)
-        kept number p q place keeps was = elim keeps [
-          | inl named ↦
-              subst (λ b.
-              IsPlaceOf n after next number q (cond b (record place { kept = place.kept ++ entry.commit ∷ [] }) place))
-              (sym (named_is number ∙ named.0))
-              (place-beside n does.log after ended_whole next number p q place (place.kept ++ entry.commit ∷ [])
-              place.drained (beside-keeps p q named.1.beside) refl log_is
-              (ap (λ list. list ++ entry.commit ∷ []) was.world.kept
-              ∙ ap (λ (one : Entry Commit). p.kept ++ one.commit ∷ []) (sym entry_is) ∙ sym named.1.kept)
-              (was.drained ∙ sym named.1.beside.drained) was)
-          | inr unnamed ↦
-              subst (λ b.
-              IsPlaceOf n after next number q (cond b (record place { kept = place.kept ++ entry.commit ∷ [] }) place))
-              (sym (named_is number ∙ unnamed.0))
-              (subst (λ (now : PartitionState). IsPlaceOf n after next number now place) (sym unnamed.1)
-              (place-carried n does.log after ended_whole next number p place refl log_is was))
-        ]
+      kept : (number : ℕ) (p q : PartitionState) (place : Place)
+          → KeepsIfNamed job.command (entry_of lists job does.log).commit after number p q
+          → IsPlaceOf n does.log ended_whole number p place
+          → IsPlaceOf n after next number q (with_commit entry.commit number place)
+      kept number p q place keeps was = elim keeps [
+        | inl named ↦
+            subst (λ b.
+            IsPlaceOf n after next number q (cond b (record place { kept = place.kept ++ entry.commit ∷ [] }) place))
+            (sym (named_is number ∙ named.0))
+            (place-beside n does.log after ended_whole next number p q place (place.kept ++ entry.commit ∷ [])
+            place.drained (beside-keeps p q named.1.beside) refl log_is
+            (ap (λ list. list ++ entry.commit ∷ []) was.world.kept
+            ∙ ap (λ (one : Entry Commit). p.kept ++ one.commit ∷ []) (sym entry_is) ∙ sym named.1.kept)
+            (was.drained ∙ sym named.1.beside.drained) was)
+        | inr unnamed ↦
+            subst (λ b.
+            IsPlaceOf n after next number q (cond b (record place { kept = place.kept ++ entry.commit ∷ [] }) place))
+            (sym (named_is number ∙ unnamed.0))
+            (subst (λ (now : PartitionState). IsPlaceOf n after next number now place) (sym unnamed.1)
+            (place-carried n does.log after ended_whole next number p place refl log_is was))
+      ]
 
-    pub leads-cross : LeadsAll n (crosses job.pass.client job.edition job.command) whole after news
-    leads-cross = elim does.does [
-      | inl accepts ↦ crosses-accepted accepts
-      | inr refuses ↦ crosses-refused refuses
-    ]
+  pub leads-cross : LeadsAll n (crosses job.pass.client job.command) whole after news
+  leads-cross = elim does.does [
+    | inl accepts ↦ crosses-accepted accepts
+    | inr refuses ↦ crosses-refused refuses
+  ]

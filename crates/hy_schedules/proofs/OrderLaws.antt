@@ -19,7 +19,6 @@ use Rattle.hy_schema.specs.Loads.{IsLoad}
 use Rattle.hy_commands.specs.declared.command.Command.{Command}
 use Rattle.hy_commands.specs.declared.command.Commit.{Commit}
 use Rattle.hy_commands.specs.declared.command.Commit.TheVariants as commits
-use Rattle.hy_commands.specs.declared.edition.Edition.{Edition}
 use Rattle.hy_commands.specs.Commands.{number_of, warehouses_of, warehouses_of_commit}
 use Rattle.hy_commands.specs.Invariant.{MeetsOwnConditions}
 use Rattle.hy_commands.specs.Parts.{Database}
@@ -196,11 +195,11 @@ all-same test other same [] = refl
 all-same test other same (number ∷ numbers) =
     rw (same number, all-same test other same numbers) refl
 
-module _ (lists : Lists) (old : Whole) (order : IsInOrder lists old) (client stamp : ℕ) (edition : Edition) (command : Command)
+module _ (lists : Lists) (old : Whole) (order : IsInOrder lists old) (client stamp : ℕ) (command : Command)
     (several : nat_lt 1 (length (warehouses_of command)) ≡ true) (accepted : refusal_behind old command ≡ None)
     (stamped : stamp ≤ length old.log) where
   abbrev entry : Entry Commit
-  entry = entry_behind old edition command stamp
+  entry = entry_behind old command stamp
 
   abbrev database : Database
   database = database_behind old.load old.log
@@ -265,14 +264,14 @@ module _ (lists : Lists) (old : Whole) (order : IsInOrder lists old) (client sta
   }
 
 module _ (lists : Lists) (old : Whole) (order : IsInOrder lists old) where
-  in_order-crosses : (client : ℕ) (edition : Edition) (command : Command) (new : Whole) → DoesCross client edition command old new
+  in_order-crosses : (client : ℕ) (command : Command) (new : Whole) → DoesCross client command old new
       → IsInOrder lists new
-  in_order-crosses client edition command new does =
+  in_order-crosses client command new does =
       let ended = in_order-ends lists _ old does.ended order does.ends in
       elim does.does [
         | inl refused ↦ subst (λ (w : Whole). IsInOrder lists w) (sym refused) ended.0
         | inr accepts ↦ subst (λ (w : Whole). IsInOrder lists w) (sym accepts.1)
-            (in_order-entered lists does.ended ended.0 client (old.known client) edition command does.several accepts.0
+            (in_order-entered lists does.ended ended.0 client (old.known client) command does.several accepts.0
             (omega (arith, order.known client, ended.1)))
       ]
 
@@ -330,7 +329,7 @@ module _ (lists : Lists) (old : Whole) (order : IsInOrder lists old) where
 
   in_order-event : (event : EventOfAll) (new : Whole) → DoesAll event old new → IsInOrder lists new
   in_order-event (at number event) new does = in_order-at lists old order number event new does.0 does.1
-  in_order-event (crosses client edition command) new does = in_order-crosses client edition command new does
+  in_order-event (crosses client command) new does = in_order-crosses client command new does
   in_order-event (forks_all client children) new does = subst (λ (w : Whole). IsInOrder lists w) (sym does.1)
       (in_order-changed (with_snapshot old children) (with_known old.known client old.log)
       (known-more old.known client old.log order.known) (place-snapshot children))

@@ -16,6 +16,7 @@ use Rattle.hy_commands.specs.declared.command.Command.{Command}
 use Rattle.hy_commands.specs.declared.command.Commit.{Commit}
 use Rattle.hy_commands.specs.declared.command.Commit.TheVariants as commits
 use Rattle.hy_commands.specs.declared.edition.Edition.{Edition}
+use Rattle.hy_commands.specs.declared.edition.Edition.TheVariants as editions
 use Rattle.hy_commands.specs.Commands.{is_reader, kept_of, number_of, warehouses_of, warehouses_of_commit}
 use Rattle.hy_commands.specs.Replay.{rows_after}
 use Rattle.hy_commands.specs.Transactions.{refusal_of}
@@ -224,10 +225,10 @@ module _ (old : World) (stamped : ForSome old.running (λ job. job.stamp ≤ len
   ]
 
   pub step-event : (event : Event) (new : World) → is_local event ≡ true → Does event old new → IsStep old new
-  step-event (begins client edition command) new is_here does = subst (λ (w : World). IsStep old w) (sym does.3)
-      (step-same (Some (record { edition = edition; command = command; slices = 0; client = client; stamp = old.known client })) old.waits
+  step-event (begins client command) new is_here does = subst (λ (w : World). IsStep old w) (sym does.3)
+      (step-same (Some (record { edition = editions.Second; command = command; slices = 0; client = client; stamp = old.known client })) old.waits
       old.known known (λ job is.
-      let same : record { edition = edition; command = command; slices = 0; client = client; stamp = old.known client } ≡ job = cc in
+      let same : record { edition = editions.Second; command = command; slices = 0; client = client; stamp = old.known client } ≡ job = cc in
       subst (λ (j : Underway). j.stamp ≤ length old.log) same (known client)))
   step-event steps new is_here does = by old.running refl does
     where

@@ -14,7 +14,7 @@ use Rattle.hy_schema.specs.Conditions.{first_broken}
 use Rattle.hy_schema.specs.declared.refusal.Refusal.{Refusal}
 use Rattle.hy_commands.specs.declared.command.Command.{Command}
 use Rattle.hy_commands.specs.declared.command.Commit.{Commit}
-use Rattle.hy_commands.specs.declared.edition.Edition.{Edition}
+use Rattle.hy_commands.specs.declared.edition.Edition.TheVariants as editions
 use Rattle.hy_commands.specs.Commands.{number_of, warehouses_of, warehouses_of_commit}
 use Rattle.hy_commands.specs.Parts.{Database, refusal_in, rows_of}
 use Rattle.hy_commands.specs.Transactions.{refusal_of}
@@ -89,12 +89,12 @@ fresh_whole lists = record {
 
 -- ---- events
 
--- what happens in the warehouse with a number; a client's command over several warehouses, by an edition; a client takes
--- a snapshot of all warehouses, under a number in each; those under such numbers are closed; what was kept is drained; a
--- client looks
+-- what happens in the warehouse with a number; a client's command over several warehouses, by the second edition; a client
+-- takes a snapshot of all warehouses, under a number in each; those under such numbers are closed; what was kept is
+-- drained; a client looks
 pub data EventOfAll : Type 0 where
   at : ℕ → Event → EventOfAll
-  crosses : ℕ → Edition → Command → EventOfAll
+  crosses : ℕ → Command → EventOfAll
   forks_all : ℕ → (ℕ → ℕ) → EventOfAll
   closes_all : (ℕ → ℕ) → EventOfAll
   drains : EventOfAll
@@ -149,18 +149,18 @@ with_entry whole client entry = record (with_places (with_commit entry.commit) w
 abbrev pub refusal_behind : Whole → Command → Option Refusal
 refusal_behind whole command = refusal_in (database_behind whole.load whole.log) command
 
-abbrev pub entry_behind : Whole → Edition → Command → ℕ → Entry Commit
-entry_behind whole edition command stamp =
-    crossing_entry edition (kept_in (database_behind whole.load whole.log) command) stamp whole.log
+abbrev pub entry_behind : Whole → Command → ℕ → Entry Commit
+entry_behind whole command stamp =
+    crossing_entry editions.Second (kept_in (database_behind whole.load whole.log) command) stamp whole.log
 
 -- what runs in the warehouses that a command names ends; then the command is refused, or it is accepted and enters
-pub record DoesCross (client : ℕ) (edition : Edition) (command : Command) (old new : Whole) : Type 0 where
+pub record DoesCross (client : ℕ) (command : Command) (old new : Whole) : Type 0 where
   pub several : nat_lt 1 (length (warehouses_of command)) ≡ true
   pub ended : Whole
   pub ends : EndsIn (named_in old command) old ended
   pub does : (new ≡ ended)
       ⊎ ((refusal_behind ended command ≡ None)
-      × (new ≡ with_entry ended client (entry_behind ended edition command (old.known client))))
+      × (new ≡ with_entry ended client (entry_behind ended command (old.known client))))
 
 -- a snapshot of a warehouse as it is now, under the number that it has there
 abbrev pub with_snapshot : Whole → (ℕ → ℕ) → ℕ → Place → Place
@@ -183,7 +183,7 @@ with_drained number place = record place { drained = length place.kept }
 -- what an event does
 abbrev pub DoesAll : EventOfAll → Whole → Whole → Type 0
 DoesAll (at number event) old new = DoesAt number event old new
-DoesAll (crosses client edition command) old new = DoesCross client edition command old new
+DoesAll (crosses client command) old new = DoesCross client command old new
 DoesAll (forks_all client children) old new =
     ((number : ℕ) → IfSome (place_at old.places number) (λ place. place.open_at (children number) ≡ None))
     × (new ≡ record (with_places (with_snapshot old children) old) { known = with_known old.known client old.log })

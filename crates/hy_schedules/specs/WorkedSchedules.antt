@@ -93,7 +93,7 @@ paid = record start {
 }
 
 abbrev bought : Whole
-bought = with_entry paid 6 (entry_behind paid editions.Second order 0)
+bought = with_entry paid 6 (entry_behind paid order 0)
 
 -- client 7 has a snapshot, under number 5 in warehouse 1 and 6 in warehouse 2
 abbrev children : ℕ → ℕ
@@ -116,12 +116,12 @@ last = with_places (without_snapshot children) looked
 
 abbrev events : List EventOfAll
 events =
-    at 1 (begins 5 editions.Second pay) ∷ at 1 steps ∷ crosses 6 editions.Second order ∷ forks_all 7 children ∷ drains ∷ crosses 6 editions.Second missing ∷ looks 5
+    at 1 (begins 5 pay) ∷ at 1 steps ∷ crosses 6 order ∷ forks_all 7 children ∷ drains ∷ crosses 6 missing ∷ looks 5
     ∷ closes_all children ∷ []
 
 -- ---- each event happens
 
-begun : DoesAll (at 1 (begins 5 editions.Second pay)) start (paying 0)
+begun : DoesAll (at 1 (begins 5 pay)) start (paying 0)
 begun = (
   refl,
   record {
@@ -148,7 +148,7 @@ half_done = (
 )
 
 -- the payment, of which a slice was left, is accepted before the purchase is
-crossed : DoesAll (crosses 6 editions.Second order) (paying 1) bought
+crossed : DoesAll (crosses 6 order) (paying 1) bought
 crossed = record {
   several = refl;
   ended = paid;
@@ -186,7 +186,7 @@ taken = (free, refl)
     free (suc (suc (suc number))) = tt
 
 -- nothing runs, and nothing enters
-refused : DoesAll (crosses 6 editions.Second missing) drained drained
+refused : DoesAll (crosses 6 missing) drained drained
 refused = record {
   several = refl;
   ended = drained;
@@ -226,7 +226,7 @@ closed = (are_open, refl)
 runs : RunsAll events start last
 runs = (paying 0, inr begun, (paying 1, inr half_done, (bought, inr crossed, (forked, inr taken, afterwards))))
   where
-    afterwards : RunsAll (drains ∷ crosses 6 editions.Second missing ∷ looks 5 ∷ closes_all children ∷ []) forked last
+    afterwards : RunsAll (drains ∷ crosses 6 missing ∷ looks 5 ∷ closes_all children ∷ []) forked last
     afterwards = (drained, inr refl, (drained, inr refused, (looked, inr refl, (last, inr closed, refl))))
 
 -- ---- what is seen
@@ -282,7 +282,7 @@ not_local : (new : Whole) → DoesAll (at 1 (one.looks 5)) paid new → ⊥
 not_local new does = let here = does.0 in absurd (cc)
 
 -- a command that names one warehouse isn't one over several
-not_several : (new : Whole) → DoesAll (crosses 5 editions.Second pay) start new → ⊥
+not_several : (new : Whole) → DoesAll (crosses 5 pay) start new → ⊥
 not_several new does = let several = does.several in absurd (cc)
 
 -- a drain of one warehouse alone
@@ -341,11 +341,11 @@ idle_stays number old new place there idle changes =
     replaced (suc before) places there = set_same places before there
 
 -- so a purchase that begins there enters behind the serial list of that moment
-entered_only : (new : Whole) → DoesAll (crosses 6 editions.Second order) paid new
-    → (new ≡ paid) ⊎ (new ≡ with_entry paid 6 (entry_behind paid editions.Second order 0))
+entered_only : (new : Whole) → DoesAll (crosses 6 order) paid new
+    → (new ≡ paid) ⊎ (new ≡ with_entry paid 6 (entry_behind paid order 0))
 entered_only new does = elim does.does [
   | inl refused ↦ inl (refused ∙ ended)
-  | inr accepts ↦ inr (accepts.1 ∙ ap (λ (w : Whole). with_entry w 6 (entry_behind w editions.Second order 0)) ended)
+  | inr accepts ↦ inr (accepts.1 ∙ ap (λ (w : Whole). with_entry w 6 (entry_behind w order 0)) ended)
 ]
   where
     first : does.ends.0 ≡ paid
@@ -359,14 +359,14 @@ entered_only new does = elim does.does [
         ∙ first
 
 -- a purchase that one of its warehouses doesn't keep
-not_kept : DoesAll (crosses 6 editions.Second order) paid (record bought { places = place_in paid 1 ∷ place_in bought 2 ∷ [] }) → ⊥
+not_kept : DoesAll (crosses 6 order) paid (record bought { places = place_in paid 1 ∷ place_in bought 2 ∷ [] }) → ⊥
 not_kept does = elim (entered_only _ does) [
   | inl same ↦ let entered = ap (λ (w : Whole). length w.log) same in absurd (omega (arith, entered))
   | inr same ↦ let kept = ap (λ (w : Whole). length (kept_at w.places 1)) same in absurd (omega (arith, kept))
 ]
 
 -- one that has the number 2, where it is the first over several warehouses
-not_numbered : DoesAll (crosses 6 editions.Second order) paid
+not_numbered : DoesAll (crosses 6 order) paid
     (with_entry paid 6 (record { commit = commits.Cross editions.Second 2 order; stamp = 0 })) → ⊥
 not_numbered does = elim (entered_only _ does) [
   | inl same ↦ let entered = ap (λ (w : Whole). length w.log) same in absurd (omega (arith, entered))
@@ -377,11 +377,11 @@ not_numbered does = elim (entered_only _ does) [
     numbers_in whole = fold (λ total (entry : Entry Commit). total + unwrap_or (number_of entry.commit) 0) 0 whole.log
 
 -- one before which the payment, of which a slice is left, didn't end
-not_before : DoesAll (crosses 6 editions.Second order) (paying 1) (with_entry (paying 1) 6 (entry_behind (paying 1) editions.Second order 0)) → ⊥
+not_before : DoesAll (crosses 6 order) (paying 1) (with_entry (paying 1) 6 (entry_behind (paying 1) order 0)) → ⊥
 not_before does = elim does.does [
   | inl same ↦ let runs = ap runs_in same ∙ ap runs_in ended ∙ idle in absurd (cc)
   | inr same ↦
-      let runs = ap runs_in same.1 ∙ ap (λ (w : Whole). runs_in (with_entry w 6 (entry_behind w editions.Second order 0))) ended
+      let runs = ap runs_in same.1 ∙ ap (λ (w : Whole). runs_in (with_entry w 6 (entry_behind w order 0))) ended
       ∙ idle in
       absurd (cc)
 ]

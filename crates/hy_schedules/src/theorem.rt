@@ -4,6 +4,7 @@ ghost use Rattle.std.specs.Prelude.{◌≡◌, ℕ, suc, ◌<◌, IsSome, IfSome
 ghost use Rattle.hy_worlds.specs.Origins.{Origin};
 ghost use Rattle.hy_rows.specs.Tables.{Lists};
 ghost use Rattle.hy_schema.specs.Loads.{IsLoad};
+ghost use Rattle.hy_commands.specs.declared.edition.Edition.TheVariants as editions;
 ghost use Rattle.hy_commands.specs.Commands.{warehouses_of};
 ghost use Rattle.hy_partition.specs.declared.job.Progress.{Progress};
 ghost use Rattle.hy_partition.specs.Jobs.{DoneState, JobState, Log, RunningJob};
@@ -45,7 +46,8 @@ pub fn every_schedule_of_all()
 /// Does nothing: its contract says that the calls on the partitions of all warehouses are events of the model. What a
 /// call on one of them promises (`at`), and what `cross`, `fork_all`, `close_all` and `drain` promise of all of them,
 /// leads from partitions with their whole to partitions with the whole after the event. A command over several
-/// warehouses is one event, whether it is accepted or refused. Forks that are refused, and partitions that are told the
+/// warehouses is one event, whether it is accepted or refused. Jobs are of the second edition, as they have to be where no
+/// log is replayed. Forks that are refused, and partitions that are told the
 /// serial list, leave the whole; a look of a client leaves the partitions.
 pub fn calls_of_all_are_events()
     ensures new { (n : ℕ) (lists : Lists) (frames commits : ℕ) (parts : List PartitionState)
@@ -54,8 +56,9 @@ pub fn calls_of_all_are_events()
         → IsWholeOf n [] parts (fresh_whole lists) }
     ensures begin { (n place : ℕ) (log : Log) (parts news : List PartitionState) (whole : Whole) (job : JobState)
         → IsWholeOf n log parts whole → place < length parts → whole.known job.pass.client ≡ length job.pass.seen
+        → job.edition ≡ editions.Second
         → ChangesAt (λ p q. (begin_refusal p job.command ≡ None) × (q ≡ with_job p job)) place parts news
-        → LeadsAll n (at (suc place) (begins job.pass.client job.edition job.command)) whole log news }
+        → LeadsAll n (at (suc place) (begins job.pass.client job.command)) whole log news }
     ensures step { (n place : ℕ) (log after : Log) (parts news : List PartitionState) (whole : Whole) (job : RunningJob)
         (progress : Progress) → IsWholeOf n log parts whole → place < length parts
         → ChangesAt (λ p q. (p.running ≡ Some job) × StepsTo job (Some log) (Some after) p q progress) place parts news
@@ -77,8 +80,9 @@ pub fn calls_of_all_are_events()
     ensures cross { (n : ℕ) (lists : Lists) (job : JobState) (log after : Log) (parts news : List PartitionState)
         (answer : DoneState) (whole : Whole) → IsWholeOf n log parts whole → IsLoad lists → ArePartitions lists parts
         → nat_lt 1 (length (warehouses_of job.command)) ≡ true
-        → whole.known job.pass.client ≡ length job.pass.seen → Crosses lists job log after parts news answer
-        → LeadsAll n (crosses job.pass.client job.edition job.command) whole after news }
+        → whole.known job.pass.client ≡ length job.pass.seen → job.edition ≡ editions.Second
+        → Crosses lists job log after parts news answer
+        → LeadsAll n (crosses job.pass.client job.command) whole after news }
     ensures fork_all { (n : ℕ) (kit : Origin) (log known : Log) (client : ℕ) (parts news : List PartitionState)
         (whole : Whole) (snapshots : List SnapshotState) → IsWholeOf n log parts whole
         → ForksAll n kit log known parts news snapshots

@@ -14,6 +14,7 @@ partition_of p = record {
   load = p.executor.layout.load;
   warehouse = p.executor.layout.warehouse;
   max_kept = p.max_kept;
+  replays = p.replays;
   seen = p.kept.seen;
   kept = projection_of p.kept.warehouse p.kept.seen;
   drained = p.drained;

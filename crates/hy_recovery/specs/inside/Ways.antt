@@ -64,6 +64,7 @@ may_stand warehouse commit = is_allowed warehouse commit && commit_fits commit
 -- what a command of one warehouse has passed that is run again there, by an edition
 pub record CanRunLocal (edition : Edition) (command : Command) (p : PartitionState) : Type 0 where
   pub rest : IsAtRest p
+  pub replays : p.replays ≡ true
   pub allowed : may_stand p.warehouse (commits.Local edition command) ≡ true
   pub known : is_known p.load command ≡ true
   pub few : length p.kept < p.max_kept
@@ -80,6 +81,7 @@ pub record CanRunCrossing (lists : Lists) (number : ℕ) (command : Command) (lo
   pub known : is_known lists command ≡ true
   pub next : number ≡ suc (crossings_in log)
   pub rest : (place : ℕ) → IfSome (slice_get parts place) IsAtRest
+  pub replays : (place : ℕ) → IfSome (slice_get parts place) (λ p. p.replays ≡ true)
   pub few : (place : ℕ) → IfSome (slice_get parts place) (λ p.
       names command (suc place) ≡ true → length p.kept < p.max_kept)
 
@@ -93,9 +95,10 @@ pub record Aim : Type 0 where
   pub goal : ℕ → List Commit
   pub last : ℕ
 
--- the partition at a place is at rest, with no snapshot; what it has kept and what is left are what it is to keep
+-- the partition at a place replays the log and is at rest, with no snapshot; what it has kept and what is left are what it
+-- is to keep
 pub record IsBound (lists : Lists) (aim : Aim) (left : List Commit) (place : ℕ) (p : PartitionState) : Type 0 where
-  pub terms : terms_of p ≡ record { load = lists; warehouse = suc place; max_kept = aim.most }
+  pub terms : terms_of p ≡ record { load = lists; warehouse = suc place; max_kept = aim.most; replays = true }
   pub kept : p.kept ++ left ≡ aim.goal place
   pub drained : p.drained ≡ 0
   pub rest : IsAtRest p
@@ -122,11 +125,15 @@ pub record AreThere (lists : Lists) (aim : Aim) (log : Log) (parts : List Partit
 abbrev pub untouched : Batch → MergeState
 untouched batch = record { lists = batch.lists; passed = [] }
 
--- all commits of each partition count as drained, and nothing else changes
-abbrev pub Marked : PartitionState → PartitionState → Type 0
-Marked old new = new ≡ record old { drained = length old.kept }
+-- a partition where a replay begins, and where it ends: then all commits count as drained
+abbrev pub replaying : PartitionState → PartitionState
+replaying p = record p { replays = true }
 
-pub record Marks (olds news : List PartitionState) : Type 0 where
+abbrev pub replayed : PartitionState → PartitionState
+replayed p = record p { drained = length p.kept; replays = false }
+
+-- each partition is changed so
+pub record Becomes (change : PartitionState → PartitionState) (olds news : List PartitionState) : Type 0 where
   pub count : length news ≡ length olds
   pub each : (place : ℕ) (old new : PartitionState) → slice_get olds place ≡ Some old → slice_get news place ≡ Some new
-      → Marked old new
+      → new ≡ change old

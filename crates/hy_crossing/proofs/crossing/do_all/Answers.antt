@@ -2,11 +2,12 @@ use Rattle.std.proofs.Common.{◌≡◌, true, List, Some, length, sym, ap, ◌�
 use Rattle.std.specs.List.{list_all}
 use Rattle.hy_rows.specs.Ranges.{IsBetween, is_between}
 use Rattle.hy_commands.specs.declared.command.Command.{Command}
+use Rattle.hy_commands.specs.declared.edition.Edition.{Edition}
 use Rattle.hy_commands.specs.Commands.{warehouses_of}
 use Rattle.hy_commands.specs.Parts.{customer_home_of, with_number}
 use Rattle.hy_partition.specs.Jobs.{JobState, refused_answer}
 use Rattle.hy_partition.specs.Partition.{PartitionState}
-use Rattle.hy_crossing.specs.Crossings.{AreKnown, CanDoParts, DoesIfNamed, IsWhyNotDone, LeavesIfNamed, RepliesFrom}
+use Rattle.hy_crossing.specs.Crossings.{AllMayRun, AreKnown, CanDoParts, DoesIfNamed, IsWhyNotDone, LeavesIfNamed, RepliesFrom}
 use Rattle.hy_crossing.specs.Lists.{Pairwise}
 use Rattle.hy_crossing.proofs.InformLaws.{pairs-count}
 use Rattle.hy_crossing.proofs.WholeLaws.{accepts-all, can-all, done-all, named-all, no-part-whole, partitions-here, partitions-whole, refuses-late, several-all, there-all}
@@ -25,6 +26,12 @@ do_parts-requires-clause-can g c =
     subst (λ (rows : List PartitionState). CanDoParts numbered rows) (sym c.know_named.ensures.same)
     (can-all g.K.Loaded.load c.args.job log rows c.requires.informed c.requires.accepted g.K.World.passes.partitions known
     c.args.number c.requires.payer numbered is c.requires.several)
+
+pub do_parts-requires-clause-edition : goal.do_parts-requires-clause-edition
+do_parts-requires-clause-edition g c =
+    let rows = g.P.Parts.states c.args.parts.now in
+    subst (λ (rows : List PartitionState). AllMayRun c.edition-edition.result rows) (sym c.know_named.ensures.same)
+    (subst (λ (edition : Edition). AllMayRun edition rows) (sym c.edition-edition.ensures) c.requires.edition)
 
 pub do_parts-requires-clause-there : goal.do_parts-requires-clause-there
 do_parts-requires-clause-there g c =

@@ -1,9 +1,9 @@
-use Rattle.std.proofs.Common.{◌-◌, ◌<◌, length, inl, inr, refl, sym, ◌∙◌, subst, arith}
+use Rattle.std.proofs.Common.{◌≡◌, true, ◌-◌, ◌<◌, length, inl, inr, refl, sym, ◌∙◌, subst, arith}
 use Rattle.hy_rows.proofs.BetweenLaws.{bounds}
 use Rattle.hy_schema.specs.declared.refusal.Refusal.TheVariants as refusals
 use Rattle.hy_commands.specs.declared.command.Command.{Command}
 use Rattle.hy_tpcc.specs.Parts.{HasPart}
-use Rattle.hy_partition.specs.Partition.{layout_of}
+use Rattle.hy_partition.specs.Partition.{PartitionState, layout_of, may_run}
 use Rattle.hy_partition.specs.Parts.{DoesPart, HasNoPart, IsWhyUndone}
 use Rattle.hy_crossing.specs.Crossings.{CanDoIfNamed, DoesHere, FailsHere}
 use Rattle.hy_crossing.specs.Lists.{ChangesAt}
@@ -58,7 +58,14 @@ do_part-requires g c =
       omega arith,
       (
         can.idle,
-        (subst (λ (command : Command). HasPart (layout_of p) command) (sym c.in_ok-copy.ensures) can.has_part, can.few),
+        (
+          subst (λ (command : Command). HasPart (layout_of p) command) (sym c.in_ok-copy.ensures) can.has_part,
+          (
+            can.few,
+            holds-at (λ (p : PartitionState). may_run p.replays c.args.edition ≡ true) rows (number - 1) p within
+                c.part-part.ensures.value c.requires.edition,
+          ),
+        ),
       ),
     )
 

@@ -1,10 +1,11 @@
-use Rattle.std.proofs.Common.{◌≡◌, ◌+◌, ◌-◌, ◌<◌, suc, None, Some, length, sym, ◌∙◌, subst, arith}
+use Rattle.std.proofs.Common.{◌≡◌, true, ◌+◌, ◌-◌, ◌<◌, suc, None, Some, length, sym, ◌∙◌, subst, arith}
 use Rattle.std.specs.Prelude.{Option, IfSome, slice_get}
 use Rattle.hy_rows.proofs.BetweenLaws.{bounds}
 use Rattle.hy_commands.specs.declared.reply.Reply.{Reply}
 use Rattle.hy_commands.specs.Parts.{customer_home_of}
-use Rattle.hy_partition.specs.Partition.{PartitionState}
+use Rattle.hy_partition.specs.Partition.{PartitionState, may_run}
 use Rattle.hy_crossing.specs.Crossings.{CanDoIfNamed, DoesIfNamed, RepliesFrom}
+use Rattle.hy_crossing.proofs.InformLaws.{may-at}
 use Rattle.hy_crossing.proofs.ReplyLaws.{replies-some}
 use Rattle.hy_crossing.proofs.StepLaws.{answer-early, answer-late, done-step, left-all, quiet-halves, why-not}
 use Rattle.hy_crossing.proofs.TurnLaws.{done-end, done-get}
@@ -23,6 +24,18 @@ do_here-requires-clause-can g c =
     (subst (λ n. IfSome (slice_get news place) (CanDoIfNamed command n)) next
     (subst (λ (row : Option PartitionState). IfSome row (CanDoIfNamed command (suc place))) (sym same)
     (c.requires.can place)))
+
+pub do_here-requires-clause-edition : goal.do_here-requires-clause-edition
+do_here-requires-clause-edition g c =
+    let place = c.loop-place.place in
+    let command = c.args.command.now in
+    let olds = g.P.Parts.states c.args.parts.now in
+    let news = g.P.Parts.states c.loop-place.parts in
+    let back : place ≡ place + 1 - 1 = omega arith in
+    let same = done-get (DoesIfNamed c.args.edition command) place olds news c.loop-place.invariant.0 in
+    subst (λ n. IfSome (slice_get news n) (λ p. may_run p.replays c.args.edition ≡ true)) back
+    (subst (λ (row : Option PartitionState). IfSome row (λ p. may_run p.replays c.args.edition ≡ true)) (sym same)
+    (may-at c.args.edition olds place c.requires.edition))
 
 pub undo_parts-requires-clause-quiet : goal.undo_parts-requires-clause-quiet
 undo_parts-requires-clause-quiet g c =

@@ -1,8 +1,8 @@
 -- What an answer to the command tells.
-use Rattle.std.proofs.Common.{subst}
+use Rattle.std.proofs.Common.{subst, sym}
 use Rattle.hy_partition.specs.Jobs.{JobState}
-use Rattle.hy_crossing.specs.Crossings.{Crosses}
-use Rattle.hy_recovery.proofs.CrossedLaws.{crossed-client, enters-crossing, keeps-crossing, lacked}
+use Rattle.hy_crossing.specs.Crossings.{AllMayRun, Crosses}
+use Rattle.hy_recovery.proofs.CrossedLaws.{all-may, crossed-client, enters-crossing, keeps-crossing, lacked}
 use Rattle.hy_recovery.proofs.ResultLaws.{err-gives, ok-gives, ok-then}
 use Rattle.hy_recovery.proofs.running.run_crossing.Goals as goal
 
@@ -35,3 +35,8 @@ returns-clause-refused g c =
     lacked g.K.Loaded.load c.args.edition c.args.number c.args.command c.args.pass c.args.journal.now.list.log
     c.cross-done.new.journal.list.log c.args.parts.now.items c.cross-done.new.parts.items c.cross-done.result
     c.requires.can crosses why is)
+
+pub cross-done-requires-clause-edition : goal.cross-done-requires-clause-edition
+cross-done-requires-clause-edition g c =
+    subst (λ (job : JobState). AllMayRun job.edition c.args.parts.now.items) (sym c.of_edition.ensures)
+    (all-may c.args.edition c.args.parts.now.items c.requires.can.replays)

@@ -13,11 +13,11 @@ returns-clause-new c = λ n lists frames commits parts count each.
     (λ number p begin. c.calls_are_events.ensures.new n lists number frames commits p begin) count each
 
 pub returns-clause-begin : goal.returns-clause-begin
-returns-clause-begin c = λ n place log parts news whole job is within known changes.
-    leads-at n place log log parts whole is within (begins job.pass.client job.edition job.command) changes.0 changes.1 news refl
+returns-clause-begin c = λ n place log parts news whole job is within known new changes.
+    leads-at n place log log parts whole is within (begins job.pass.client job.command) changes.0 changes.1 news refl
     changes.2 changes.3 (ap (λ (p : PartitionState). p.drained) changes.4.1)
     (λ before world. c.calls_are_events.ensures.begin n log changes.0 changes.1 (world_at whole (suc place) before) job
-    world known changes.4.0 changes.4.1)
+    world known new changes.4.0 changes.4.1)
 
 pub returns-clause-step : goal.returns-clause-step
 returns-clause-step c = λ n place log after parts news whole job progress is within changes.
@@ -53,8 +53,8 @@ returns-clause-close c = λ n place log parts news whole child is within changes
     child world changes.4)
 
 pub returns-clause-cross : goal.returns-clause-cross
-returns-clause-cross c = λ n lists job log after parts news answer whole is is_load are several known does.
-    leads-cross n lists job log after parts news answer whole is is_load are several known does
+returns-clause-cross c = λ n lists job log after parts news answer whole is is_load are several known new does.
+    leads-cross n lists job log after parts news answer whole is is_load are several known new does
 
 pub returns-clause-fork_all : goal.returns-clause-fork_all
 returns-clause-fork_all c = λ n kit log known client parts news whole snapshots is forked.

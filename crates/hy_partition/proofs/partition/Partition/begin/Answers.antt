@@ -1,8 +1,8 @@
-use Rattle.std.proofs.Common.{rules, ◌≡◌, Option, Some, ap, sym, ◌∙◌, subst, arith}
+use Rattle.std.proofs.Common.{rules, ◌≡◌, true, Option, Some, ap, sym, ◌∙◌, subst, arith}
 use Rattle.hy_passes.specs.Worlds.{KeptState}
 use Rattle.hy_commands.specs.declared.command.Commit.{Commit}
 use Rattle.hy_partition.specs.Jobs.{RunningJob}
-use Rattle.hy_partition.specs.Partition.{PartitionState}
+use Rattle.hy_partition.specs.Partition.{PartitionState, may_run}
 use Rattle.hy_partition.specs.inside.Soundness.{IsSound, IsTied}
 use Rattle.hy_partition.specs.inside.Views.{partition_of, with_list}
 use Rattle.hy_partition.proofs.SoundLaws.{relaid, rests, sound-begun, sound-idle, store_now}
@@ -56,7 +56,9 @@ invariant_of-self-2 g c =
     sound-begun g.row.N _ _ p c.self.invariant.0 room c.begin.new.self job
     (search rules) (search rules) (search rules) (ap (λ (j : RunningJob). j.slices) c.begin-2.ensures) c.begin.ensures.layout
     (rw same at c.in_default.ensures.begun) (rw same at (c.in_default.ensures.under_way job.edition))
-    (rw again at c.in_default-make_room.ensures.room) in
+    (rw again at c.in_default-make_room.ensures.room)
+    (subst (λ (j : RunningJob). may_run p.replays j.edition ≡ true) (sym c.begin-2.ensures)
+    (subst (λ (q : PartitionState). may_run q.replays c.args.job.edition ≡ true) (sym c.self.view_is) c.requires.edition)) in
     subst (λ (list : KeptState Commit).
     (λ (q : PartitionState). IsSound g.row.N list.room c.begin.new.self q × IsTied g.K.Loaded.load list inside.desk q)
     (with_list (record p {

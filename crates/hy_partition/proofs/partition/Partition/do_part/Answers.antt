@@ -1,4 +1,4 @@
-use Rattle.std.proofs.Common.{◌≡◌, ◌<◌, length, Option, Some, None, ap, refl, sym, ◌∙◌, subst, arith}
+use Rattle.std.proofs.Common.{◌≡◌, ◌<◌, true, length, Option, Some, None, ap, refl, sym, ◌∙◌, subst, arith}
 use Rattle.hy_passes.specs.Worlds.{KeptState}
 use Rattle.hy_rows.specs.Spelling.{Spells, tables_of}
 use Rattle.hy_commands.specs.declared.command.Command.{Command}
@@ -7,7 +7,7 @@ use Rattle.hy_commands.specs.declared.edition.Edition.{Edition}
 use Rattle.hy_space.specs.Space.{owner_bytes}
 use Rattle.hy_tpcc.specs.Parts.{HasPart, reply_of_part}
 use Rattle.hy_partition.specs.Jobs.{RunningJob}
-use Rattle.hy_partition.specs.Partition.{PartState, PartitionState, layout_of, rows_now}
+use Rattle.hy_partition.specs.Partition.{PartState, PartitionState, layout_of, may_run, rows_now}
 use Rattle.hy_partition.specs.Parts.{DoesPart, HasNoPart, rows_with_part}
 use Rattle.hy_partition.specs.inside.Soundness.{IsSound, IsTied}
 use Rattle.hy_partition.specs.inside.Views.{partition_of, with_list}
@@ -75,7 +75,9 @@ invariant_of-self g c =
           c.in-Some.part idle no_part has_part refl c.in-Ok.ensures.done.store c.in-Ok.ensures.done.step
           c.in-Ok.ensures.writes.undoes.undo_log c.in-Ok.ensures.writes.undoes.undone c.in-Ok.ensures.writes.children
           c.in-Ok.ensures.room
-          (subst (λ (q : PartitionState). length q.kept < q.max_kept) (sym c.self.view_is) c.requires.few),
+          (subst (λ (q : PartitionState). length q.kept < q.max_kept) (sym c.self.view_is) c.requires.few)
+          (subst (λ (k : PartState). may_run p.replays k.edition ≡ true) (sym part)
+          (subst (λ (q : PartitionState). may_run q.replays c.args.edition ≡ true) (sym c.self.view_is) c.requires.edition)),
       tied-parted g.K.Loaded.load inside.kept inside.desk p c.self.invariant.1 room p.running (Some c.in-Some.part)
           c.run_part.new.undo c.run_part.new.space,
     ))

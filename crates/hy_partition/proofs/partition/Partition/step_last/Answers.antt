@@ -17,7 +17,7 @@ use Rattle.hy_partition.specs.declared.job.Progress.TheVariants as progress
 use Rattle.hy_partition.specs.inside.Soundness.{IsSound, IsTied}
 use Rattle.hy_partition.specs.inside.Views.{partition_of}
 use Rattle.hy_partition.proofs.AccountLaws.{cents-small, home-few}
-use Rattle.hy_partition.proofs.SoundLaws.{accepted_now, relaid, sound-accepted, sound-refused}
+use Rattle.hy_partition.proofs.SoundLaws.{accepted_now, relaid, runs, sound-accepted, sound-refused}
 use Rattle.hy_partition.proofs.StepsToLaws.{job-known, last-ran, last-running, more-running, steps-accepted, steps-refused}
 use Rattle.hy_partition.proofs.TieLaws.{tied-accepted, tied-same}
 use Rattle.hy_partition.proofs.partition.Partition.step_last.Goals as goal
@@ -163,7 +163,8 @@ invariant_of-self g c =
           c.commit.ensures.undo_log longer,
       tied-accepted g.K.Loaded.load inside.kept inside.desk p c.self.invariant.1 g.row.N _ executor list job
           (projection_of list.warehouse list.seen) c.accept-done.new.book c.commit.new.self c.put.new.place space
-          c.self.invariant.0 accepted c.accept-done.ensures.warehouse longer c.accept-done.ensures.book,
+          c.self.invariant.0 accepted c.accept-done.ensures.warehouse longer c.accept-done.ensures.book
+          (runs g.row.N _ executor p c.self.invariant.0 job running).edition,
     ))
 
 pub invariant_of-self-in-Err : goal.invariant_of-self-in-Err

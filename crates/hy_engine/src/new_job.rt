@@ -1,0 +1,42 @@
+//! Jobs that wait for a worker.
+
+ghost use Rattle.std.specs.Prelude.{◌≡◌};
+ghost use Rattle.hy_commands.specs.declared.edition.Edition.TheVariants as editions;
+
+use hy_partition::{Job, Loaded};
+use std::marker::Model;
+
+/// A job of the second edition, as all are that an engine takes.
+#[derive(Drop)]
+pub(crate) struct NewJob<K: Loaded> {
+    job: Job<K>,
+    ghost new: { job.edition ≡ editions.Second },
+}
+
+// Clauses see the job.
+impl<K: Loaded> Model for NewJob<K> {
+    ghost use Rattle.hy_partition.specs.Jobs.{JobState};
+
+    ghost Value = { JobState };
+
+    ghost view = { λ new. new.job };
+}
+
+impl<K: Loaded> NewJob<K> {
+    /// A job as one that waits.
+    pub(crate) fn new(job: Job<K>) -> NewJob<K>
+        requires { job.edition ≡ editions.Second }
+        ensures { result ≡ job }
+    {
+        NewJob { job }
+    }
+
+    /// The job.
+    pub(crate) fn open(self) -> Job<K>
+        ensures job { result ≡ self }
+        ensures new { result.edition ≡ editions.Second }
+    {
+        let NewJob { job } = self;
+        job
+    }
+}
