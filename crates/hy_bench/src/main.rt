@@ -3,6 +3,7 @@
 #![tactic(auto)]
 
 mod drain_rounds;
+mod fork_rounds;
 mod index_rounds;
 mod log_rounds;
 mod payment_rounds;
@@ -38,6 +39,7 @@ fn run(rt: &HostRuntime) -> Option<u64> {
     match work {
         "pay" => payment_rounds::run(alloc, rounds, size),
         "drain" => drain_rounds::run(alloc, rounds, size),
+        "taken" | "again" => fork_rounds::run(alloc, work, rounds, size),
         "query-stock"
         | "query-items"
         | "query-districts"
@@ -47,7 +49,7 @@ fn run(rt: &HostRuntime) -> Option<u64> {
         "log-read" | "log-text" | "log-unsynced" | "log-memory" | "log-synced" => {
             log_rounds::run(rt, work, rounds, words.get(2)?.as_str())
         }
-        "commit" | "rollback" | "fork" | "snapshot" => {
+        "commit" | "rollback" | "fork" | "child" | "snapshot" => {
             space_rounds::run(alloc, work, rounds, size, writes)
         }
         _ => index_rounds::run(alloc, work, rounds, size),

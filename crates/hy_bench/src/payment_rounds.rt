@@ -54,14 +54,30 @@ fn payments<K: Loaded>(
     requires partitions { kit.partitions ≡ 1 }
     requires clients { kit.clients ≡ 1 }
 {
-    let (_passes, mut journal, mut seats, mut clients) = kit.open::<K>()?;
-    let mut pass = clients.take_last();
-    let seat = seats.take_last();
-    let mut partition = on_pages(alloc, load, seat)?;
+    let (mut partition, mut journal, mut pass) = opened::<K>(alloc, load, kit)?;
     for _ in 0..rounds {
         pass = pay(&mut partition, &mut journal, pass)?;
     }
     Ok(partition.kept().len() as u64)
+}
+
+/// The warehouse on pages, with its journal and its client.
+pub(crate) fn opened<K: Loaded>(
+    alloc: Global,
+    load: &Load,
+    kit: Kit<Commit>,
+) -> Result<(Partition<SIZE, K>, Journal<Commit, K>, Pass<Commit, K>), Refusal>
+    requires load { load.now ≡ K.load }
+    requires warehouse { 1 ≤ length load.now.tables.warehouses }
+    requires kit { kit ≡ K.passes }
+    requires partitions { kit.partitions ≡ 1 }
+    requires clients { kit.clients ≡ 1 }
+{
+    let (_passes, journal, mut seats, mut clients) = kit.open::<K>()?;
+    let pass = clients.take_last();
+    let seat = seats.take_last();
+    let partition = on_pages(alloc, load, seat)?;
+    Ok((partition, journal, pass))
 }
 
 /// The warehouse on pages, with as many frames and commits as may be.

@@ -26,6 +26,7 @@ pub fn run(alloc: Global, work: &str, rounds: u64, pages: u64, writes: u64) -> O
         "commit" => transactions(alloc, &mut space, rounds, Ending::Commit),
         "rollback" => transactions(alloc, &mut space, rounds, Ending::RollBack),
         "fork" => forks(&mut space, rounds, writes),
+        "child" => children(&mut space, rounds),
         "snapshot" => snapshots(&mut space, rounds),
         _ => return None,
     };
@@ -102,6 +103,17 @@ fn forks(space: &mut Space<SIZE>, rounds: u64, writes: u64) -> Result<(), Shorta
         write_each(space, writes)?;
         space.close(child);
     }
+    Ok(())
+}
+
+/// Children that are opened and closed, each with what a child that stays open sees.
+fn children(space: &mut Space<SIZE>, rounds: u64) -> Result<(), Shortage> {
+    let first = space.fork()?;
+    for _ in 0..rounds {
+        let child = space.fork_child(first)?;
+        space.close(child);
+    }
+    space.close(first);
     Ok(())
 }
 

@@ -14,4 +14,6 @@ mod order_tests;
 #[cfg(test)]
 mod refusal_tests;
 #[cfg(test)]
+mod session_tests;
+#[cfg(test)]
 mod storm_tests;

@@ -24,7 +24,7 @@ use Rattle.hy_commands.specs.declared.command.Commit.TheVariants as commits
 use Rattle.hy_database.specs.Database.{kept_in}
 use Rattle.hy_crossing.specs.Crossings.{database_behind, next_number}
 use Rattle.hy_crossing.proofs.AcceptLaws.{same-refusal}
-use Rattle.hy_schedules.specs.Schedules.{ChangesPlace, DoesAll, DoesAt, DoesCross, Ends, EndsIn, EventOfAll, Place, Whole, each_changed, entry_behind, is_local, named_in, place_at, refusal_behind, with_commit, with_drained, with_entry, with_place, with_snapshot, without_snapshot, world_at}
+use Rattle.hy_schedules.specs.Schedules.{ChangesPlace, DoesAll, DoesAt, DoesCross, Ends, EndsIn, EventOfAll, Place, Whole, each_changed, entry_behind, is_local, named_in, place_at, refusal_behind, with_commit, with_drained, with_entry, with_place, with_snapshot, with_snapshot_from, without_snapshot, world_at}
 use Rattle.hy_schedules.specs.Schedules as all
 use Rattle.hy_schedules.proofs.OrderLaws.{there-between}
 use Rattle.hy_schedules.proofs.PlaceLaws.{each-changed, each-replaced, holds-place, length-each, length-with_place}
@@ -162,6 +162,9 @@ module _ (lists : Lists) (old new : World) where
     adds-does number (one.forks client child) here does =
         adds-none (ap (λ (w : World). w.log) does.1) (ap (λ (w : World). w.load) does.1)
         (runs-still (ap (λ (w : World). w.running) does.1))
+    adds-does number (one.forks_from from child) here does =
+        adds-none (ap (λ (w : World). w.log) does.2) (ap (λ (w : World). w.load) does.2)
+        (runs-still (ap (λ (w : World). w.running) does.2))
     adds-does number (one.closes child) here does =
         adds-none (ap (λ (w : World). w.log) does.1) (ap (λ (w : World). w.load) does.1)
         (runs-still (ap (λ (w : World). w.running) does.1))
@@ -334,6 +337,13 @@ module _ (lists : Lists) where
       ∙ drained-each (with_snapshot old children) (λ n place. refl) old.places number)
       (subst (λ (w : Whole). AllRunNew w.places) (sym does.1)
       (new-each (with_snapshot old children) (λ n place. refl) old.places runs))
+  grows (all.forks_all_from from children) old new other load count runs does =
+      grows-same lists old new (ap (λ (w : Whole). w.log) does.1) (ap (λ (w : Whole). w.load) does.1)
+      (ap (λ (w : Whole). length w.places) does.1 ∙ length-each (with_snapshot_from from children) 1 old.places)
+      (λ number. ap (λ (w : Whole). drained_at w.places number) does.1
+      ∙ drained-each (with_snapshot_from from children) (λ n place. refl) old.places number)
+      (subst (λ (w : Whole). AllRunNew w.places) (sym does.1)
+      (new-each (with_snapshot_from from children) (λ n place. refl) old.places runs))
   grows (all.closes_all children) old new other load count runs does =
       grows-same lists old new (ap (λ (w : Whole). w.log) does.1) (ap (λ (w : Whole). w.load) does.1)
       (ap (λ (w : Whole). length w.places) does.1 ∙ length-each (without_snapshot children) 1 old.places)

@@ -193,6 +193,8 @@ module _ (lists : Lists) where
         still new batches (drained-other (all.crosses client command) old new batches refl is does)
     drained-event (all.forks_all client children) old new batches everything is does =
         still new batches (drained-other (all.forks_all client children) old new batches refl is does)
+    drained-event (all.forks_all_from from children) old new batches everything is does =
+        still new batches (drained-other (all.forks_all_from from children) old new batches refl is does)
     drained-event (all.closes_all children) old new batches everything is does =
         still new batches (drained-other (all.closes_all children) old new batches refl is does)
     drained-event (all.looks client) old new batches everything is does =

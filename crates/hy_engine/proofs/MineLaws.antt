@@ -1,15 +1,17 @@
 -- Snapshots that were just forked can be closed by whoever has the partitions of the load.
-use Rattle.std.proofs.Common.{ℕ, List, Result, Ok, Err, IfOk}
+use Rattle.std.proofs.Common.{◌≡◌, ◌∙◌, ◌⊎◌, ◌↔◌, ℕ, false, inl, inr, List, Result, Ok, Err, IfOk, IfErr, ap, sym}
+use Rattle.std.proofs.lemmas.Bool.{true≢false}
 use Rattle.hy_rows.specs.Tables.{Lists}
 use Rattle.hy_schema.specs.declared.refusal.Refusal.{Refusal}
+use Rattle.hy_schema.specs.declared.refusal.Refusal.TheVariants as refusals
 use Rattle.hy_partition.specs.Jobs.{Log}
 use Rattle.hy_partition.specs.Partition.{PartitionState}
 use Rattle.hy_partition.specs.Snapshots.{SnapshotState}
 use Rattle.hy_crossing.specs.Crossings.{ArePartitions}
-use Rattle.hy_forks.specs.Forks.{ForksAll}
+use Rattle.hy_forks.specs.Forks.{ForksAll, ForksAllFrom, are_from}
 use Rattle.hy_forks.specs.Origins.{Origin}
-use Rattle.hy_forks.proofs.ForkedLaws.{are_from-forks, are_from-others}
-use Rattle.hy_engine.specs.Engines.{AreMine}
+use Rattle.hy_forks.proofs.ForkedLaws.{are_from-again, are_from-forks, are_from-others}
+use Rattle.hy_engine.specs.Engines.{AreMine, IsWhyNotAgain}
 
 pub forked-mine : (n : ℕ) (kit : Origin) (lists : Lists) (log known : Log) (olds news : List PartitionState)
     (result : Result (List SnapshotState) Refusal) → IfOk result (ForksAll n kit log known olds news)
@@ -17,3 +19,23 @@ pub forked-mine : (n : ℕ) (kit : Origin) (lists : Lists) (log known : Log) (ol
 forked-mine n kit lists log known olds news (Ok all) forks are =
     λ others those. are_from-others kit lists all news others are those (are_from-forks n kit log known all olds news forks)
 forked-mine n kit lists log known olds news (Err why) forks are = tt
+
+-- those of what other ones see
+pub again-mine : (kit : Origin) (lists : Lists) (others : List SnapshotState) (olds news : List PartitionState)
+    (result : Result (List SnapshotState) Refusal) → IfOk result (ForksAllFrom kit others olds news)
+    → ArePartitions lists news → IfOk result (AreMine kit lists)
+again-mine kit lists others olds news (Ok all) forks are =
+    λ those are_those. are_from-others kit lists all news those are are_those
+    (are_from-again kit others all olds news forks)
+again-mine kit lists others olds news (Err why) forks are = tt
+
+-- why there are none
+pub not-again : (kit : Origin) (lists : Lists) (others : List SnapshotState) (parts : List PartitionState)
+    (result : Result (List SnapshotState) Refusal) → ArePartitions lists parts
+    → (result ≡ Err refusals.NotMine ↔ (are_from kit others parts ≡ false))
+    → IfErr result (λ why. (why ≡ refusals.NotMine) ⊎ (why ≡ refusals.NoMemory))
+    → IfErr result (IsWhyNotAgain kit lists others)
+not-again kit lists others parts (Ok all) are mine why = tt
+not-again kit lists others parts (Err why) are mine (inl is) =
+    inl (is, λ own. true≢false (sym (own parts are) ∙ mine.0 (ap Err is)))
+not-again kit lists others parts (Err why) are mine (inr memory) = inr (inr memory)

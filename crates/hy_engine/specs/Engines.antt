@@ -93,6 +93,12 @@ AreMine kit lists snapshots =
 abbrev pub IsWhyUnseen : Refusal → Type 0
 IsWhyUnseen why = (why ≡ refusals.NoSuchWarehouse) ⊎ (why ≡ refusals.NoFrame) ⊎ (why ≡ refusals.NoMemory)
 
+-- why there is none of what another one sees: that one isn't one of the partitions of the load, or why there may be none
+abbrev pub IsWhyNotAgain : Origin → Lists → List SnapshotState → Refusal → Type 0
+IsWhyNotAgain kit lists all why =
+    ((why ≡ refusals.NotMine) × ¬ AreMine kit lists all)
+    ⊎ (why ≡ refusals.NoSuchWarehouse) ⊎ (why ≡ refusals.NoMemory)
+
 -- ---- drains
 
 -- a batch has what some partitions of a load had kept since a drain, whatever that is, all of it of the second edition: so

@@ -1,18 +1,18 @@
 //! Calls on all partitions, with all locks.
 
-ghost use Rattle.std.specs.Prelude.{◌≡◌, ◌⊎◌, ◌≤◌, [], IfErr, IfOk, OnErr, vec_capacity};
+ghost use Rattle.std.specs.Prelude.{◌≡◌, ◌⊎◌, ◌≤◌, [], IfErr, IfOk, OnErr, map, vec_capacity};
 ghost use Rattle.hy_schema.specs.declared.refusal.Refusal.{Refusal};
 ghost use Rattle.hy_crossing.specs.Crossings.{ArePartitions, HaveNoPart};
 ghost use Rattle.hy_crossing.specs.inside.Guards.{values_of};
-ghost use Rattle.hy_forks.specs.Forks.{AreOfKit};
-ghost use Rattle.hy_engine.specs.Engines.{AreMine, IsWhyUnseen, SeesAll};
+ghost use Rattle.hy_forks.specs.Forks.{AreOfKit, shown};
+ghost use Rattle.hy_engine.specs.Engines.{AreMine, IsWhyNotAgain, IsWhyUnseen, SeesAll};
 
 use crate::engine::Engine;
 use crate::gate::Gate;
 use crate::locking::lock_soon;
 use hy_commands::Commit;
 use hy_crossing::are_partitions;
-use hy_forks::{SnapshotAll, close_all, fork_all};
+use hy_forks::{SnapshotAll, close_all, fork_all, fork_all_from};
 use hy_partition::{Loaded, Partition};
 use hy_passes::Pass;
 use hy_schema::Refusal;
@@ -76,6 +76,25 @@ impl<const N: usize, K: Loaded, G: Gate + Drop> Engine<N, K, G> {
         let mut journal = lock_soon(rt, &self.journal);
         journal.tell_client(pass);
         fork_all(alloc, &mut held, &mut journal, pass)
+    }
+
+    /// A snapshot of what another one of all warehouses sees, whose new tickets are of this kit: it lives on when that one is
+    /// closed. It shows what that one shows, and says that it is one of this kit and of any partitions of the load. No pass
+    /// is asked for, and nobody is told of the serial list. Refused with E11 only where the other one isn't one of the
+    /// partitions of the load; else with E4 or E1, of which no clause says why.
+    pub fn fork_all_from<R: Wait>(
+        &self,
+        rt: &R,
+        alloc: Global,
+        all: &SnapshotAll<N>,
+    ) -> Result<SnapshotAll<N>, Refusal>
+        ensures shows { IfOk result (λ again. map shown again ≡ map shown all.now) }
+        ensures kit { IfOk result (AreOfKit K.passes) }
+        ensures mine { IfOk result (AreMine K.passes K.load) }
+        ensures refused { IfErr result (IsWhyNotAgain K.passes K.load all.now) }
+    {
+        let mut held = self.hold(rt, self.room(alloc)?)?;
+        fork_all_from(alloc, &mut held, all)
     }
 
     /// Closes a snapshot of all warehouses, with room for their locks. Refused with E11 or E4 alone, it comes back as

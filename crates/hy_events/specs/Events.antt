@@ -123,6 +123,15 @@ name_of (first ∷ later) = Some (first ∷ later)
 abbrev pub snapshot_of : List (List ℕ) → Option (List ℕ)
 snapshot_of given = word_at 0 given >>= λ word. name_of word >>= λ name. of_words 1 given name
 
+-- NAME, or NAME from OLD
+abbrev pub forked_of : List ℕ → List (List ℕ) → Option Event
+forked_of name [] = Some (events.Fork name)
+forked_of name (word ∷ later) =
+    if bytes_eq word (codes "from") then option_map (events.ForkFrom name) (snapshot_of later) else None
+
+abbrev pub fork_of : List (List ℕ) → Option Event
+fork_of given = first_word given >>= λ word. name_of word >>= λ name. forked_of name (later_words given)
+
 -- NAME TEXT: the name ends at the first space, and the text is all that stands behind it
 abbrev pub query_of : List ℕ → Option Event
 query_of given =
@@ -147,7 +156,7 @@ event_named name given =
     if bytes_eq name (codes "begin") then option_map events.Begin (begun_of given)
     else if bytes_eq name (codes "step") then option_map events.Step (warehouse_of given)
     else if bytes_eq name (codes "done") then option_map events.Done (warehouse_of given)
-    else if bytes_eq name (codes "fork") then option_map events.Fork (snapshot_of given)
+    else if bytes_eq name (codes "fork") then fork_of given
     else if bytes_eq name (codes "close") then option_map events.Close (snapshot_of given)
     else if bytes_eq name (codes "check") then option_map events.Check (snapshot_of given)
     else if bytes_eq name (codes "touched") then option_map events.Touched (warehouse_of given)

@@ -115,6 +115,18 @@ abbrev named_events : map event_of (codes "fork a" ∷ codes "fork from" ∷ cod
     ≡ Some (events.Fork (codes "a")) ∷ Some (events.Fork (codes "from")) ∷ Some (events.Close (codes "x=1")) ∷ []
 named_events = refl
 
+-- a fork of a snapshot that is open; each of its names is any word
+forks_from : map event_of
+    (codes "fork b from a" ∷ codes "fork from from from" ∷ codes "fork a from a" ∷ [])
+    ≡ Some (events.ForkFrom (codes "b") (codes "a")) ∷ Some (events.ForkFrom (codes "from") (codes "from"))
+    ∷ Some (events.ForkFrom (codes "a") (codes "a")) ∷ []
+forks_from = refl
+
+no_forks : map event_of
+    (codes "fork a from" ∷ codes "fork a from " ∷ codes "fork  from a" ∷ codes "fork a of b" ∷ codes "fork a from b c"
+    ∷ codes "fork a From b" ∷ codes "fork a b" ∷ []) ≡ replicate 7 None
+no_forks = refl
+
 -- the text of a query is all that stands behind the name's space, with its spaces; it may be empty, and the name may be any
 abbrev query_events : map event_of
     (codes "query a from item select i_id" ∷ codes "query from  x " ∷ codes "query a " ∷ codes "check query" ∷ [])

@@ -1,7 +1,7 @@
 //! Events, as a script says them.
 
 ghost use Rattle.std.specs.Prelude.{◌≡◌, ◌≤◌, IfOk, IsSomeAnd, IsTrue, OnErr, bytes_eq, codes, length, take, true};
-ghost use Rattle.hy_events.specs.Events.{IsRead, TakesMemory, begun_of, event_named, event_of, limit_of, query_of, snapshot_of, takes_memory, warehouse_of};
+ghost use Rattle.hy_events.specs.Events.{IsRead, TakesMemory, begun_of, event_named, event_of, fork_of, limit_of, query_of, snapshot_of, takes_memory, warehouse_of};
 
 use crate::command::{is, read_command};
 use crate::parts::{Parts, first_end};
@@ -68,6 +68,8 @@ pub enum Event<'a> {
     Done(u64),
     /// Open a snapshot of this name.
     Fork(SnapshotName<'a>),
+    /// Open a snapshot of this name, of what the one of the second name sees.
+    ForkFrom(SnapshotName<'a>, SnapshotName<'a>),
     /// Close the snapshot of this name.
     Close(SnapshotName<'a>),
     /// Ask a query of the snapshot of this name.
@@ -157,7 +159,7 @@ fn event_named<'a>(
         return Ok(read_warehouse(given).map(|warehouse| Event::Done(warehouse)));
     }
     if is(name, "fork") {
-        return Ok(read_name(given).map(|name| Event::Fork(name)));
+        return Ok(read_fork(given));
     }
     if is(name, "close") {
         return Ok(read_name(given).map(|name| Event::Close(name)));
@@ -201,6 +203,25 @@ fn read_warehouse(given: &mut Parts<'_>) -> Option<u64>
         return None;
     }
     Some(warehouse)
+}
+
+/// The name of a snapshot that is opened, and nothing else or `from` and the name of another one.
+fn read_fork<'a>(given: &mut Parts<'a>) -> Option<Event<'a>>
+    ensures { result ≡ fork_of given.old }
+{
+    let bytes = given.take_part()?;
+    if bytes.is_empty() {
+        return None;
+    }
+    let name = SnapshotName { bytes };
+    let Some(word) = given.take_part() else {
+        return Some(Event::Fork(name));
+    };
+    if !is(word, "from") {
+        return None;
+    }
+    let other = read_name(given)?;
+    Some(Event::ForkFrom(name, other))
 }
 
 /// The name of a snapshot, and nothing else.

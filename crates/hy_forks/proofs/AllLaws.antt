@@ -27,6 +27,7 @@ use Rattle.hy_forks.specs.inside.Places.{AreOf, ClosesExactly, ClosesExactlyHere
 use Rattle.hy_forks.proofs.DatabaseLaws.{rows-behind}
 use Rattle.hy_forks.proofs.ForkLaws.{unforked-closed, unforked-same, unforked-stays}
 use Rattle.hy_forks.proofs.KnownLaws.{forks-known}
+use Rattle.hy_forks.proofs.TakenLaws.{of-taken, taken-more, taken-undone}
 use Rattle.hy_forks.proofs.RelationLaws.{before-all, before-more, before-still, changes-get, changes-pairs, pairs-get, pairs-length, pairs-map, pairs-same}
 use Rattle.hy_forks.proofs.PartsLaws.{KeepsPlace, numbered-hold, partition-at, still-partitions, still-whole}
 use Rattle.hy_forks.proofs.PlaceLaws.{front-holds, get-last, get-within, some-both, some-each, some-is, some-map, some-out, some-this}
@@ -64,25 +65,14 @@ module _ (n : ℕ) (kit : Origin) (log known : Log) (snapshots : List SnapshotSt
     pairs-length (Before (place + 1) (ForksExactlyHere n kit log known snapshots)) 1 olds middles forked,
   )
 
-  -- ---- one more is forked
-
   module _ (seen : Log) (begins : IsPrefix known seen) (snapshot : SnapshotState) (news : List PartitionState)
       (changes : ChangesAt (ForksExactly n kit log seen snapshot) place middles news) where
     pub forks-more : Pairwise (Before (place + 1 + 1) (ForksExactlyHere n kit log known (snapshots ++ snapshot ∷ []))) 1
         olds news
     forks-more =
-        before-more (ForksExactlyHere n kit log known snapshots)
-        (ForksExactlyHere n kit log known (snapshots ++ snapshot ∷ [])) (ForksExactly n kit log seen snapshot) place
-        (λ number old new here. front-holds (λ snapshot. ForksExactly n kit log known snapshot old new) snapshots
-        (snapshot ∷ []) (number - 1) here)
-        (λ old new forks. some-is (λ snapshot. ForksExactly n kit log known snapshot old new)
-        (slice_get (snapshots ++ snapshot ∷ []) (place + 1 - 1)) snapshot
-        (get-last snapshots snapshot (place + 1 - 1) (omega (arith, counted)))
-        (forks-known n kit log known seen snapshot old new begins forks))
-        olds middles news forked
-        (changes-pairs (ForksExactly n kit log seen snapshot) place middles news within_middles changes)
-
-  -- ---- the next one is refused
+        taken-more (λ number. ForksExactly n kit log known) snapshots place counted olds middles forked within
+        (ForksExactly n kit log seen snapshot) snapshot
+        (λ old new forks. forks-known n kit log known seen snapshot old new begins forks) news changes
 
   module _ (why : Refusal) (thirds : List PartitionState)
       (refused : ChangesAt (RefusesFork why) place middles thirds) where
@@ -96,75 +86,20 @@ module _ (n : ℕ) (kit : Origin) (log known : Log) (snapshots : List SnapshotSt
           | inr memory ↦ inr memory
         ]
 
-    -- those before the place are forked, and the others aren't
-    abbrev IsHalf : ℕ → PartitionState → PartitionState → Type 0
-    IsHalf number old new = ((number < place + 1) × ForksExactlyHere n kit log known snapshots number old new)
-        ⊎ ((place + 1 ≤ number) × IsUnforked log old new)
-
-    halves : Pairwise IsHalf 1 olds thirds
-    halves =
-        pairs-then (Before (place + 1) (ForksExactlyHere n kit log known snapshots))
-        (At (place + 1) (λ number. RefusesFork why)) IsHalf joins 1 olds middles thirds forked
-        (changes-pairs (RefusesFork why) place middles thirds within_middles refused)
-      where
-        joins : (number : ℕ) (old middle new : PartitionState)
-            → Before (place + 1) (ForksExactlyHere n kit log known snapshots) number old middle
-            → At (place + 1) (λ number. RefusesFork why) number middle new → IsHalf number old new
-        joins number old middle new (inl early) (inl is) = absurd (omega (arith, early.0, is.0))
-        joins number old middle new (inl early) (inr other) =
-            inl (
-              early.0,
-              subst (λ (p : PartitionState). ForksExactlyHere n kit log known snapshots number old p)
-                  (sym other.1) early.1,
-            )
-        joins number old middle new (inr late) (inl is) =
-            inr (
-              late.0,
-              subst (λ (p : PartitionState). IsUnforked log p new) late.1
-                  (unforked-stays log middle new is.1.stays),
-            )
-        joins number old middle new (inr late) (inr other) =
-            inr (
-              late.0,
-              subst (λ (p : PartitionState). IsUnforked log old p) (sym (other.1 ∙ late.1))
-                  (unforked-same log old),
-            )
-
     pub of-halves : AreOf kit snapshots thirds
-    of-halves k = some-each (λ snapshot. IsSomeAnd (slice_get thirds k) (IsOf kit snapshot)) (slice_get snapshots k)
-        (λ snapshot there.
-        let early : k < place = omega (arith, get-within snapshots k snapshot there, counted) in
-        let at = pairs-get IsHalf 1 olds thirds halves k (omega (arith, early, within)) in
-        let back : 1 + k - 1 ≡ k = omega arith in
-        elim at.relates [
-          | inl half ↦
-              some-is (IsOf kit snapshot) (slice_get thirds k) at.new at.new_is
-              (of-fork n kit log known snapshot at.old at.new
-              (some-this (λ snapshot. ForksExactly n kit log known snapshot at.old at.new) (slice_get snapshots k)
-              snapshot there
-              (subst (λ m. IsSomeAnd (slice_get snapshots m) (λ snapshot. ForksExactly n kit log known snapshot at.old
-              at.new)) back half.1)))
-          | inr late ↦ absurd (omega (arith, late.0, early))
-        ])
+    of-halves =
+        of-taken (λ number. ForksExactly n kit log known) snapshots place counted olds middles forked within kit
+        (IsUnforked log) (unforked-same log) (λ number. of-fork n kit log known) (RefusesFork why)
+        (λ old new refused. unforked-stays log old new refused.stays) thirds refused
 
     pub all-unforked : (news : List PartitionState)
         → Pairwise (Before (length snapshots + 1) (ClosesExactlyHere snapshots)) 1 thirds news
         → Pairwise (λ number. IsUnforked log) 1 olds news
-    all-unforked news closed =
-        pairs-then IsHalf (Before (length snapshots + 1) (ClosesExactlyHere snapshots)) (λ number. IsUnforked log) joins
-        1 olds thirds news halves closed
-      where
-        joins : (number : ℕ) (old middle new : PartitionState) → IsHalf number old middle
-            → Before (length snapshots + 1) (ClosesExactlyHere snapshots) number middle new → IsUnforked log old new
-        joins number old middle new (inl half) (inl closes) =
-            some-both (λ snapshot. ForksExactly n kit log known snapshot old middle)
-            (λ snapshot. ClosesExactly snapshot middle new) (IsUnforked log old new) (slice_get snapshots (number - 1))
-            half.1 closes.1
-            (λ snapshot forks closed. unforked-closed n kit log known snapshot old middle new forks closed)
-        joins number old middle new (inl half) (inr late) = absurd (omega (arith, half.0, late.0, counted))
-        joins number old middle new (inr half) (inl closes) = absurd (omega (arith, half.0, closes.0, counted))
-        joins number old middle new (inr half) (inr late) =
-            subst (λ (p : PartitionState). IsUnforked log old p) (sym late.1) half.1
+    all-unforked =
+        taken-undone (λ number. ForksExactly n kit log known) snapshots place counted olds middles forked within kit
+        (IsUnforked log) (unforked-same log) (λ number. of-fork n kit log known) (RefusesFork why)
+        (λ old new refused. unforked-stays log old new refused.stays) thirds refused
+        (λ number snapshot old middle new forks closed. unforked-closed n kit log known snapshot old middle new forks closed)
 
 -- ---- what stays in the end
 

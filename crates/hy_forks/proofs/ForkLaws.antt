@@ -1,17 +1,18 @@
 -- A fork whose snapshot was closed again, or that was refused, leaves the partition as it was.
-use Rattle.std.proofs.Common.{◌≡◌, ◌∙◌, ℕ, zero, suc, List, [], ◌∷◌, ◌++◌, Option, None, Some, count_by, inl, inr, option_map, slice_index_or, ap, refl, sym}
+use Rattle.std.proofs.Common.{◌≡◌, ◌∙◌, ◌⊎◌, ℕ, zero, suc, List, [], ◌∷◌, ◌++◌, Option, None, Some, count_by, inl, inr, option_map, slice_index_or, ap, refl, sym}
 use Rattle.std.specs.List.{flat_map}
 use Rattle.std.specs.Prelude.{option_to_list}
 use Rattle.std.proofs.lemmas.Bool.{cases_eq}
+use mathlib.Core.List.{IsPrefix}
 use Rattle.hy_worlds.specs.Origins.{Origin}
 use Rattle.hy_frames.specs.FrameTable.{count_of}
 use Rattle.hy_space.specs.Space.{CountsAreExact, SpaceState, child_bytes, child_table, maps}
 use Rattle.hy_partition.specs.Jobs.{Log}
 use Rattle.hy_partition.specs.Partition.{PartitionState, commits_of}
 use Rattle.hy_partition.specs.Snapshots.{SnapshotState}
-use Rattle.hy_partition.specs.Steps.{KeepsJob, StaysUnforked}
+use Rattle.hy_partition.specs.Steps.{KeepsJob, KeepsOthers, StaysUnforked}
 use Rattle.hy_forks.specs.Forks.{IsUnforked}
-use Rattle.hy_forks.specs.inside.Places.{ClosesExactly, ForksExactly}
+use Rattle.hy_forks.specs.inside.Places.{ClosesExactly, ForksExactly, ForksFromExactly}
 
 keeps-then : (old middle new : PartitionState) → KeepsJob old middle → KeepsJob middle new → KeepsJob old new
 keeps-then old middle new first next = record {
@@ -97,43 +98,61 @@ none-mapped : {A B : Type 0} (to : A → B) (value : Option A) → option_map to
 none-mapped to None is = refl
 none-mapped to (Some x) is = absurd (cc)
 
--- ---- a fork, and the close of its snapshot
+-- ---- a snapshot was taken, and closed again
 
-module _ (n : ℕ) (kit : Origin) (log known : Log) (snapshot : SnapshotState) (old middle new : PartitionState)
-    (forked : ForksExactly n kit log known snapshot old middle) (closed : ClosesExactly snapshot middle new) where
+module _ (snapshot : SnapshotState) (old middle new : PartitionState) (exact : CountsAreExact old.space)
+    (free : child_table old.space snapshot.child ≡ None) (fresh : commits_of old snapshot.child ≡ None)
+    (others : KeepsOthers old middle snapshot.child) (taken : KeepsJob old middle)
+    (limit : middle.space.frames.max ≡ old.space.frames.max) (closed : ClosesExactly snapshot middle new) where
   closed_table : child_table new.space snapshot.child ≡ None
   closed_table = none-mapped _ (child_table new.space snapshot.child) closed.closes.bytes
 
   tables : (child : ℕ) → child_table new.space child ≡ child_table old.space child
   tables child = elim (cases_eq child snapshot.child) [
-    | inl same ↦ rw same (closed_table ∙ sym forked.forks.child.closed)
-    | inr other ↦ closed.closes.others.bytes.tables child other ∙ forked.forks.others.bytes.tables child other
+    | inl same ↦ rw same (closed_table ∙ sym free)
+    | inr other ↦ closed.closes.others.bytes.tables child other ∙ others.bytes.tables child other
   ]
 
   commits : (child : ℕ) → commits_of new child ≡ commits_of old child
   commits child = elim (cases_eq child snapshot.child) [
-    | inl same ↦ rw same (closed.closes.commits ∙ sym forked.forks.fresh)
-    | inr other ↦ closed.closes.others.commits child other ∙ forked.forks.others.commits child other
+    | inl same ↦ rw same (closed.closes.commits ∙ sym fresh)
+    | inr other ↦ closed.closes.others.commits child other ∙ others.commits child other
   ]
 
   was_closed : child_bytes old.space snapshot.child ≡ None
-  was_closed = ap (option_map _) forked.forks.child.closed
+  was_closed = ap (option_map _) free
 
   bytes : (child : ℕ) → child_bytes new.space child ≡ child_bytes old.space child
   bytes child = elim (cases_eq child snapshot.child) [
     | inl same ↦ rw same (closed.closes.bytes ∙ sym was_closed)
-    | inr other ↦ closed.closes.others.bytes.bytes child other ∙ forked.forks.others.bytes.bytes child other
+    | inr other ↦ closed.closes.others.bytes.bytes child other ∙ others.bytes.bytes child other
   ]
 
-  pub unforked-closed : IsUnforked log old new
-  unforked-closed =
-      let job = keeps-then old middle new forked.forks.job closed.closes.job in
+  restored : (log : Log) → (new.seen ≡ old.seen) ⊎ ((new.seen ≡ log) × IsPrefix old.seen log) → IsUnforked log old new
+  restored log seen =
+      let job = keeps-then old middle new taken closed.closes.job in
       record {
         job = job;
-        seen = inr (closed.closes.seen ∙ forked.forks.seen, forked.forks.told);
+        seen = seen;
         snapshots = commits;
         tables = tables;
         bytes = bytes;
-        counts = counts-same old.space new.space forked.exact closed.exact job.owner.table tables;
-        max_frames = closed.closes.max_frames ∙ forked.forks.max_frames;
+        counts = counts-same old.space new.space exact closed.exact job.owner.table tables;
+        max_frames = closed.closes.max_frames ∙ limit;
       }
+
+-- by a fork
+pub unforked-closed : (n : ℕ) (kit : Origin) (log known : Log) (snapshot : SnapshotState) (old middle new : PartitionState)
+    → ForksExactly n kit log known snapshot old middle → ClosesExactly snapshot middle new → IsUnforked log old new
+unforked-closed n kit log known snapshot old middle new forked closed =
+    let forks = forked.forks in
+    restored snapshot old middle new forked.exact forks.child.closed forks.fresh forks.others forks.job forks.max_frames
+    closed log (inr (closed.closes.seen ∙ forks.seen, forks.told))
+
+-- by a fork of another snapshot
+pub unforked-again : (kit : Origin) (log : Log) (from snapshot : SnapshotState) (old middle new : PartitionState)
+    → ForksFromExactly kit from snapshot old middle → ClosesExactly snapshot middle new → IsUnforked log old new
+unforked-again kit log from snapshot old middle new forked closed =
+    let forks = forked.forks in
+    restored snapshot old middle new forked.exact forks.child.closed forks.fresh forks.others forks.job
+    forks.users.limit closed log (inl (closed.closes.seen ∙ forks.seen))

@@ -7,43 +7,65 @@ use Rattle.hy_rows.specs.Tables.{Lists}
 use Rattle.hy_partition.specs.Jobs.{Log}
 use Rattle.hy_partition.specs.Partition.{PartitionState, Terms}
 use Rattle.hy_partition.specs.Snapshots.{SnapshotState}
-use Rattle.hy_partition.specs.Steps.{Forks, is_from}
+use Rattle.hy_partition.specs.Steps.{Forks, ForksFrom, KeepsJob, is_from}
 use Rattle.hy_crossing.specs.Crossings.{ArePartitions, IsPartition}
 use Rattle.hy_crossing.specs.Lists.{Pairwise}
-use Rattle.hy_forks.specs.Forks.{ForksAll, ForksHere, are_from}
+use Rattle.hy_forks.specs.Forks.{ForksAll, ForksAllFrom, ForksFromHere, ForksHere, are_from}
+use Rattle.hy_forks.proofs.PlaceLaws.{some-map, some-out}
+use Rattle.hy_forks.proofs.RelationLaws.{pairs-map}
 
-module _ (n : ℕ) (kit : Origin) (log known : Log) where
-  -- a snapshot says that it is one of the partition that was forked
-  is_from-fork : (old new : PartitionState) (snapshot : SnapshotState) → Forks n kit log known old new snapshot
-      → is_from snapshot new.warehouse kit ≡ true
-  is_from-fork old new snapshot fork =
-      let here : snapshot.warehouse ≡ new.warehouse =
-      fork.warehouse ∙ ap (λ (terms : Terms). terms.warehouse) (sym fork.job.terms) in
-      rw (here, fork.name) (grind (arith, nat_tests))
+-- the snapshot at the place of a partition says that it is one of it
+abbrev IsFromHere : Origin → List SnapshotState → ℕ → PartitionState → PartitionState → Type 0
+IsFromHere kit all number old new =
+    IsSomeAnd (slice_get all (number - 1)) (λ snapshot. is_from snapshot new.warehouse kit ≡ true)
 
-  module _ (all : List SnapshotState) where
-    -- those from a place on, of the partitions from there on
-    from-forks : (place : ℕ) (snapshots : List SnapshotState) (olds news : List PartitionState)
-        → ((further : ℕ) → slice_get all (place + further) ≡ slice_get snapshots further)
-        → length snapshots ≡ length olds → Pairwise (ForksHere n kit log known all) (suc place) olds news
-        → are_from kit snapshots news ≡ true
-    from-forks place [] [] [] are count forks = refl
-    from-forks place [] [] (new ∷ news) are count forks = absurd forks
-    from-forks place [] (old ∷ olds) news are count forks = absurd (omega (arith, count))
-    from-forks place (snapshot ∷ later) [] news are count forks = absurd (omega (arith, count))
-    from-forks place (snapshot ∷ later) (old ∷ olds) [] are count forks = absurd forks
-    from-forks place (snapshot ∷ later) (old ∷ olds) (new ∷ news) are count forks =
-        let back : suc place - 1 ≡ place + 0 = omega arith in
-        let this : Forks n kit log known old new snapshot =
-        subst (λ found. IsSomeAnd found (Forks n kit log known old new)) (ap (slice_get all) back ∙ are 0) forks.0 in
-        let rest = from-forks (suc place) later olds news
-        (λ further. ap (slice_get all) (omega arith) ∙ are (suc further)) (omega (arith, count)) forks.1 in
-        rw (is_from-fork old new snapshot this, rest) refl
+module _ (kit : Origin) (all : List SnapshotState) where
+  -- those from a place on, of the partitions from there on
+  from-here : (place : ℕ) (snapshots : List SnapshotState) (olds news : List PartitionState)
+      → ((further : ℕ) → slice_get all (place + further) ≡ slice_get snapshots further)
+      → length snapshots ≡ length olds → Pairwise (IsFromHere kit all) (suc place) olds news
+      → are_from kit snapshots news ≡ true
+  from-here place [] [] [] are count here = refl
+  from-here place [] [] (new ∷ news) are count here = absurd here
+  from-here place [] (old ∷ olds) news are count here = absurd (omega (arith, count))
+  from-here place (snapshot ∷ later) [] news are count here = absurd (omega (arith, count))
+  from-here place (snapshot ∷ later) (old ∷ olds) [] are count here = absurd here
+  from-here place (snapshot ∷ later) (old ∷ olds) (new ∷ news) are count here =
+      let back : suc place - 1 ≡ place + 0 = omega arith in
+      let this : is_from snapshot new.warehouse kit ≡ true =
+      subst (λ found. IsSomeAnd found (λ it. is_from it new.warehouse kit ≡ true)) (ap (slice_get all) back ∙ are 0) here.0 in
+      let rest = from-here (suc place) later olds news (λ further. ap (slice_get all) (omega arith) ∙ are (suc further))
+      (omega (arith, count)) here.1 in
+      rw (this, rest) refl
 
-    pub are_from-forks : (olds news : List PartitionState) → ForksAll n kit log known olds news all
-        → are_from kit all news ≡ true
-    are_from-forks olds news forks =
-        from-forks 0 all olds news (λ further. ap (slice_get all) (omega arith)) forks.count forks.each
+  from-all : (olds news : List PartitionState) → length all ≡ length olds
+      → Pairwise (IsFromHere kit all) 1 olds news → are_from kit all news ≡ true
+  from-all olds news count here = from-here 0 all olds news (λ further. ap (slice_get all) (omega arith)) count here
+
+-- a snapshot of a partition that was forked says that it is one of it
+is_from-taken : (kit : Origin) (snapshot : SnapshotState) (old new : PartitionState) → KeepsJob old new
+    → snapshot.warehouse ≡ old.warehouse → snapshot.name ≡ kit.name → is_from snapshot new.warehouse kit ≡ true
+is_from-taken kit snapshot old new job warehouse name =
+    let here : snapshot.warehouse ≡ new.warehouse = warehouse ∙ ap (λ (terms : Terms). terms.warehouse) (sym job.terms) in
+    rw (here, name) (grind (arith, nat_tests))
+
+pub are_from-forks : (n : ℕ) (kit : Origin) (log known : Log) (all : List SnapshotState) (olds news : List PartitionState)
+    → ForksAll n kit log known olds news all → are_from kit all news ≡ true
+are_from-forks n kit log known all olds news forks =
+    from-all kit all olds news forks.count (pairs-map (ForksHere n kit log known all) (IsFromHere kit all)
+    (λ number old new here. some-map (Forks n kit log known old new)
+    (λ snapshot. is_from snapshot new.warehouse kit ≡ true) (slice_get all (number - 1))
+    (λ snapshot fork. is_from-taken kit snapshot old new fork.job fork.warehouse fork.name) here) 1 olds news forks.each)
+
+pub are_from-again : (kit : Origin) (others all : List SnapshotState) (olds news : List PartitionState)
+    → ForksAllFrom kit others olds news all → are_from kit all news ≡ true
+are_from-again kit others all olds news forks =
+    from-all kit all olds news forks.count (pairs-map (ForksFromHere kit others all) (IsFromHere kit all)
+    (λ number old new here. some-map (λ snapshot. IsSomeAnd (slice_get others (number - 1)) (λ from.
+    ForksFrom kit from old new snapshot)) (λ snapshot. is_from snapshot new.warehouse kit ≡ true)
+    (slice_get all (number - 1)) (λ snapshot taken.
+    let fork = (some-out (λ from. ForksFrom kit from old new snapshot) (slice_get others (number - 1)) taken).2 in
+    is_from-taken kit snapshot old new fork.job fork.warehouse fork.name) here) 1 olds news forks.each)
 
 module _ (kit : Origin) (lists : Lists) where
   -- those of some partitions are those of any others of the same warehouses

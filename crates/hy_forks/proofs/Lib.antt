@@ -5,8 +5,10 @@ pub mod KnownLaws
 pub mod PartsLaws
 pub mod HistoryLaws
 pub mod DatabaseLaws
+pub mod TakenLaws
 pub mod AllLaws
 pub mod CloseLaws
+pub mod AgainLaws
 pub mod TellLaws
 pub mod ResultLaws
 pub mod LackLaws

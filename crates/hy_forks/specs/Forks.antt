@@ -3,8 +3,10 @@ use Rattle.std.specs.Prelude.{◌≡◌, ◌⊎◌, ◌<◌, ℕ, suc, ◌-◌, 
 use mathlib.Core.List.{IsPrefix}
 use Rattle.hy_worlds.specs.Origins.{Origin, desk_of}
 use Rattle.hy_rows.specs.Spelling.{Spells}
+use Rattle.hy_rows.specs.Tables.{Lists}
 use Rattle.hy_schema.specs.declared.refusal.Refusal.{Refusal}
 use Rattle.hy_schema.specs.declared.refusal.Refusal.TheVariants as refusals
+use Rattle.hy_commands.specs.declared.command.Commit.{Commit}
 use Rattle.hy_commands.specs.Parts.{Database, rows_of}
 use Rattle.hy_frames.specs.FrameTable.{count_of, free_of}
 use Rattle.hy_space.specs.Space.{child_bytes, child_table}
@@ -12,7 +14,7 @@ use Rattle.hy_undo.specs.Touched.{touched}
 use Rattle.hy_partition.specs.Jobs.{Log}
 use Rattle.hy_partition.specs.Partition.{PartitionState, commits_of}
 use Rattle.hy_partition.specs.Snapshots.{SnapshotState}
-use Rattle.hy_partition.specs.Steps.{Closes, Forks, KeepsJob, is_from}
+use Rattle.hy_partition.specs.Steps.{Closes, Forks, ForksFrom, KeepsJob, is_from}
 use Rattle.hy_crossing.specs.Lists.{Pairwise}
 
 -- the partition of the warehouse with a number was forked, for a client who had seen a beginning of the serial list:
@@ -52,6 +54,35 @@ pub record IsUnforked (log : Log) (old new : PartitionState) : Type 0 where
   pub bytes : (child : ℕ) → child_bytes new.space child ≡ child_bytes old.space child
   pub counts : (f : ℕ) → count_of new.space.frames f ≡ count_of old.space.frames f
   pub max_frames : new.space.frames.max ≡ old.space.frames.max
+
+-- ---- forks of snapshots
+
+-- the partition of the warehouse with a number has a snapshot more, of what the one at its place among some sees
+abbrev pub ForksFromHere : Origin → List SnapshotState → List SnapshotState → ℕ → PartitionState → PartitionState → Type 0
+ForksFromHere kit all snapshots number old new =
+    IsSomeAnd (slice_get snapshots (number - 1)) (λ snapshot. IsSomeAnd (slice_get all (number - 1)) (λ from.
+    ForksFrom kit from old new snapshot))
+
+-- each partition has
+pub record ForksAllFrom (kit : Origin) (all : List SnapshotState) (old new : List PartitionState)
+    (snapshots : List SnapshotState) : Type 0 where
+  pub count : length snapshots ≡ length old
+  pub each : Pairwise (ForksFromHere kit all snapshots) 1 old new
+
+-- what a snapshot shows, whatever its ticket is
+pub record Shown : Type 0 where
+  pub load : Lists
+  pub warehouse : ℕ
+  pub commits : ℕ
+  pub kept : List Commit
+  pub bytes : List (List (List ℕ))
+
+abbrev pub shown : SnapshotState → Shown
+shown s = record { load = s.load; warehouse = s.warehouse; commits = s.commits; kept = s.kept; bytes = s.bytes }
+
+-- nothing is forked in the end, and nobody was told
+abbrev pub IsUnforkedUntold : PartitionState → PartitionState → Type 0
+IsUnforkedUntold old new = (log : Log) → IsUnforked log old new
 
 -- ---- closing
 

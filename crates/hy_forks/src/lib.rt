@@ -5,12 +5,14 @@
 mod closing;
 mod drains;
 mod forks;
+mod forks_from;
 mod history;
 mod knowing;
 mod snapshot;
 
 pub use drains::drain;
 pub use forks::{close_all, fork_all};
+pub use forks_from::fork_all_from;
 pub use history::find_history;
 pub use hy_batches::Batch;
 pub use hy_crossing::Parts;

@@ -39,6 +39,13 @@ impl<const N: usize> SnapshotAll<N> {
         parts
     }
 
+    /// The snapshots of the warehouses, in order.
+    pub fn parts(&self) -> &[Snapshot<N>]
+        ensures { result.now ≡ self.now }
+    {
+        self.parts.as_slice()
+    }
+
     /// How many warehouses there are.
     pub fn len(&self) -> usize
         ensures { result ≡ length self.now }

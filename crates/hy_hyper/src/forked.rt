@@ -131,6 +131,18 @@ pub fn take<const N: usize, K: Loaded>(
     })
 }
 
+/// Takes a snapshot of what another one sees.
+pub fn take_from<const N: usize, K: Loaded>(
+    partition: &mut Partition<N, K>,
+    from: &Taken<N, K>,
+) -> Result<Taken<N, K>, Refusal> {
+    let snapshot = partition.fork_from(&from.snapshot)?;
+    Ok(Taken {
+        snapshot,
+        of: PhantomData,
+    })
+}
+
 /// Closes a snapshot of this world, where it is the partition's.
 pub fn give_back<const N: usize, K: Loaded>(
     partition: &mut Partition<N, K>,
@@ -194,6 +206,15 @@ impl<const N: usize, K: Loaded> Forked<N, K> {
             panic!(rt; "a client")
         };
         let taken = take(&mut self.partition, &mut self.journal, client)?;
+        self.snapshots.push_reserved(taken);
+        Ok(())
+    }
+
+    /// Takes a snapshot of what the one at a place sees, behind the others.
+    pub fn fork_from(&mut self, rt: &impl Abort, place: usize) -> Result<(), Refusal> {
+        self.snapshots.reserve(1).expect(rt, "a place");
+        let from = self.snapshots.get(place).expect(rt, "a snapshot");
+        let taken = take_from(&mut self.partition, from)?;
         self.snapshots.push_reserved(taken);
         Ok(())
     }

@@ -6,6 +6,8 @@ mod system;
 use std::process::ExitCode;
 
 #[cfg(test)]
+mod chain_tests;
+#[cfg(test)]
 mod example;
 #[cfg(test)]
 mod failing_tests;
@@ -17,6 +19,8 @@ mod lists;
 mod load_tests;
 #[cfg(test)]
 mod note_tests;
+#[cfg(test)]
+mod order_tests;
 #[cfg(test)]
 mod partition_tests;
 #[cfg(test)]

@@ -1,12 +1,12 @@
 -- A fork: the snapshot that it gives, and what is left where it was refused after its child was opened.
-use Rattle.std.proofs.Common.{◌≡◌, ◌≢◌, ℕ, ◌+◌, ◌≤◌, inl, inr, List, [], map, filter, length, length-take, Option, Some, None, refl, sym, ap, ◌∙◌, subst, arith}
-use Rattle.std.specs.Prelude.{slice_index_or}
+use Rattle.std.proofs.Common.{◌≡◌, ◌≢◌, ◌==◌, ℕ, ◌+◌, ◌≤◌, true, inl, inr, List, [], map, filter, length, length-take, Option, Some, None, refl, sym, ap, ◌∙◌, subst, arith}
+use Rattle.std.specs.Prelude.{IsSome, slice_index_or}
 use Rattle.std.specs.Option.{option_map}
-use Rattle.std.proofs.lemmas.Bool.{cases_eq, cases_lt}
+use Rattle.std.proofs.lemmas.Bool.{and_parts, cases_eq, cases_lt, eqb-true}
 use Rattle.std.proofs.lemmas.List.{append-nil}
 use Rattle.hy_frames.specs.FrameTable.{count_of, free_of, max_frames}
 use Rattle.hy_rows.specs.Spelling.{HasTables, Spells, list_at}
-use Rattle.hy_space.specs.Space.{IsSound as IsSoundSpace, SpaceState, SameForOthers, SameForOwner, KeepsOwn, IsLeastFree, IsUnchanged, DropsUsers, child_bytes, child_table, child_times, owner_bytes, table_bytes}
+use Rattle.hy_space.specs.Space.{IsSound as IsSoundSpace, SpaceState, SameForOthers, SameForOwner, KeepsOwn, IsLeastFree, IsUnchanged, AddsUsers, DropsUsers, child_bytes, child_table, child_times, owner_bytes, table_bytes}
 use Rattle.hy_space.proofs.TableLaws.{same_bytes, same_child_bytes}
 use Rattle.hy_undo.specs.UndoLog.{UndoLog, first_pages, undone}
 use Rattle.hy_undo.specs.Touched.{touched}
@@ -27,11 +27,12 @@ use Rattle.hy_commands.specs.Commands.{warehouses_of_commit}
 use Rattle.hy_commands.specs.Replay.{rows_after as lists_after}
 use Rattle.hy_partition.specs.Jobs.{Log}
 use Rattle.hy_partition.specs.Partition.{PartitionState, commits_of, projection_of, rows_now}
-use Rattle.hy_partition.specs.Snapshots.{IsTakenBehind, SnapshotState}
+use Rattle.hy_partition.specs.Snapshots.{IsTakenBehind, IsWhole, SnapshotState}
 use Rattle.hy_partition.specs.inside.Soundness.{IsSound}
-use Rattle.hy_partition.specs.Steps.{Forks, KeepsOthers, StaysUnforked}
+use Rattle.hy_partition.specs.Headline.{SpellsBeginning}
+use Rattle.hy_partition.specs.Steps.{Forks, ForksFrom, KeepsOthers, StaysUnforked, is_from}
 use Rattle.hy_partition.proofs.SoundLaws.{sound-forked, sound-snapshots, snapshot_fresh, spells-store}
-use Rattle.hy_partition.proofs.SpellLaws.{spells-kept_more}
+use Rattle.hy_partition.proofs.SpellLaws.{spells-from, spells-kept_more}
 
 -- what a beginning of a serial list has of a warehouse begins what the list has of it
 projection-begins : (warehouse : ℕ) (known log : Log) → IsPrefix known log
@@ -92,6 +93,29 @@ module _ (n room : ℕ) (executor : ExecutorState) (p : PartitionState) (sound :
     counts = before.counts;
     max_frames = limit;
   }
+
+-- a refusal that left the pages, and no snapshot was opened
+pub stays-same : (p : PartitionState) (space : SpaceState) (snapshots : List (Option ℕ)) → space ≡ p.space
+    → snapshots ≡ p.snapshots → StaysUnforked p (record p { space = space; snapshots = snapshots })
+stays-same p space snapshots same stay = record {
+  job = record {
+    terms = refl;
+    kept = refl;
+    drained = refl;
+    book = refl;
+    running = refl;
+    part = refl;
+    undo = refl;
+    finished = refl;
+    owner = record { table = ap (λ (s : SpaceState). s.owner) same; bytes = ap owner_bytes same };
+  };
+  seen = refl;
+  snapshots = λ child. ap (λ (all : List (Option ℕ)). slice_index_or all child None) stay;
+  tables = λ child. ap (λ (s : SpaceState). child_table s child) same;
+  bytes = λ child. ap (λ (s : SpaceState). child_bytes s child) same;
+  counts = λ f. ap (λ (s : SpaceState). count_of s.frames f) same;
+  max_frames = ap (λ (s : SpaceState). s.frames.max) same;
+}
 
 -- no segment has more pages once the first ones are left of each, and images of pages are put back
 few-undone : (pages : List (List (List ℕ))) (undo : UndoLog) (segment : ℕ) → length (list_at (undone pages undo) segment) ≤ length (list_at pages segment)
@@ -265,3 +289,87 @@ module _ (n room : ℕ) (executor : ExecutorState) (p : PartitionState) (sound :
       counts = λ f. omega (arith, users f, lent.counts f, drops.counts f, ap (child_times f) (unchanged_child mid held lent child));
       max_frames = drops.limit ∙ lent.limit ∙ limit;
     }
+
+-- a child was opened with the table of the child of another snapshot
+module _ (n room : ℕ) (executor : ExecutorState) (p : PartitionState) (sound : IsSound n room executor p) (held : SpaceState)
+    (child from : ℕ) (bytes : child_bytes held child ≡ child_bytes p.space from) (others : SameForOthers p.space held child)
+    (owner : SameForOwner p.space held) (kept : KeepsOwn p.space held) (snapshots : List (Option ℕ))
+    (commits : slice_index_or snapshots child None ≡ commits_of p from)
+    (others_commits : (other : ℕ) → other ≢ child → slice_index_or snapshots other None ≡ commits_of p other) where
+  abbrev again : PartitionState
+  again = record p { space = held; snapshots = snapshots }
+
+  pub sound-again : IsSound n room executor (record p { space = held; snapshots = snapshots })
+  sound-again =
+      sound-snapshots n room executor p sound held snapshots owner
+      (IsUndoLog-kept n p.space held p.undo (KeepsPages-unseen p.space held owner.bytes kept) sound.undo_log) each
+    where
+      each : (other : ℕ) → SpellsBeginning n again other
+      each other = elim (cases_eq other child) [
+        | inl same ↦ subst (λ (c : ℕ). SpellsBeginning n again c) (sym same)
+            (spells-from n p again refl [] (sym (append-nil p.kept)) child from commits bytes (sound.snapshots from))
+        | inr apart ↦ spells-kept_more n p again refl [] (sym (append-nil p.kept)) other (others_commits other apart)
+            (others.bytes other apart) (sound.snapshots other)
+      ]
+
+  -- the snapshot that was taken of what the other one sees
+  pub forks-from : (kit : Origin) (other snapshot : SnapshotState) → is_from other p.warehouse kit ≡ true
+      → other.child ≡ from → IsSome (commits_of p from) → IsLeastFree p.space child
+      → child_table held child ≡ child_table p.space from
+      → AddsUsers p.space.frames held.frames (λ f. child_times f (child_table p.space from))
+      → snapshot.load ≡ other.load → snapshot.warehouse ≡ p.warehouse → snapshot.name ≡ kit.name
+      → snapshot.desk ≡ desk_of kit p.warehouse → snapshot.child ≡ child → snapshot.commits ≡ other.commits
+      → snapshot.kept ≡ other.kept → snapshot.bytes ≡ other.bytes
+      → ForksFrom kit other p (record p { space = held; snapshots = snapshots }) snapshot
+  forks-from kit other snapshot mine from_is was least table users load warehouse name desk at count kept seen =
+      let after : PartitionState = record p { space = held; snapshots = snapshots } in
+      record {
+        mine = mine;
+        load = load;
+        warehouse = warehouse;
+        name = name;
+        desk = desk;
+        child = subst (λ (c : ℕ). IsLeastFree p.space c) (sym at) least;
+        fresh = ap (commits_of p) at ∙ snapshot_fresh n room executor p sound child least.closed;
+        commits = count;
+        kept = kept;
+        bytes = seen;
+        was_open = subst (λ (c : ℕ). IsSome (commits_of p c)) (sym from_is) was;
+        open_table = ap (child_table held) at ∙ table ∙ ap (child_table p.space) (sym from_is);
+        open_bytes = ap (child_bytes held) at ∙ bytes ∙ ap (child_bytes p.space) (sym from_is);
+        open_commits = ap (commits_of after) at ∙ commits ∙ ap (commits_of p) (sym from_is);
+        users = subst (λ (c : ℕ). AddsUsers p.space.frames held.frames (λ f. child_times f (child_table p.space c)))
+            (sym from_is) users;
+        seen = refl;
+        job = record {
+          terms = refl;
+          kept = refl;
+          drained = refl;
+          book = refl;
+          running = refl;
+          part = refl;
+          undo = refl;
+          finished = refl;
+          owner = owner;
+        };
+        others = subst (λ (c : ℕ). KeepsOthers p after c) (sym at) (record { bytes = others; commits = others_commits });
+      }
+
+-- a snapshot that has all that another one has, but for its ticket, is behind the same commits
+pub taken-again : (n : ℕ) (other snapshot : SnapshotState) → IsTakenBehind n other → snapshot.load ≡ other.load
+    → snapshot.warehouse ≡ other.warehouse → snapshot.commits ≡ other.commits → snapshot.kept ≡ other.kept
+    → snapshot.bytes ≡ other.bytes → IsTakenBehind n snapshot
+taken-again n other snapshot taken load warehouse count kept seen = record {
+  whole = subst (λ pages. IsWhole n pages) (sym seen) taken.whole;
+  commits = count ∙ taken.commits ∙ sym (ap length kept);
+  spells = subst (λ lists. Spells n snapshot.bytes (lists_after lists snapshot.warehouse snapshot.kept)) (sym load)
+      (subst (λ number. Spells n snapshot.bytes (lists_after other.load number snapshot.kept)) (sym warehouse)
+      (subst (λ commits. Spells n snapshot.bytes (lists_after other.load other.warehouse commits)) (sym kept)
+      (subst (λ pages. Spells n pages (lists_after other.load other.warehouse other.kept)) (sym seen) taken.spells)));
+}
+
+-- the partition says that a snapshot is one of its own: it is of the same warehouse
+pub warehouse-from : (kit : Origin) (other : SnapshotState) (warehouse : ℕ) → is_from other warehouse kit ≡ true
+    → other.warehouse ≡ warehouse
+warehouse-from kit other warehouse mine =
+    eqb-true other.warehouse warehouse (and_parts (other.warehouse == warehouse) (other.name == kit.name) mine).0

@@ -24,7 +24,7 @@ use Rattle.hy_commands.specs.Transactions.{refusal_of}
 use Rattle.hy_space.specs.Space.{child_bytes}
 use Rattle.hy_partition.specs.Jobs.{Log, RunningJob, entered_by}
 use Rattle.hy_partition.specs.Partition.{PartitionState, commits_of, projection_of}
-use Rattle.hy_partition.specs.Schedules.{Does, DoesStep, Event, IsTaken, IsWorldOf, KeepsAll, Leads, Runs, Taken, Underway, World, begins, closes, entered, enters, forks, fresh_world, looks, rows_of, steps, takes, underway, with_accepted, with_known, with_open, with_refused, with_slice, world_rows}
+use Rattle.hy_partition.specs.Schedules.{Does, DoesStep, Event, IsTaken, IsWorldOf, KeepsAll, Leads, Runs, Taken, Underway, World, begins, closes, entered, enters, forks, forks_from, fresh_world, looks, rows_of, steps, takes, underway, with_accepted, with_known, with_open, with_refused, with_slice, world_rows}
 use Rattle.hy_partition.specs.Steps.{KeepsRest, RefusesAt, StepsTo}
 use Rattle.hy_partition.specs.declared.job.Progress.{Progress}
 use Rattle.hy_partition.specs.declared.job.Progress.TheVariants as progress
@@ -208,6 +208,9 @@ module _ (lists : Lists) (number : ℕ) where
         subst (λ (w : World). IsInOrder lists number w) (sym does.1)
         (in_order-opened (with_known world.known client world.log) number' _
         (known-more world.known client world.log order.known) taken_now)
+    in_order-event (forks_from from number') new does =
+        subst (λ (w : World). IsInOrder lists number w) (sym does.2)
+        (in_order-opened world.known number' (world.open_at from) order.known (λ taken is. order.snapshots from taken is))
     in_order-event (closes number') new does =
         subst (λ (w : World). IsInOrder lists number w) (sym does.1)
         (in_order-opened world.known number' None order.known (λ taken is. absurd (cc)))

@@ -39,14 +39,20 @@ module _ (n : ℕ) (old new : PartitionState) (layout : layout_of new ≡ layout
       ap (λ l. laid_rows l (take count new.kept)) layout
       ∙ ap (rows_after old) (ap (take count) kept ∙ take-append-le count old.kept more within)
 
+  -- another one may have them too
+  pub spells-from : (child from : ℕ) → commits_of new child ≡ commits_of old from
+      → child_bytes new.space child ≡ child_bytes old.space from → SpellsBeginning n old from
+      → SpellsBeginning n new child
+  spells-from child from commits_same bytes_same spells =
+      let longer : length old.kept ≤ length new.kept = omega (arith, ap length kept, length-append old.kept more) in
+      let rows : ℕ → Tables = λ count. rows_after new (take count new.kept) in
+      let more_rows = spells_more n (commits_of old from) (child_bytes old.space from) (length old.kept) (length new.kept)
+      (λ count. rows_after old (take count old.kept)) rows longer rows_after-beginning spells in
+      subst (λ (commits : Option ℕ). SpellsAt n commits (child_bytes new.space child) (length new.kept) rows) (sym commits_same)
+      (subst (λ (bytes : Option (List (List (List ℕ)))). SpellsAt n (commits_of old from) bytes (length new.kept) rows)
+      (sym bytes_same) more_rows)
+
   pub spells-kept_more : (child : ℕ) → commits_of new child ≡ commits_of old child
       → child_bytes new.space child ≡ child_bytes old.space child → SpellsBeginning n old child
       → SpellsBeginning n new child
-  spells-kept_more child commits_same bytes_same spells =
-      let longer : length old.kept ≤ length new.kept = omega (arith, ap length kept, length-append old.kept more) in
-      let rows : ℕ → Tables = λ count. rows_after new (take count new.kept) in
-      let more_rows = spells_more n (commits_of old child) (child_bytes old.space child) (length old.kept) (length new.kept)
-      (λ count. rows_after old (take count old.kept)) rows longer rows_after-beginning spells in
-      subst (λ (commits : Option ℕ). SpellsAt n commits (child_bytes new.space child) (length new.kept) rows) (sym commits_same)
-      (subst (λ (bytes : Option (List (List (List ℕ)))). SpellsAt n (commits_of old child) bytes (length new.kept) rows)
-      (sym bytes_same) more_rows)
+  spells-kept_more child commits_same bytes_same spells = spells-from child child commits_same bytes_same spells

@@ -73,13 +73,14 @@ fresh_world lists number = record {
 -- ---- events
 
 -- a client's command begins, by the second edition; the command that runs does a step; its answer is taken; a client takes a
--- snapshot under a number; that under a number is closed; a client looks; a commit of other warehouses enters the serial
--- list
+-- snapshot under a number; what the snapshot under a number sees is opened under another one; that under a number is
+-- closed; a client looks; a commit of other warehouses enters the serial list
 pub data Event : Type 0 where
   begins : ℕ → Command → Event
   steps : Event
   takes : Event
   forks : ℕ → ℕ → Event
+  forks_from : ℕ → ℕ → Event
   closes : ℕ → Event
   looks : ℕ → Event
   enters : Entry Commit → Event
@@ -148,6 +149,9 @@ Does (forks client number) old new =
       known = with_known old.known client old.log;
       open_at = with_open old.open_at number (Some (record { commits = length old.kept; rows = rows_of old }));
     })
+Does (forks_from from number) old new =
+    IsSome (old.open_at from) × (old.open_at number ≡ None)
+    × (new ≡ record old { open_at = with_open old.open_at number (old.open_at from) })
 Does (closes number) old new =
     IsSome (old.open_at number) × (new ≡ record old { open_at = with_open old.open_at number None })
 Does (looks client) old new = new ≡ record old { known = with_known old.known client old.log }

@@ -20,18 +20,26 @@ pub record SnapshotState : Type 0 where
   pub kept : List Commit
   pub bytes : List (List (List ℕ))
 
+-- what a snapshot shares with those that are forked from it: the commits that it is behind, and the bytes of its pages
+pub record PagesState : Type 0 where
+  pub kept : List Commit
+  pub bytes : List (List (List ℕ))
+
 -- a snapshot with a ticket, whose number is that of its child
-abbrev pub snapshot_of : Lists → TicketState → ℕ → List Commit → List (List (List ℕ)) → SnapshotState
-snapshot_of lists ticket commits kept bytes = record {
+abbrev pub snapshot_of : Lists → TicketState → ℕ → PagesState → SnapshotState
+snapshot_of lists ticket commits shared = record {
   load = lists;
   warehouse = ticket.warehouse;
   name = ticket.name;
   desk = ticket.desk;
   child = ticket.number;
   commits = commits;
-  kept = kept;
-  bytes = bytes;
+  kept = shared.kept;
+  bytes = shared.bytes;
 }
+
+abbrev pub pages_of : SnapshotState → PagesState
+pages_of s = record { kept = s.kept; bytes = s.bytes }
 
 abbrev pub ticket_of : SnapshotState → TicketState
 ticket_of s = record { warehouse = s.warehouse; name = s.name; desk = s.desk; number = s.child }

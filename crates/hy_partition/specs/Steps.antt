@@ -1,5 +1,5 @@
 -- What the calls on a partition do to it.
-use Rattle.std.specs.Prelude.{◌≡◌, ◌≢◌, ℕ, ◌+◌, ◌<◌, ◌≤◌, ◌&&◌, ◌||◌, ◌==◌, ◌⊎◌, not, if◌then◌else◌, Bool, true, false, is_some, [], ◌++◌, length, Option, None, Some}
+use Rattle.std.specs.Prelude.{◌≡◌, ◌≢◌, ℕ, ◌+◌, ◌<◌, ◌≤◌, ◌&&◌, ◌||◌, ◌==◌, ◌⊎◌, not, if◌then◌else◌, Bool, true, false, IsSome, is_some, [], ◌++◌, length, Option, None, Some}
 use Rattle.std.specs.Option.{option_or}
 use mathlib.Core.List.{IsPrefix}
 use Rattle.hy_worlds.specs.Origins.{Origin, desk_of}
@@ -13,7 +13,7 @@ use Rattle.hy_commands.specs.Commands.{is_reader, kept_of}
 use Rattle.hy_commands.specs.Transactions.{begin_refusal_of}
 use Rattle.hy_frames.specs.FrameTable.{count_of, free_of}
 use Rattle.hy_slices.specs.Slices.{has_item_at, has_items_before, slice_count}
-use Rattle.hy_space.specs.Space.{CountsAreExact, SameForChildren, SameForOwner, SameForOthers, IsLeastFree, DropsUsers, SpaceState, owner_bytes, child_bytes, child_table, child_times}
+use Rattle.hy_space.specs.Space.{AddsUsers, CountsAreExact, SameForChildren, SameForOwner, SameForOthers, IsLeastFree, DropsUsers, SpaceState, owner_bytes, child_bytes, child_table, child_times}
 use Rattle.hy_undo.specs.UndoLog.{UndoLog, undone, empty_log}
 use Rattle.hy_undo.specs.PrivatePages.{GivesUpPages}
 use Rattle.hy_undo.specs.Touched.{touched}
@@ -186,6 +186,33 @@ pub record Forks (n : ℕ) (kit : Origin) (log known : Log) (old new : Partition
   pub job : KeepsJob old new
   pub others : KeepsOthers old new snapshot.child
 
+-- a snapshot says that it is one of a partition, by the warehouse and the name of its kit
+abbrev pub is_from : SnapshotState → ℕ → Origin → Bool
+is_from snapshot warehouse kit = (snapshot.warehouse == warehouse) && (snapshot.name == kit.name)
+
+-- a snapshot of what an open one sees was taken, under the least free number and with a ticket of its own: its child has
+-- the table of that one, and each frame of it a user more, so that no frame is taken. Nobody was told of the serial list
+pub record ForksFrom (kit : Origin) (from : SnapshotState) (old new : PartitionState) (snapshot : SnapshotState)
+    : Type 0 where
+  pub mine : is_from from old.warehouse kit ≡ true
+  pub load : snapshot.load ≡ from.load
+  pub warehouse : snapshot.warehouse ≡ old.warehouse
+  pub name : snapshot.name ≡ kit.name
+  pub desk : snapshot.desk ≡ desk_of kit old.warehouse
+  pub child : IsLeastFree old.space snapshot.child
+  pub fresh : commits_of old snapshot.child ≡ None
+  pub commits : snapshot.commits ≡ from.commits
+  pub kept : snapshot.kept ≡ from.kept
+  pub bytes : snapshot.bytes ≡ from.bytes
+  pub was_open : IsSome (commits_of old from.child)
+  pub open_table : child_table new.space snapshot.child ≡ child_table old.space from.child
+  pub open_bytes : child_bytes new.space snapshot.child ≡ child_bytes old.space from.child
+  pub open_commits : commits_of new snapshot.child ≡ commits_of old from.child
+  pub users : AddsUsers old.space.frames new.space.frames (λ f. child_times f (child_table old.space from.child))
+  pub seen : new.seen ≡ old.seen
+  pub job : KeepsJob old new
+  pub others : KeepsOthers old new snapshot.child
+
 -- a fork was refused: the tables, what they see and the counts of frames stay, and all else too
 pub record StaysUnforked (old new : PartitionState) : Type 0 where
   pub job : KeepsJob old new
@@ -195,10 +222,6 @@ pub record StaysUnforked (old new : PartitionState) : Type 0 where
   pub bytes : (child : ℕ) → child_bytes new.space child ≡ child_bytes old.space child
   pub counts : (f : ℕ) → count_of new.space.frames f ≡ count_of old.space.frames f
   pub max_frames : new.space.frames.max ≡ old.space.frames.max
-
--- a snapshot says that it is one of a partition, by the warehouse and the name of its kit
-abbrev pub is_from : SnapshotState → ℕ → Origin → Bool
-is_from snapshot warehouse kit = (snapshot.warehouse == warehouse) && (snapshot.name == kit.name)
 
 -- a snapshot that was open was closed, and no other; each of its frames has a user less, so that those which only it
 -- had are free again

@@ -13,7 +13,7 @@ use Rattle.std.specs.Option.{option_map}
 use Rattle.hy_passes.specs.declared.entry.Entry.{Entry}
 use Rattle.hy_partition.specs.Partition.{commits_of, rows_now}
 use Rattle.hy_space.specs.Space.{child_bytes}
-use Rattle.hy_partition.specs.Schedules.{Does, Event, IsTaken, IsWorldOf, Runs, Taken, Underway, World, begins, closes, forks, fresh_world, rows_of, steps, takes, underway, with_accepted, with_known, with_open}
+use Rattle.hy_partition.specs.Schedules.{Does, Event, IsTaken, IsWorldOf, Runs, Taken, Underway, World, begins, closes, forks, forks_from, fresh_world, rows_of, steps, takes, underway, with_accepted, with_known, with_open}
 use Rattle.hy_partition.specs.WorkedRows.{small}
 
 abbrev lists : Lists
@@ -127,6 +127,34 @@ taken_between = refl
 
 gone : last.open_at 0 ≡ None
 gone = refl
+
+-- what the first snapshot sees is opened behind the payment: it has the loaded rows when that one is gone, and nobody looked
+abbrev again : World
+again = record paid { open_at = with_open paid.open_at 2 (Some (record { commits = 0; rows = sample })) }
+
+forked_from_first : Does (forks_from 0 2) paid again
+forked_from_first = (refl, refl, refl)
+
+outlives : ((closed again 0).open_at 2 ≡ Some (record { commits = 0; rows = sample })) × ((closed again 0).open_at 0 ≡ None)
+outlives = (refl, refl)
+
+nobody_told : again.known 6 ≡ paid.known 6
+nobody_told = refl
+
+-- what isn't open can't be forked from, and an open number isn't taken again
+not_from_closed : (new : World) → Does (forks_from 3 2) paid new → ⊥
+not_from_closed new does = let never = does.0 in absurd (cc)
+
+not_over_open : (new : World) → Does (forks_from 0 1) paid new → ⊥
+not_over_open new does = let never = does.1 in absurd (cc)
+
+-- it hasn't the rows of the moment
+not_the_moment : Does (forks_from 0 2) paid (opened paid 2) → ⊥
+not_the_moment does =
+    let at : Some (record { commits = 1; rows = rows_of paid }) ≡ Some (record { commits = 0; rows = sample }) =
+    ap (λ (w : World). w.open_at 2) does.2 in
+    let same : record { commits = 1; rows = rows_of paid } ≡ record { commits = 0; rows = sample } = cc in
+    let commits = ap (λ (t : Taken). t.commits) same in absurd (omega (arith, commits))
 
 -- a call that is refused changes nothing
 refused : Runs (steps ∷ takes ∷ []) first first

@@ -29,12 +29,12 @@ ghost use Rattle.hy_partition.specs.Jobs.{Log, is_last, told};
 ghost use Rattle.hy_undo.specs.Touched.{touched};
 ghost use Rattle.hy_undo.specs.PrivatePages.{GivesUpPages, IsUndoLog};
 ghost use Rattle.hy_partition.specs.Parts.{DoesPart, HasNoPart, IsWhyUndone, KeepsPart, rows_with_part};
-ghost use Rattle.hy_partition.specs.Steps.{begin_refusal, is_from, is_full, with_job, Accepts, Begins, Closes, Forks, IsUnbegun, KeepsJob, Refuses, StaysUnforked, StepsTo};
+ghost use Rattle.hy_partition.specs.Steps.{begin_refusal, is_from, is_full, with_job, Accepts, Begins, Closes, Forks, IsUnbegun, KeepsJob, Refuses, ForksFrom, StaysUnforked, StepsTo};
 
 use crate::answer::{accept, enter_part};
 use crate::job::{Done, Job, Progress, Running};
 use crate::part::Part;
-use crate::snapshot::Snapshot;
+use crate::snapshot::{SharedPages, Snapshot};
 use crate::world::Loaded;
 use hy_commands::{Command, Commit, Edition, Reply};
 use hy_fill::filled_store;
@@ -313,7 +313,9 @@ impl<const N: usize, K: Loaded> Partition<N, K> {
         let Ok(child) = self.undo.fork(&mut self.space) else {
             return Err(Refusal::NoMemory);
         };
-        let Ok(pages) = self.space.holds(child) else {
+        let kept = self.kept.noted();
+        let alloc = *self.snapshots.allocator();
+        let Ok(shared) = SharedPages::of(alloc, &mut self.space, child, kept) else {
             self.space.close(child);
             return Err(Refusal::NoMemory);
         };
@@ -322,7 +324,38 @@ impl<const N: usize, K: Loaded> Partition<N, K> {
         let commits = self.kept.list().len() as u64;
         open_snapshot(&mut self.snapshots, child, commits);
         let ticket = self.desk.give(child);
-        Ok(Snapshot::new(load, ticket, commits, self.kept.noted(), pages))
+        Ok(Snapshot::new(load, ticket, commits, shared))
+    }
+
+    /// A snapshot of what another one of this partition sees, with a ticket of its own: it lives on when that one is closed.
+    /// No frame is taken, and nobody is told of the serial list. E11 exactly where the snapshot is another warehouse's or
+    /// one of a kit with another name; else E1.
+    pub fn fork_from(&mut self, snapshot: &Snapshot<N>) -> Result<Snapshot<N>, Refusal>
+        ensures forks { IfOk result (ForksFrom K.passes snapshot.now self.old self.new) }
+        ensures mine { result ≡ Err Refusal.NotMine ↔ (is_from snapshot.now self.old.warehouse K.passes ≡ false) }
+        ensures refused { IfErr result
+            (λ refusal. (refusal ≡ Refusal.NotMine) ⊎ (refusal ≡ Refusal.NoMemory)) }
+        ensures err { OnErr result (StaysUnforked self.old self.new) }
+    {
+        if !self.is_mine(snapshot) {
+            return Err(Refusal::NotMine);
+        }
+        // It is open, as only its ticket knows, so that its number is one of an open snapshot.
+        let Some(count) = commits_at(&self.snapshots, snapshot.ticket().number()) else {
+            return Err(Refusal::NoMemory);
+        };
+        let Ok((load, shared)) = snapshot.share() else {
+            return Err(Refusal::NoMemory);
+        };
+        if self.snapshots.reserve(1).is_err() {
+            return Err(Refusal::NoMemory);
+        }
+        let Ok(child) = self.space.fork_child(snapshot.ticket().number()) else {
+            return Err(Refusal::NoMemory);
+        };
+        open_snapshot(&mut self.snapshots, child, count);
+        let own = self.desk.give(child);
+        Ok(Snapshot::new(load, own, snapshot.commits(), shared))
     }
 
     /// Closes a snapshot of this partition: the frames that only it had are free again. E11 where the snapshot is
@@ -696,5 +729,15 @@ fn open_snapshot(snapshots: &mut Vec<Option<u64>>, child: u64, commits: u64)
         snapshots.push_reserved(Some(commits));
     } else {
         snapshots[place] = Some(commits);
+    }
+}
+
+/// The number of commits of an open snapshot; none where no snapshot has this number.
+fn commits_at(snapshots: &Vec<Option<u64>>, child: u64) -> Option<u64>
+    ensures { result ≡ slice_index_or snapshots.now.items child None }
+{
+    match snapshots.get(child as usize) {
+        Some(commits) => *commits,
+        None => None,
     }
 }

@@ -13,9 +13,9 @@ ghost use Rattle.hy_commands.specs.Replay.{HasWarehouse};
 ghost use Rattle.hy_partition.specs.declared.job.Progress.{Progress};
 ghost use Rattle.hy_partition.specs.Jobs.{JobState, Log, RunningJob};
 ghost use Rattle.hy_partition.specs.Partition.{PartitionState};
-ghost use Rattle.hy_partition.specs.Schedules.{Event, IsWorldOf, KeepsAll, Leads, Runs, World, begins, closes, enters, forks, fresh_world, looks, steps, takes};
+ghost use Rattle.hy_partition.specs.Schedules.{Event, IsWorldOf, KeepsAll, Leads, Runs, World, begins, closes, enters, forks, forks_from, fresh_world, looks, steps, takes};
 ghost use Rattle.hy_partition.specs.Snapshots.{SnapshotState};
-ghost use Rattle.hy_partition.specs.Steps.{begin_refusal, Begins, Closes, Forks, StaysUnforked, StepsTo, with_job};
+ghost use Rattle.hy_partition.specs.Steps.{begin_refusal, Begins, Closes, Forks, ForksFrom, StaysUnforked, StepsTo, with_job};
 
 /// Does nothing: its contract says what holds after every list of events on a warehouse of a load. Each open snapshot
 /// has the rows after a beginning of the commits that are kept, replayed one by one, and these rows and those after all
@@ -27,10 +27,10 @@ pub fn every_schedule()
 {}
 
 /// Does nothing: its contract says that the calls on a partition are events of the model: what `new`, `begin`, `step`,
-/// `take_done`, `fork` and `close` promise leads from a partition with its world to one with the world after the event;
-/// a job that begins is of the second edition, as it has to be where no log is replayed. A call that is refused leaves the
-/// world, also a fork that was refused half-way. A look of a client, and a commit that enters the serial list from another
-/// partition, leave the partition, and are events too.
+/// `take_done`, `fork`, `fork_from` and `close` promise leads from a partition with its world to one with the world after
+/// the event; a job that begins is of the second edition, as it has to be where no log is replayed. A call that is refused
+/// leaves the world, also a fork that was refused half-way. A look of a client, and a commit that enters the serial list
+/// from another partition, leave the partition, and are events too.
 pub fn calls_are_events()
     ensures new { (n : ℕ) (lists : Lists) (number frames commits : ℕ) (p : PartitionState)
         → Begins lists number frames commits p → IsWorldOf n [] p (fresh_world lists number) }
@@ -46,6 +46,9 @@ pub fn calls_are_events()
     ensures fork { (n : ℕ) (kit : Origin) (log known : Log) (client : ℕ) (p q : PartitionState) (world : World)
         (snapshot : SnapshotState) → IsWorldOf n log p world → Forks n kit log known p q snapshot
         → Leads n (forks client snapshot.child) world log q }
+    ensures fork_from { (n : ℕ) (kit : Origin) (log : Log) (p q : PartitionState) (world : World)
+        (from snapshot : SnapshotState) → IsWorldOf n log p world → ForksFrom kit from p q snapshot
+        → Leads n (forks_from from.child snapshot.child) world log q }
     ensures refused_fork { (n : ℕ) (log : Log) (p q : PartitionState) (world : World) → IsWorldOf n log p world
         → StaysUnforked p q → IsWorldOf n log q world }
     ensures close { (n : ℕ) (log : Log) (p q : PartitionState) (world : World) (child : ℕ) → IsWorldOf n log p world

@@ -10,15 +10,15 @@ use Rattle.hy_partition.specs.Jobs.{Log, RunningJob}
 use Rattle.hy_partition.specs.Partition.{PartitionState, commits_of, terms_of}
 use Rattle.hy_partition.specs.Parts.{KeepsBeside}
 use Rattle.hy_partition.specs.Schedules as one
-use Rattle.hy_partition.specs.Schedules.{Does, DoesStep, Event, IsTaken, IsWorldOf, Leads, Taken, Underway, World, begins, closes, enters, forks, fresh_world, rows_of, steps, takes, underway, with_known, with_open}
+use Rattle.hy_partition.specs.Schedules.{Does, DoesStep, Event, IsTaken, IsWorldOf, Leads, Taken, Underway, World, begins, closes, enters, forks, forks_from, fresh_world, rows_of, steps, takes, underway, with_known, with_open}
 use Rattle.hy_partition.specs.Snapshots.{SnapshotState}
-use Rattle.hy_partition.specs.Steps.{Begins, Closes, Forks, KeepsJob, RefusesAt, StepsTo}
+use Rattle.hy_partition.specs.Steps.{Begins, Closes, Forks, ForksFrom, KeepsJob, RefusesAt, StepsTo}
 use Rattle.hy_partition.specs.declared.job.Progress.{Progress}
 use Rattle.hy_partition.specs.declared.job.Progress.TheVariants as progress
 use Rattle.hy_crossing.specs.Lists.{Pairwise}
 use Rattle.hy_forks.specs.Drains.{DrainsHere, TellsHere}
-use Rattle.hy_forks.specs.Forks.{ClosesHere, ForksAll, ForksHere, IsUnforked}
-use Rattle.hy_schedules.specs.Schedules.{ArePlacesOf, IsPlaceOf, IsWholeOf, LeadsAll, Place, Whole, at, children_of, closes_all, drains, each_changed, forks_all, fresh_place, fresh_whole, is_local, looks, place_at, with_drained, with_places, with_snapshot, without_snapshot, world_at}
+use Rattle.hy_forks.specs.Forks.{ClosesHere, ForksAll, ForksAllFrom, ForksFromHere, ForksHere, IsUnforked}
+use Rattle.hy_schedules.specs.Schedules.{ArePlacesOf, IsPlaceOf, IsWholeOf, LeadsAll, Place, Whole, at, children_of, closes_all, drains, each_changed, forks_all, forks_all_from, fresh_place, fresh_whole, is_local, looks, place_at, with_drained, with_places, with_snapshot, with_snapshot_from, without_snapshot, world_at}
 
 -- ---- the places of partitions
 
@@ -244,6 +244,8 @@ terms-event steps old new does = by old.running does
 terms-event takes old new does = (ap (λ (w : World). w.load) does.1, ap (λ (w : World). w.warehouse) does.1)
 terms-event (forks client number) old new does =
     (ap (λ (w : World). w.load) does.1, ap (λ (w : World). w.warehouse) does.1)
+terms-event (forks_from from number) old new does =
+    (ap (λ (w : World). w.load) does.2, ap (λ (w : World). w.warehouse) does.2)
 terms-event (closes number) old new does =
     (ap (λ (w : World). w.load) does.1, ap (λ (w : World). w.warehouse) does.1)
 terms-event (one.looks client) old new does = (ap (λ (w : World). w.load) does, ap (λ (w : World). w.warehouse) does)
@@ -503,6 +505,80 @@ module _ (n : ℕ) (log : Log) (parts news : List PartitionState) (whole : Whole
             (places-hold n log whole (ForksHere n kit log known snapshots)
             (λ number row. row.open_at (children_of snapshots number) ≡ None) free-here 1 parts news whole.places
             forked.each is.1 place)
+
+  -- a fork of what a snapshot of each sees
+  module _ (kit : Origin) (all snapshots : List SnapshotState)
+      (leads : (p q : PartitionState) (world : World) (from snapshot : SnapshotState) → IsWorldOf n log p world
+      → ForksFrom kit from p q snapshot → Leads n (forks_from from.child snapshot.child) world log q)
+      (forked : ForksAllFrom kit all parts news snapshots) where
+    abbrev again_whole : Whole
+    again_whole = with_places (with_snapshot_from (children_of all) (children_of snapshots)) whole
+
+    -- the snapshot that is open, and the one that is taken
+    record Both (number : ℕ) (p q : PartitionState) : Type 0 where
+      from : SnapshotState
+      from_is : children_of all number ≡ from.child
+      snapshot : SnapshotState
+      snapshot_is : children_of snapshots number ≡ snapshot.child
+      forks : ForksFrom kit from p q snapshot
+
+    both-here : (number : ℕ) (p q : PartitionState) → ForksFromHere kit all snapshots number p q → Both number p q
+    both-here number p q here =
+        let found = snapshot-here snapshots number (λ snapshot. IsSomeAnd (slice_get all (number - 1)) (λ from.
+        ForksFrom kit from p q snapshot)) here in
+        let other = snapshot-here all number (λ from. ForksFrom kit from p q found.0) found.2 in
+        record { from = other.0; from_is = other.1; snapshot = found.0; snapshot_is = found.1; forks = other.2 }
+
+    may-here : (number : ℕ) (p q : PartitionState) (place : Place) → ForksFromHere kit all snapshots number p q
+        → IsPlaceOf n log whole number p place
+        → IsSome (place.open_at (children_of all number)) × (place.open_at (children_of snapshots number) ≡ None)
+    may-here number p q place here was =
+        let both = both-here number p q here in
+        let led = leads p q (world_at whole number place) both.from both.snapshot was.world both.forks in (
+          subst (λ k. IsSome (place.open_at k)) (sym both.from_is) led.1.0,
+          ap place.open_at both.snapshot_is ∙ led.1.1,
+        )
+
+    place-again : (number : ℕ) (p q : PartitionState) (place : Place) → ForksFromHere kit all snapshots number p q
+        → IsPlaceOf n log whole number p place
+        → IsPlaceOf n log again_whole number q (with_snapshot_from (children_of all) (children_of snapshots) number place)
+    place-again number p q place here was =
+        let both = both-here number p q here in
+        let led = leads p q (world_at whole number place) both.from both.snapshot was.world both.forks in
+        let world : IsWorldOf n log q (record (world_at whole number place) {
+          open_at = with_open place.open_at both.snapshot.child (place.open_at both.from.child);
+        }) = subst (λ (w : World). IsWorldOf n log q w) led.1.2 led.2 in
+        record {
+          world = subst (λ k. IsWorldOf n log q (record (world_at whole number place) {
+            open_at = with_open place.open_at (children_of snapshots number) (place.open_at k);
+          })) (sym both.from_is) (subst (λ k. IsWorldOf n log q (record (world_at whole number place) {
+            open_at = with_open place.open_at k (place.open_at both.from.child);
+          })) (sym both.snapshot_is) world);
+          drained = was.drained ∙ sym both.forks.job.drained;
+        }
+
+    pub leads-fork_all_from : LeadsAll n (forks_all_from (children_of all) (children_of snapshots)) whole log news
+    leads-fork_all_from = (
+      again_whole,
+      (may, refl),
+      (
+        is.0,
+        places-changed n log log whole again_whole (with_snapshot_from (children_of all) (children_of snapshots))
+            (ForksFromHere kit all snapshots) place-again 1 parts news whole.places forked.each is.1,
+      ),
+    )
+      where
+        may : (number : ℕ) → IfSome (place_at whole.places number) (λ place.
+            IsSome (place.open_at (children_of all number)) × (place.open_at (children_of snapshots number) ≡ None))
+        may zero = tt
+        may (suc place) =
+            let first : 1 + place ≡ suc place = omega arith in
+            subst (λ k. IfSome (slice_get whole.places place) (λ row.
+            IsSome (row.open_at (children_of all k)) × (row.open_at (children_of snapshots k) ≡ None))) first
+            (places-hold n log whole (ForksFromHere kit all snapshots)
+            (λ number row. IsSome (row.open_at (children_of all number))
+            × (row.open_at (children_of snapshots number) ≡ None)) may-here 1 parts news whole.places forked.each is.1
+            place)
 
   -- a close of each
   module _ (snapshots : List SnapshotState)

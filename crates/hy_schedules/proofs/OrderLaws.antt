@@ -36,7 +36,7 @@ use Rattle.hy_partition.specs.Schedules as one
 use Rattle.hy_partition.specs.Schedules.{Does, Event, Taken, with_known}
 use Rattle.hy_partition.proofs.ReplayLaws.{sound-rows}
 use Rattle.hy_crossing.specs.Crossings.{commits_in, database_behind}
-use Rattle.hy_schedules.specs.Schedules.{ChangesPlace, DoesAll, DoesCross, Ends, EndsIn, EventOfAll, HasSnapshotOf, KeepsEverything, KeepsPlace, Place, RunsAll, Whole, at, closes_all, crosses, drains, entry_behind, forks_all, fresh_place, fresh_whole, is_local, kept_at, looks, place_at, refusal_behind, with_commit, with_drained, with_entry, with_place, with_places, with_snapshot, without_snapshot, world_at}
+use Rattle.hy_schedules.specs.Schedules.{ChangesPlace, DoesAll, DoesCross, Ends, EndsIn, EventOfAll, HasSnapshotOf, KeepsEverything, KeepsPlace, Place, RunsAll, Whole, at, closes_all, crosses, drains, entry_behind, forks_all, forks_all_from, fresh_place, fresh_whole, is_local, kept_at, looks, place_at, refusal_behind, with_commit, with_drained, with_entry, with_place, with_places, with_snapshot, with_snapshot_from, without_snapshot, world_at}
 use Rattle.hy_schedules.proofs.PlaceLaws.{each-changed, each-replaced, holds-place, length-each, length-with_place}
 use Rattle.hy_schedules.proofs.StepLaws.{HasRows, IsStep, added-elsewhere, added-here, added-longer, added-rows, added-serial, known-more, rows-more, rows-now, step-ends, step-event}
 
@@ -128,7 +128,7 @@ module _ (lists : Lists) (old : Whole) (order : IsInOrder lists old) where
       let order_here : IsPlaceInOrder lists new.log number after = record {
         projection = added-here number old.log new.log before.kept after.kept step.adds here.projection;
         snapshots = λ under taken is. elim (step.snapshots under taken is) [
-          | inl was ↦ has taken (here.snapshots under taken was)
+          | inl was ↦ has taken (here.snapshots was.0 taken was.1)
           | inr now ↦ has taken (subst (λ (t : Taken). HasRows lists number before.kept t) (sym now)
               (subst (λ (load : Lists). HasRows lists number before.kept
               (record { commits = length before.kept; rows = rows_after load number before.kept })) (sym order.load)
@@ -299,6 +299,21 @@ module _ (lists : Lists) (old : Whole) (order : IsInOrder lists old) where
           (rows-now lists number place.kept))
       by under taken false is = was.snapshots under taken is
 
+  place-again : (from children : ℕ → ℕ) (number : ℕ) (place : Place) → IsPlaceInOrder lists old.log number place
+      → IsPlaceInOrder lists old.log number (with_snapshot_from from children number place)
+  place-again from children number place was = record {
+    projection = was.projection;
+    snapshots = λ under taken is. by under taken (under == children number) is;
+    stamped = was.stamped;
+    drained = was.drained;
+  }
+    where
+      by : (under : ℕ) (taken : Taken) (here : Bool)
+          → cond here (place.open_at (from number)) (place.open_at under) ≡ Some taken
+          → HasRows lists number place.kept taken
+      by under taken true is = was.snapshots (from number) taken is
+      by under taken false is = was.snapshots under taken is
+
   place-closed : (children : ℕ → ℕ) (number : ℕ) (place : Place) → IsPlaceInOrder lists old.log number place
       → IsPlaceInOrder lists old.log number (without_snapshot children number place)
   place-closed children number place was = record {
@@ -333,6 +348,8 @@ module _ (lists : Lists) (old : Whole) (order : IsInOrder lists old) where
   in_order-event (forks_all client children) new does = subst (λ (w : Whole). IsInOrder lists w) (sym does.1)
       (in_order-changed (with_snapshot old children) (with_known old.known client old.log)
       (known-more old.known client old.log order.known) (place-snapshot children))
+  in_order-event (forks_all_from from children) new does = subst (λ (w : Whole). IsInOrder lists w) (sym does.1)
+      (in_order-changed (with_snapshot_from from children) old.known order.known (place-again from children))
   in_order-event (closes_all children) new does = subst (λ (w : Whole). IsInOrder lists w) (sym does.1)
       (in_order-changed (without_snapshot children) old.known order.known (place-closed children))
   in_order-event drains new does = subst (λ (w : Whole). IsInOrder lists w) (sym does)

@@ -23,7 +23,7 @@ use Rattle.hy_commands.specs.Transactions.{refusal_of}
 use Rattle.hy_commands.proofs.NamedLaws.{named-accepted}
 use Rattle.hy_partition.specs.Jobs.{Log}
 use Rattle.hy_partition.specs.Partition.{projection_of}
-use Rattle.hy_partition.specs.Schedules.{Does, DoesStep, Event, Taken, Underway, World, begins, closes, entered, enters, forks, looks, rows_of, steps, takes, with_accepted, with_known, with_open, with_refused}
+use Rattle.hy_partition.specs.Schedules.{Does, DoesStep, Event, Taken, Underway, World, begins, closes, entered, enters, forks, forks_from, looks, rows_of, steps, takes, with_accepted, with_known, with_open, with_refused}
 use Rattle.hy_schedules.specs.Schedules.{Ends, is_local}
 
 -- ---- what is added
@@ -157,14 +157,18 @@ known-more known client log within other =
       | false ↦ within other
     ]
 
--- a step of one warehouse: it adds to the lists, no client knows more than the serial list, each snapshot was open or
--- has the rows of this moment, and what runs has a stamp that is respected
+-- a snapshot that is open under some number
+abbrev pub WasOpen : World → Taken → Type 0
+WasOpen world taken = (number : ℕ) × (world.open_at number ≡ Some taken)
+
+-- a step of one warehouse: it adds to the lists, no client knows more than the serial list, each snapshot was open, under
+-- whatever number, or has the rows of this moment, and what runs has a stamp that is respected
 pub record IsStep (old new : World) : Type 0 where
   pub load : new.load ≡ old.load
   pub adds : Adds old.warehouse old.log new.log old.kept new.kept
   pub known : (client : ℕ) → new.known client ≤ length new.log
   pub snapshots : (under : ℕ) (taken : Taken) → new.open_at under ≡ Some taken
-      → (old.open_at under ≡ Some taken) ⊎ (taken ≡ record { commits = length old.kept; rows = rows_of old })
+      → WasOpen old taken ⊎ (taken ≡ record { commits = length old.kept; rows = rows_of old })
   pub stamped : ForSome new.running (λ job. job.stamp ≤ length new.log)
 
 module _ (old : World) (stamped : ForSome old.running (λ job. job.stamp ≤ length old.log))
@@ -177,12 +181,13 @@ module _ (old : World) (stamped : ForSome old.running (λ job. job.stamp ≤ len
     load = refl;
     adds = inl (refl, refl);
     known = within;
-    snapshots = λ under taken is. inl is;
+    snapshots = λ under taken is. inl (under, is);
     stamped = stamped;
   }
 
   step-opened : (now : ℕ → ℕ) (number : ℕ) (snapshot : Option Taken) → ((client : ℕ) → now client ≤ length old.log)
-      → ((taken : Taken) → snapshot ≡ Some taken → taken ≡ record { commits = length old.kept; rows = rows_of old })
+      → ((taken : Taken) → snapshot ≡ Some taken
+      → WasOpen old taken ⊎ (taken ≡ record { commits = length old.kept; rows = rows_of old }))
       → IsStep old (record old { known = now; open_at = with_open old.open_at number snapshot })
   step-opened now number snapshot within right = record {
     load = refl;
@@ -193,9 +198,9 @@ module _ (old : World) (stamped : ForSome old.running (λ job. job.stamp ≤ len
   }
     where
       by : (under : ℕ) (taken : Taken) (here : Bool) → cond here snapshot (old.open_at under) ≡ Some taken
-          → (old.open_at under ≡ Some taken) ⊎ (taken ≡ record { commits = length old.kept; rows = rows_of old })
-      by under taken true is = inr (right taken is)
-      by under taken false is = inl is
+          → WasOpen old taken ⊎ (taken ≡ record { commits = length old.kept; rows = rows_of old })
+      by under taken true is = right taken is
+      by under taken false is = inl (under, is)
 
   step-accepted : (job : Underway) → old.running ≡ Some job
       → refusal_of old.load.items old.warehouse job.command (rows_of old) ≡ None → IsStep old (with_accepted old job)
@@ -206,7 +211,7 @@ module _ (old : World) (stamped : ForSome old.running (λ job. job.stamp ≤ len
         load = refl;
         adds = adds-accepted old job accepted within;
         known = known-more old.known job.client (old.log ++ entered job) (λ other. omega (arith, known other, longer));
-        snapshots = λ under taken is. inl is;
+        snapshots = λ under taken is. inl (under, is);
         stamped = λ job is. absurd (cc);
       }
 
@@ -240,7 +245,9 @@ module _ (old : World) (stamped : ForSome old.running (λ job. job.stamp ≤ len
       (step-same old.running false old.known known stamped)
   step-event (forks client number) new is_here does = subst (λ (w : World). IsStep old w) (sym does.1)
       (step-opened (with_known old.known client old.log) number _ (known-more old.known client old.log known)
-      (λ taken is. cc))
+      (λ taken is. inr (cc)))
+  step-event (forks_from from number) new is_here does = subst (λ (w : World). IsStep old w) (sym does.2)
+      (step-opened old.known number (old.open_at from) known (λ taken is. inl (from, is)))
   step-event (closes number) new is_here does = subst (λ (w : World). IsStep old w) (sym does.1)
       (step-opened old.known number None known (λ taken is. absurd (cc)))
   step-event (looks client) new is_here does = absurd (cc)

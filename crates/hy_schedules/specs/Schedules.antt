@@ -90,12 +90,13 @@ fresh_whole lists = record {
 -- ---- events
 
 -- what happens in the warehouse with a number; a client's command over several warehouses, by the second edition; a client
--- takes a snapshot of all warehouses, under a number in each; those under such numbers are closed; what was kept is
--- drained; a client looks
+-- takes a snapshot of all warehouses, under a number in each; what those under such numbers see is opened under others;
+-- those under such numbers are closed; what was kept is drained; a client looks
 pub data EventOfAll : Type 0 where
   at : ℕ → Event → EventOfAll
   crosses : ℕ → Command → EventOfAll
   forks_all : ℕ → (ℕ → ℕ) → EventOfAll
+  forks_all_from : (ℕ → ℕ) → (ℕ → ℕ) → EventOfAll
   closes_all : (ℕ → ℕ) → EventOfAll
   drains : EventOfAll
   looks : ℕ → EventOfAll
@@ -171,6 +172,12 @@ with_snapshot whole children number place = record place {
   }));
 }
 
+-- a snapshot of what another one sees
+abbrev pub with_snapshot_from : (ℕ → ℕ) → (ℕ → ℕ) → ℕ → Place → Place
+with_snapshot_from from children number place = record place {
+  open_at = with_open place.open_at (children number) (place.open_at (from number));
+}
+
 -- that one closed
 abbrev pub without_snapshot : (ℕ → ℕ) → ℕ → Place → Place
 without_snapshot children number place =
@@ -187,6 +194,10 @@ DoesAll (crosses client command) old new = DoesCross client command old new
 DoesAll (forks_all client children) old new =
     ((number : ℕ) → IfSome (place_at old.places number) (λ place. place.open_at (children number) ≡ None))
     × (new ≡ record (with_places (with_snapshot old children) old) { known = with_known old.known client old.log })
+DoesAll (forks_all_from from children) old new =
+    ((number : ℕ) → IfSome (place_at old.places number) (λ place.
+    IsSome (place.open_at (from number)) × (place.open_at (children number) ≡ None)))
+    × (new ≡ with_places (with_snapshot_from from children) old)
 DoesAll (closes_all children) old new =
     ((number : ℕ) → IfSome (place_at old.places number) (λ place. IsSome (place.open_at (children number))))
     × (new ≡ with_places (without_snapshot children) old)

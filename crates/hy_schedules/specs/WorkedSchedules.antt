@@ -1,7 +1,7 @@
 -- A schedule on two small warehouses: a purchase over both ends a payment that was half done in one of them; a snapshot
 -- of both is taken, what is kept is drained, another purchase is refused, a client looks, and the snapshot is closed.
 -- And events that don't happen.
-use Rattle.std.specs.Prelude.{◌≡◌, ◌⊎◌, ℕ, zero, suc, pos, ◌+◌, Bool, true, false, Some, None, List, [], ◌∷◌, IfSome, IsSome, fold, is_some, length, map, slice_get, slice_set, take, refl}
+use Rattle.std.specs.Prelude.{◌≡◌, ◌⊎◌, ℕ, zero, suc, pos, ◌+◌, Bool, true, false, Option, Some, None, List, [], ◌∷◌, IfSome, IsSome, fold, is_some, length, map, slice_get, slice_set, take, refl}
 use Rattle.std.proofs.Common.{inl, inr, ap, sym, ◌∙◌, subst, arith}
 use Rattle.std.proofs.lemmas.Option.{MatchOption-at_none, same_Some}
 use Rattle.std.specs.Option.{option_map, unwrap_or}
@@ -23,7 +23,7 @@ use Rattle.hy_commands.specs.Commands.{number_of}
 use Rattle.hy_commands.specs.WorkedSample.{customers, district, each, items, stock, up_to, warehouse}
 use Rattle.hy_partition.specs.Schedules as one
 use Rattle.hy_partition.specs.Schedules.{Taken, Underway, World, begins, steps, takes, with_accepted, with_known}
-use Rattle.hy_schedules.specs.Schedules.{ChangesPlace, DoesAll, Ends, EventOfAll, Place, RunsAll, Whole, at, closes_all, crosses, drains, entry_behind, fresh_place, fresh_whole, forks_all, kept_at, looks, place_at, refusal_behind, with_drained, with_entry, with_place, with_places, with_snapshot, without_snapshot, world_at}
+use Rattle.hy_schedules.specs.Schedules.{ChangesPlace, DoesAll, Ends, EventOfAll, Place, RunsAll, Whole, at, closes_all, crosses, drains, entry_behind, fresh_place, fresh_whole, forks_all, forks_all_from, kept_at, looks, place_at, refusal_behind, with_drained, with_entry, with_place, with_places, with_snapshot, with_snapshot_from, without_snapshot, world_at}
 
 -- ---- two warehouses with a district each, where a load has ten
 
@@ -267,6 +267,44 @@ snapshot_there = (refl, refl)
 gone_at_last : ((place_in last 1).open_at 5 ≡ None) × ((place_in last 2).open_at 6 ≡ None)
 gone_at_last = (refl, refl)
 
+-- a snapshot was taken behind the payment, and the purchase came after it; what that snapshot sees is opened under other
+-- numbers: it has the payment, and not the purchase
+abbrev between : Whole
+between = with_places (with_snapshot paid children) paid
+
+abbrev later : Whole
+later = with_entry between 6 (entry_behind between order 0)
+
+abbrev others : ℕ → ℕ
+others number = number + 8
+
+abbrev again : Whole
+again = with_places (with_snapshot_from children others) later
+
+taken_from : DoesAll (forks_all_from children others) later again
+taken_from = (are_open, refl)
+  where
+    are_open : (number : ℕ) → IfSome (place_at later.places number) (λ place.
+        IsSome (place.open_at (children number)) × (place.open_at (others number) ≡ None))
+    are_open zero = tt
+    are_open (suc zero) = (refl, refl)
+    are_open (suc (suc zero)) = (refl, refl)
+    are_open (suc (suc (suc number))) = tt
+
+abbrev commits_under : Whole → ℕ → ℕ → Option ℕ
+commits_under whole number under = option_map (λ taken. taken.commits) ((place_in whole number).open_at under)
+
+has_the_payment : (commits_under again 1 (others 1) ≡ Some 1) × (commits_under again 2 (others 2) ≡ Some 0)
+    × (length (kept_at again.places 1) ≡ 2)
+has_the_payment = (refl, refl, refl)
+
+-- it outlives the other one
+abbrev alone : Whole
+alone = with_places (without_snapshot children) again
+
+outlives : (commits_under alone 1 (others 1) ≡ Some 1) × (commits_under alone 1 (children 1) ≡ None)
+outlives = (refl, refl)
+
 -- why the other purchase is refused
 refused_for : refusal_behind drained missing ≡ Some refusals.NoSuchItem
 refused_for = refl
@@ -288,6 +326,10 @@ not_several new does = let several = does.several in absurd (cc)
 -- a drain of one warehouse alone
 not_drained : DoesAll drains forked (record drained { places = place_in drained 1 ∷ place_in forked 2 ∷ [] }) → ⊥
 not_drained does = let counts = ap (λ (w : Whole). (place_in w 2).drained) does in absurd (omega (arith, counts))
+
+-- a snapshot of what isn't open in one of the warehouses
+not_from_closed : (new : Whole) → DoesAll (forks_all_from others (λ number. number + 12)) later new → ⊥
+not_from_closed new does = let never = (does.0 1).0 in absurd (cc)
 
 -- a snapshot that has the purchase in one of its warehouses and not in the other
 not_taken : DoesAll (forks_all 7 children) bought (record forked {

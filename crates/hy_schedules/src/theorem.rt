@@ -9,14 +9,14 @@ ghost use Rattle.hy_commands.specs.Commands.{warehouses_of};
 ghost use Rattle.hy_partition.specs.declared.job.Progress.{Progress};
 ghost use Rattle.hy_partition.specs.Jobs.{DoneState, JobState, Log, RunningJob};
 ghost use Rattle.hy_partition.specs.Partition.{PartitionState};
-ghost use Rattle.hy_partition.specs.Schedules.{begins, closes, forks, steps, takes};
+ghost use Rattle.hy_partition.specs.Schedules.{begins, closes, forks, forks_from, steps, takes};
 ghost use Rattle.hy_partition.specs.Snapshots.{SnapshotState};
-ghost use Rattle.hy_partition.specs.Steps.{begin_refusal, Begins, Closes, Forks, StaysUnforked, StepsTo, with_job};
+ghost use Rattle.hy_partition.specs.Steps.{begin_refusal, Begins, Closes, Forks, ForksFrom, StaysUnforked, StepsTo, with_job};
 ghost use Rattle.hy_crossing.specs.Crossings.{ArePartitions, Crosses, database_behind};
 ghost use Rattle.hy_crossing.specs.Lists.{ChangesAt, Pairwise};
 ghost use Rattle.hy_forks.specs.Drains.{DrainsHere, TellsHere};
-ghost use Rattle.hy_forks.specs.Forks.{ClosesHere, ForksAll, IsUnforked};
-ghost use Rattle.hy_schedules.specs.Schedules.{DoesAll, EventOfAll, HasSnapshotOf, IsWholeOf, KeepsEverything, LeadsAll, RunsAll, Whole, at, children_of, closes_all, crosses, drains, forks_all, fresh_whole, looks, place_at};
+ghost use Rattle.hy_forks.specs.Forks.{ClosesHere, ForksAll, ForksAllFrom, IsUnforked};
+ghost use Rattle.hy_schedules.specs.Schedules.{DoesAll, EventOfAll, HasSnapshotOf, IsWholeOf, KeepsEverything, LeadsAll, RunsAll, Whole, at, children_of, closes_all, crosses, drains, forks_all, forks_all_from, fresh_whole, looks, place_at};
 
 use hy_commands::{Command, Commit, Edition, StockLevel};
 use hy_partition::calls_are_events;
@@ -71,6 +71,10 @@ pub fn calls_of_all_are_events()
         (whole : Whole) (snapshot : SnapshotState) → IsWholeOf n log parts whole → place < length parts
         → ChangesAt (λ p q. Forks n kit log known p q snapshot) place parts news
         → LeadsAll n (at (suc place) (forks client snapshot.child)) whole log news }
+    ensures fork_from { (n place : ℕ) (kit : Origin) (log : Log) (parts news : List PartitionState) (whole : Whole)
+        (from snapshot : SnapshotState) → IsWholeOf n log parts whole → place < length parts
+        → ChangesAt (λ p q. ForksFrom kit from p q snapshot) place parts news
+        → LeadsAll n (at (suc place) (forks_from from.child snapshot.child)) whole log news }
     ensures refused_fork { (n place : ℕ) (log : Log) (parts news : List PartitionState) (whole : Whole)
         → IsWholeOf n log parts whole → place < length parts → ChangesAt StaysUnforked place parts news
         → IsWholeOf n log news whole }
@@ -87,6 +91,9 @@ pub fn calls_of_all_are_events()
         (whole : Whole) (snapshots : List SnapshotState) → IsWholeOf n log parts whole
         → ForksAll n kit log known parts news snapshots
         → LeadsAll n (forks_all client (children_of snapshots)) whole log news }
+    ensures fork_all_from { (n : ℕ) (kit : Origin) (log : Log) (parts news : List PartitionState) (whole : Whole)
+        (all snapshots : List SnapshotState) → IsWholeOf n log parts whole → ForksAllFrom kit all parts news snapshots
+        → LeadsAll n (forks_all_from (children_of all) (children_of snapshots)) whole log news }
     ensures refused_fork_all { (n : ℕ) (log : Log) (parts news : List PartitionState) (whole : Whole)
         → IsWholeOf n log parts whole → Pairwise (λ number. IsUnforked log) 1 parts news → IsWholeOf n log news whole }
     ensures close_all { (n : ℕ) (log : Log) (parts news : List PartitionState) (whole : Whole)

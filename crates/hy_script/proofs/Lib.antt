@@ -10,3 +10,4 @@ pub mod RunLaws
 pub mod WorkedScripts
 pub mod AskedLaws
 pub mod HomeLaws
+pub mod OpenLaws

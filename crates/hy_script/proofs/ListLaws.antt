@@ -1,6 +1,7 @@
 -- Lists: what stands at a place, and what is left where an item comes or goes.
-use Rattle.std.proofs.Common.{◌≡◌, ◌+◌, ◌<◌, ℕ, zero, suc, List, [], ◌∷◌, ◌++◌, Option, None, Some, All, IfSome, IsSomeAnd, length, slice_get, slice_index_or, remove, ap, refl, sym, subst, arith, inl, inr}
+use Rattle.std.proofs.Common.{◌≡◌, ◌∙◌, ◌+◌, ◌<◌, ℕ, zero, suc, List, [], ◌∷◌, ◌++◌, Option, None, Some, All, IfSome, IsSomeAnd, length, slice_get, slice_index_or, remove, ap, refl, sym, subst, arith, inl, inr}
 use Rattle.std.proofs.lemmas.Bool.{cases_lt}
+use Rattle.hy_forks.proofs.PlaceLaws.{get-last}
 use Rattle.std.proofs.lemmas.List.Edits.{get_or-remove_above, get_or-remove_below, length-remove}
 
 -- the item at a place that is there
@@ -38,6 +39,19 @@ each_push P (x ∷ xs) last each it (suc place) = each_push (λ n. P (suc n)) xs
 pub length-push : {X : Type 0} (all : List X) (last : X) → length (all ++ last ∷ []) ≡ length all + 1
 length-push [] last = refl
 length-push (x ∷ xs) last = omega (arith, length-push xs last)
+
+-- the last one
+pub last-item : {X : Type 0} (all others : List X) (item last : X) (place : ℕ) → all ≡ others ++ last ∷ []
+    → place + 1 ≡ length all → item ≡ slice_index_or all place item → item ≡ last
+last-item {X = X} all others item last place is counted at =
+    let more : length all ≡ length others + 1 = ap length is ∙ length-push others last in
+    let one : slice_get all place ≡ Some item = item_at all place item (omega (arith, counted)) at in
+    let other : slice_get all place ≡ Some last =
+    ap (λ (list : List X). slice_get list place) is ∙ get-last others last place (omega (arith, more, counted)) in
+    same (sym one ∙ other)
+  where
+    same : {one other : X} → Some one ≡ Some other → one ≡ other
+    same is = cc
 
 -- what holds of each item holds of each that is left
 pub All-remove : {X : Type 0} (P : X → Type 0) (all : List X) (place : ℕ) → place < length all → All P all

@@ -1,17 +1,20 @@
 -- Snapshots of all warehouses.
-use Rattle.std.proofs.Common.{◌≡◌, ◌∙◌, ◌+◌, ◌-◌, ◌<◌, ℕ, zero, suc, List, [], ◌∷◌, All, IfSome, IsSomeAnd, true, length, slice_get, slice_index_or, ap, arith, inl, refl, subst, sym}
+use Rattle.std.proofs.Common.{◌≡◌, ◌∙◌, ◌⊎◌, ◌↔◌, ◌+◌, ◌-◌, ◌<◌, ℕ, zero, suc, Bool, Result, Ok, Err, List, [], ◌∷◌, All, IfErr, IfSome, IsSomeAnd, true, false, length, slice_get, slice_index_or, ap, arith, inl, inr, refl, subst, sym}
+use Rattle.std.proofs.lemmas.Bool.{true≢false}
 use Rattle.std.proofs.lemmas.Bool.Decides.{nat_tests}
 use Rattle.hy_worlds.specs.Origins.{Origin, desk_of}
 use Rattle.hy_rows.specs.Tables.{Lists}
+use Rattle.hy_schema.specs.declared.refusal.Refusal.{Refusal}
+use Rattle.hy_schema.specs.declared.refusal.Refusal.TheVariants as refusals
 use Rattle.hy_partition.specs.Jobs.{Log}
 use Rattle.hy_partition.specs.Partition.{PartitionState}
 use Rattle.hy_partition.specs.Snapshots.{SnapshotState}
-use Rattle.hy_partition.specs.Steps.{Closes, Forks, KeepsJob, is_from}
+use Rattle.hy_partition.specs.Steps.{Closes, Forks, ForksFrom, KeepsJob, is_from}
 use Rattle.hy_crossing.specs.Crossings.{ArePartitions, IsPartition}
 use Rattle.hy_crossing.specs.Lists.{Pairwise}
 use Rattle.hy_crossing.proofs.PairLaws.{pairs-hold, pairs-same}
 use Rattle.hy_forks.proofs.RelationLaws.{pairs-map}
-use Rattle.hy_forks.specs.Forks.{AreOfKit, ClosesHere, ForksAll, ForksHere, IsUnforked, are_from}
+use Rattle.hy_forks.specs.Forks.{AreOfKit, ClosesHere, ForksAll, ForksAllFrom, ForksFromHere, ForksHere, IsUnforked, IsUnforkedUntold, are_from}
 use Rattle.hy_script.specs.Databases.{OpenSnapshot}
 use Rattle.hy_script.specs.inside.Invariants.{IsOf, IsOfAll, KeepsServed}
 use Rattle.hy_script.proofs.CrossedLaws.{Keeps}
@@ -74,6 +77,28 @@ module _ (kit : Origin) where
   own-at count all place snapshot within is each =
       subst (λ (it : OpenSnapshot). IsOfAll kit count it) (sym is) (each place snapshot within)
 
+-- ---- a snapshot of each partition is taken
+
+module _ (kit : Origin) (snapshots : List SnapshotState) (olds news : List PartitionState)
+    (Takes : ℕ → PartitionState → PartitionState → Type 0) (taken : Pairwise Takes 1 olds news)
+    (count : length snapshots ≡ length olds)
+    (own : (number : ℕ) (old new : PartitionState) → Takes number old new → old.warehouse ≡ number
+    → IsSomeAnd (slice_get snapshots (number - 1)) (IsOf kit number)) where
+  taken-own : (lists : Lists) (name : List ℕ) → ArePartitions lists olds → ArePartitions lists news
+      → IsOfAll kit (length lists.tables.warehouses) (record { name = name; parts = snapshots })
+  taken-own lists name are now = record {
+    count = count ∙ are.count;
+    each = shared (λ place. IsOf kit (suc place)) snapshots news (count ∙ are.count ∙ sym now.count) (λ place.
+        let first : 1 + place ≡ suc place = omega arith in
+        let back : suc place - 1 ≡ place = omega arith in
+        subst (λ m. IfSome (slice_get news place) (λ p. IsSomeAnd (slice_get snapshots m) (IsOf kit (suc place)))) back
+        (subst (λ m. IfSome (slice_get news place) (λ p. IsSomeAnd (slice_get snapshots (m - 1)) (IsOf kit m))) first
+        (pairs-hold Takes (λ number p. p.warehouse ≡ number)
+        (λ number p. IsSomeAnd (slice_get snapshots (number - 1)) (IsOf kit number)) own 1 olds news taken
+        (λ one. if_some (slice_get olds one)
+        (λ (p : PartitionState) (is : IsPartition lists (suc one) p). is.1 ∙ omega arith) (are.each one)) place)));
+  }
+
 -- ---- a fork of all partitions
 
 module _ (n : ℕ) (kit : Origin) (log known : Log) (olds news : List PartitionState) (snapshots : List SnapshotState)
@@ -90,18 +115,7 @@ module _ (n : ℕ) (kit : Origin) (log known : Log) (olds news : List PartitionS
 
   pub forked-own : (lists : Lists) (name : List ℕ) → ArePartitions lists olds → ArePartitions lists news
       → IsOfAll kit (length lists.tables.warehouses) (record { name = name; parts = snapshots })
-  forked-own lists name are now = record {
-    count = forks.count ∙ are.count;
-    each = shared (λ place. IsOf kit (suc place)) snapshots news (forks.count ∙ are.count ∙ sym now.count) (λ place.
-        let first : 1 + place ≡ suc place = omega arith in
-        let back : suc place - 1 ≡ place = omega arith in
-        subst (λ m. IfSome (slice_get news place) (λ p. IsSomeAnd (slice_get snapshots m) (IsOf kit (suc place)))) back
-        (subst (λ m. IfSome (slice_get news place) (λ p. IsSomeAnd (slice_get snapshots (m - 1)) (IsOf kit m))) first
-        (pairs-hold (ForksHere n kit log known snapshots) (λ number p. p.warehouse ≡ number)
-        (λ number p. IsSomeAnd (slice_get snapshots (number - 1)) (IsOf kit number)) forks-own 1 olds news forks.each
-        (λ one. if_some (slice_get olds one)
-        (λ (p : PartitionState) (is : IsPartition lists (suc one) p). is.1 ∙ omega arith) (are.each one)) place)));
-  }
+  forked-own = taken-own kit snapshots olds news (ForksHere n kit log known snapshots) forks.each forks.count forks-own
 
   forks-keeps : (number : ℕ) (old new : PartitionState) → ForksHere n kit log known snapshots number old new
       → KeepsServed old new
@@ -111,6 +125,35 @@ module _ (n : ℕ) (kit : Origin) (log known : Log) (olds news : List PartitionS
 
   pub keeps-forked : Pairwise Keeps 1 olds news
   keeps-forked = pairs-map (ForksHere n kit log known snapshots) Keeps forks-keeps 1 olds news forks.each
+
+-- ---- a fork of what a snapshot of all sees
+
+module _ (kit : Origin) (others : List SnapshotState) (olds news : List PartitionState) (snapshots : List SnapshotState)
+    (forks : ForksAllFrom kit others olds news snapshots) where
+  again-own : (number : ℕ) (old new : PartitionState) → ForksFromHere kit others snapshots number old new
+      → old.warehouse ≡ number → IsSomeAnd (slice_get snapshots (number - 1)) (IsOf kit number)
+  again-own number old new here is =
+      some_and (slice_get snapshots (number - 1)) (λ (it : SnapshotState) taken.
+      from_some (slice_get others (number - 1)) (λ (from : SnapshotState) (fork : ForksFrom kit from old new it). record {
+        warehouse_is = fork.warehouse ∙ is;
+        name_is = fork.name;
+        desk_is = fork.desk ∙ ap (desk_of kit) is;
+      }) taken) here
+
+  pub forked_from-own : (lists : Lists) (name : List ℕ) → ArePartitions lists olds → ArePartitions lists news
+      → IsOfAll kit (length lists.tables.warehouses) (record { name = name; parts = snapshots })
+  forked_from-own =
+      taken-own kit snapshots olds news (ForksFromHere kit others snapshots) forks.each forks.count again-own
+
+  again-keeps : (number : ℕ) (old new : PartitionState) → ForksFromHere kit others snapshots number old new
+      → KeepsServed old new
+  again-keeps number old new here =
+      from_some (slice_get snapshots (number - 1)) (λ (it : SnapshotState) taken.
+      from_some (slice_get others (number - 1)) (λ (from : SnapshotState) (fork : ForksFrom kit from old new it).
+      keeps-job old new fork.job fork.users.limit) taken) here
+
+  pub keeps-forked_from : Pairwise Keeps 1 olds news
+  keeps-forked_from = pairs-map (ForksFromHere kit others snapshots) Keeps again-keeps 1 olds news forks.each
 
 -- ---- nothing is forked
 
@@ -148,6 +191,21 @@ module _ (log : Log) where
   keeps-unforked olds news unforked =
       pairs-map (λ number. IsUnforked log) Keeps (λ number old new it. keeps-job old new it.job it.max_frames) 1 olds
       news unforked
+
+pub keeps-untold : (olds news : List PartitionState) → Pairwise (λ number. IsUnforkedUntold) 1 olds news
+    → Pairwise Keeps 1 olds news
+keeps-untold olds news untold =
+    pairs-map (λ number. IsUnforkedUntold) Keeps (λ number old new it. keeps-job old new (it []).job (it []).max_frames) 1
+    olds news untold
+
+-- it isn't refused for a snapshot of others
+pub own-memory : {T : Type 0} (result : Result T Refusal) (are : Bool) → are ≡ true
+    → (result ≡ Err refusals.NotMine ↔ (are ≡ false))
+    → IfErr result (λ why. (why ≡ refusals.NotMine) ⊎ (why ≡ refusals.NoMemory))
+    → IfErr result (λ why. why ≡ refusals.NoMemory)
+own-memory (Ok value) are own mine why = tt
+own-memory (Err why) are own mine (inl is) = absurd (true≢false (sym own ∙ mine.0 (ap Err is)))
+own-memory (Err why) are own mine (inr memory) = memory
 
 -- ---- a close
 

@@ -18,7 +18,7 @@ use Rattle.hy_partition.specs.Jobs.{Log}
 use Rattle.hy_partition.specs.Partition.{PartitionState}
 use Rattle.hy_partition.specs.Steps.{IsUnbegun, StepsTo}
 use Rattle.hy_crossing.specs.Lists.{Pairwise}
-use Rattle.hy_forks.specs.Forks.{IsUnforked, IsWhyUnforked}
+use Rattle.hy_forks.specs.Forks.{IsUnforked, IsUnforkedUntold, IsWhyUnforked}
 use Rattle.hy_partition.specs.Snapshots.{SnapshotState}
 use Rattle.hy_query.specs.Language.{query_of}
 use Rattle.hy_query.specs.Meaning.{answer_of}
@@ -29,7 +29,7 @@ use Rattle.hy_session.specs.Texts.{answer_text}
 use Rattle.hy_script.specs.declared.answer.Request.{Request}
 use Rattle.hy_script.specs.declared.answer.Request.TheVariants as requests
 use Rattle.hy_script.specs.Databases.{DatabaseState, HasName, IsNameAt, part_at, with_part}
-use Rattle.hy_script.specs.Steps.{ClosesAt, IsBegun, IsLimited, Opens, Runs, RunsAcross, is_crossing, limit_for, reply_waiting}
+use Rattle.hy_script.specs.Steps.{ClosesAt, IsBegun, IsLimited, Opens, OpensFrom, Runs, RunsAcross, is_crossing, limit_for, reply_waiting}
 
 -- ---- texts
 
@@ -52,11 +52,11 @@ waiting_text (Some reply) = reply_text reply
 abbrev pub count_text : List ℕ → ℕ → List ℕ
 count_text word number = word ++ codes " " ++ decimal number ++ codes "\n"
 
--- how many commits a partition has kept
-abbrev pub commits_text : PartitionState → List ℕ
-commits_text p = codes " " ++ decimal (length p.kept)
+-- behind how many commits the snapshot of a warehouse is
+abbrev pub commits_text : SnapshotState → List ℕ
+commits_text snapshot = codes " " ++ decimal snapshot.commits
 
-abbrev pub snapshot_text : List ℕ → List PartitionState → List ℕ
+abbrev pub snapshot_text : List ℕ → List SnapshotState → List ℕ
 snapshot_text name parts = codes "snapshot " ++ name ++ codes " commits" ++ flat_map commits_text parts ++ codes "\n"
 
 abbrev pub closed_text : List ℕ → List ℕ
@@ -126,7 +126,7 @@ RunsWhole command old new text = IfThere (home_of command) old new text (λ p.
 pub record OpensName (page_size : ℕ) (name : List ℕ) (old new : DatabaseState) (text : List ℕ) : Type 0 where
   pub opens : Opens page_size name old new
   pub log : new.log ≡ old.log
-  pub prints : text ≡ snapshot_text name new.parts
+  pub prints : text ≡ snapshot_text name opens.parts
 
 -- for want of frames or of memory no name was opened, and no snapshot is left of it
 pub record OpensNone (old new : DatabaseState) (text : List ℕ) : Type 0 where
@@ -136,6 +136,22 @@ pub record OpensNone (old new : DatabaseState) (text : List ℕ) : Type 0 where
   pub snapshots : new.snapshots ≡ old.snapshots
   pub log : new.log ≡ old.log
   pub prints : text ≡ refused_text why
+
+-- a snapshot of what the open one of another name sees has the name, which wasn't open
+pub record OpensNameFrom (name from : List ℕ) (old new : DatabaseState) (text : List ℕ) : Type 0 where
+  pub place : ℕ
+  pub there : IsNameAt old.snapshots from place
+  pub opens : OpensFrom place name old new
+  pub log : new.log ≡ old.log
+  pub prints : text ≡ snapshot_text name opens.parts
+
+-- for want of memory no name was opened of an open one, and no snapshot is left of it
+pub record OpensNoneFrom (from : List ℕ) (old new : DatabaseState) (text : List ℕ) : Type 0 where
+  pub there : HasName old.snapshots from
+  pub stays : Pairwise (λ number. IsUnforkedUntold) 1 old.parts new.parts
+  pub snapshots : new.snapshots ≡ old.snapshots
+  pub log : new.log ≡ old.log
+  pub prints : text ≡ refused_text refusals.NoMemory
 
 -- the snapshot of a name was closed
 pub record ClosesName (name : List ℕ) (old new : DatabaseState) (text : List ℕ) : Type 0 where
@@ -184,6 +200,8 @@ Answers page_size (events.Shared number) old new text = Asks number requests.Sha
 Answers page_size (events.Limit number more) old new text = Asks number (requests.Limit more) old new text
 Answers page_size (events.Fork name) old new text =
     (¬ HasName old.snapshots name) × (OpensName page_size name old new text ⊎ OpensNone old new text)
+Answers page_size (events.ForkFrom name from) old new text =
+    (¬ HasName old.snapshots name) × (OpensNameFrom name from old new text ⊎ OpensNoneFrom from old new text)
 Answers page_size (events.Close name) old new text = ClosesName name old new text
 Answers page_size (events.Query name asked) old new text = AsksName name (AnswersQuery page_size asked) old new text
 Answers page_size (events.Check name) old new text = AsksName name (AnswersCheck page_size) old new text
@@ -191,6 +209,7 @@ Answers page_size (events.Check name) old new text = AsksName name (AnswersCheck
 -- an event that names a snapshot that isn't open, or opens one of an open name
 abbrev pub IsMisnamed : DatabaseState → Event → Type 0
 IsMisnamed database (events.Fork name) = HasName database.snapshots name
+IsMisnamed database (events.ForkFrom name from) = HasName database.snapshots name ⊎ (¬ HasName database.snapshots from)
 IsMisnamed database (events.Close name) = ¬ HasName database.snapshots name
 IsMisnamed database (events.Query name asked) = ¬ HasName database.snapshots name
 IsMisnamed database (events.Check name) = ¬ HasName database.snapshots name

@@ -1,5 +1,5 @@
 -- What an event does to one warehouse, or to all of them.
-use Rattle.std.specs.Prelude.{◌≡◌, ◌⊎◌, ℕ, Bool, nat_lt, List, ◌+◌, ◌-◌, [], ◌∷◌, ◌++◌, Option, None, Some, length, remove, slice_get}
+use Rattle.std.specs.Prelude.{◌≡◌, ◌⊎◌, ℕ, Bool, nat_lt, List, ◌+◌, ◌-◌, [], ◌∷◌, ◌++◌, Option, None, Some, length, map, remove, slice_get}
 use Rattle.hy_worlds.specs.Origins.{Origin}
 use Rattle.hy_schema.specs.declared.refusal.Refusal.{Refusal}
 use Rattle.hy_commands.specs.declared.command.Command.{Command}
@@ -15,7 +15,7 @@ use Rattle.hy_partition.specs.Snapshots.{SnapshotState}
 use Rattle.hy_partition.specs.Steps.{Accepts, IsUnbegun, KeepsJob, Refuses, begin_refusal, with_job}
 use Rattle.hy_crossing.specs.Crossings.{ArePartitions, Crosses, database_behind}
 use Rattle.hy_crossing.specs.Lists.{Pairwise}
-use Rattle.hy_forks.specs.Forks.{ClosesHere, ForksAll, SpellsDatabase}
+use Rattle.hy_forks.specs.Forks.{ClosesHere, ForksAll, ForksAllFrom, SpellsDatabase, shown}
 use Rattle.hy_script.specs.Databases.{DatabaseState, OpenSnapshot}
 
 -- ---- commands of one warehouse
@@ -82,6 +82,17 @@ pub record Opens (page_size : ℕ) (name : List ℕ) (old new : DatabaseState) :
   pub lists : Lists
   pub load : ArePartitions lists old.parts
   pub spells : SpellsDatabase page_size (database_behind lists old.log) parts
+  pub snapshots : new.snapshots ≡ old.snapshots ++ record { name = name; parts = parts } ∷ []
+
+-- each partition has a snapshot more, of what that of the snapshot at a place sees, which stays open. The snapshot of all
+-- warehouses shows what that one shows, and is open under a name, behind the others
+pub record OpensFrom (place : ℕ) (name : List ℕ) (old new : DatabaseState) : Type 0 where
+  pub kit : Origin
+  pub from : OpenSnapshot
+  pub there : slice_get old.snapshots place ≡ Some from
+  pub parts : List SnapshotState
+  pub forks : ForksAllFrom kit from.parts old.parts new.parts parts
+  pub shows : map shown parts ≡ map shown from.parts
   pub snapshots : new.snapshots ≡ old.snapshots ++ record { name = name; parts = parts } ∷ []
 
 -- the snapshot at a place was closed, in each partition

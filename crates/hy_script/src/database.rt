@@ -1,6 +1,6 @@
 //! The database of a script: its partitions, and the snapshots that are open.
 
-ghost use Rattle.std.specs.Prelude.{◌≡◌, ℕ, suc, ◌+◌, ◌<◌, ◌≤◌, ◌++◌, ◌∷◌, [], true, IfErr, IfOk, IsSomeAnd, IsTrue, MatchOption, None, OnErr, OnOk, is_some, length, map, remove, slice_get};
+ghost use Rattle.std.specs.Prelude.{◌≡◌, ℕ, suc, ◌+◌, ◌<◌, ◌≤◌, ◌++◌, ◌∷◌, [], true, IfErr, IfOk, IsSomeAnd, IsTrue, List, MatchOption, None, OnErr, OnOk, is_some, length, map, remove, slice_get};
 ghost use Rattle.std.specs.List.{flat_map, range_with_len};
 ghost use Rattle.std.specs.Io.KnownBytes.{Appends};
 ghost use Rattle.hy_passes.specs.Worlds.{new_partition};
@@ -9,12 +9,12 @@ ghost use Rattle.hy_frames.specs.FrameTable.{IsPageSize, max_frames as most_fram
 ghost use Rattle.hy_partition.specs.Limits.{most_kept};
 ghost use Rattle.hy_crossing.specs.Lists.{Pairwise};
 ghost use Rattle.hy_crossing.specs.Making.{IsWhyNoneMade};
-ghost use Rattle.hy_forks.specs.Forks.{IsUnforked, IsWhyUnforked};
+ghost use Rattle.hy_forks.specs.Forks.{IsUnforked, IsUnforkedUntold, IsWhyUnforked};
 ghost use Rattle.hy_script.specs.Answers.{AnswersCheck, AnswersQuery, commits_text, snapshot_text};
-ghost use Rattle.hy_script.specs.Databases.{HasName, IsNameAt, part_at};
+ghost use Rattle.hy_script.specs.Databases.{HasName, IsNameAt, OpenSnapshot, part_at};
 ghost use Rattle.hy_script.specs.Printed.{IsAsked, IsWritten};
 ghost use Rattle.hy_script.specs.Scripts.{StartsFrom};
-ghost use Rattle.hy_script.specs.Steps.{ClosesAt, Opens, RunsAcross, is_crossing};
+ghost use Rattle.hy_script.specs.Steps.{ClosesAt, Opens, OpensFrom, RunsAcross, is_crossing};
 
 use crate::answer::{Request, grant, write_answer, write_refused};
 use crate::named::{Named, place_of_name};
@@ -25,7 +25,7 @@ use hy_events::{QueryText, SnapshotName};
 use hy_forks::fork_all;
 use hy_loads::Load;
 use hy_output::Output;
-use hy_partition::{Job, Loaded, Partition};
+use hy_partition::{Job, Loaded, Partition, Snapshot};
 use hy_passes::{Journal, PartitionSeat, Pass};
 use hy_schema::Refusal;
 use hy_session::Session;
@@ -175,6 +175,25 @@ impl<'a, const N: usize, K: Loaded> Database<'a, N, K> {
         Ok(())
     }
 
+    /// Opens a snapshot of this name, of what the one at a place sees, in each partition. Where that is refused, no snapshot
+    /// is left of it.
+    pub fn fork_from(&mut self, name: SnapshotName<'a>, place: usize) -> Result<(), Refusal>
+        requires { place < length self.old.snapshots }
+        ensures opens { OnOk result (OpensFrom place name.entry self.old self.new) }
+        ensures refused { IfErr result (λ why. why ≡ Refusal.NoMemory) }
+        ensures stays { OnErr result (Pairwise (λ number. IsUnforkedUntold) 1 self.old.parts self.new.parts) }
+        ensures snapshots { OnErr result (self.new.snapshots ≡ self.old.snapshots) }
+        ensures log { self.new.log ≡ self.old.log }
+    {
+        self.snapshots.reserve(1)?;
+        let alloc = *self.parts.allocator();
+        match self.snapshots[place].session().fork(alloc, &mut self.parts) {
+            Ok(session) => self.snapshots.push_reserved(Named::new(name, session)),
+            Err(refusal) => return Err(refusal),
+        }
+        Ok(())
+    }
+
     /// Closes the snapshot at a place.
     pub fn close(&mut self, place: usize)
         requires { place < length self.old.snapshots }
@@ -219,17 +238,17 @@ impl<'a, const N: usize, K: Loaded> Database<'a, N, K> {
         }
     }
 
-    /// Writes that a snapshot of this name was opened, and how many commits each warehouse has.
-    pub fn write_snapshot<O: Output>(&self, name: &[u8], out: &mut O) -> io::Result<()>
-        ensures written { OnOk result (Appends (O.contents out.old) (O.contents out.new)
-            (snapshot_text name.now self.now.parts)) }
+    /// Writes that the snapshot that was opened last is open under this name, and behind how many commits each warehouse is
+    /// in it.
+    pub fn write_opened<O: Output>(&self, name: &[u8], out: &mut O) -> io::Result<()>
+        requires { 1 ≤ length self.now.snapshots }
+        ensures written { OnOk result ((others : List OpenSnapshot) (opened : OpenSnapshot)
+            → self.now.snapshots ≡ others ++ opened ∷ []
+            → Appends (O.contents out.old) (O.contents out.new) (snapshot_text name.now opened.parts)) }
         ensures failed { OnErr result (IsTrue (O.has_failed out.new)) }
     {
-        out.write_all(b"snapshot ")?;
-        out.write_all(name)?;
-        out.write_all(b" commits")?;
-        write_commits(&self.parts, out)?;
-        out.write_all(b"\n")
+        let opened = &self.snapshots[self.snapshots.len() - 1];
+        write_snapshot(name, opened.session().snapshot().parts(), out)
     }
 
     /// Closes what is open, and gives the database up.
@@ -249,17 +268,31 @@ impl<'a, const N: usize, K: Loaded> Database<'a, N, K> {
     }
 }
 
-/// Writes how many commits each warehouse has.
-fn write_commits<const N: usize, K: Loaded, O: Output>(
-    parts: &[Partition<N, K>],
+/// Writes that a snapshot is open under a name, and behind how many commits each warehouse is in it.
+fn write_snapshot<const N: usize, O: Output>(
+    name: &[u8],
+    parts: &[Snapshot<N>],
     out: &mut O,
 ) -> io::Result<()>
+    ensures written { OnOk result
+        (Appends (O.contents out.old) (O.contents out.new) (snapshot_text name.now parts.now)) }
+    ensures failed { OnErr result (IsTrue (O.has_failed out.new)) }
+{
+    out.write_all(b"snapshot ")?;
+    out.write_all(name)?;
+    out.write_all(b" commits")?;
+    write_commits(parts, out)?;
+    out.write_all(b"\n")
+}
+
+/// Writes behind how many commits the snapshot of each warehouse is.
+fn write_commits<const N: usize, O: Output>(parts: &[Snapshot<N>], out: &mut O) -> io::Result<()>
     ensures written { OnOk result
         (Appends (O.contents out.old) (O.contents out.new) (flat_map commits_text parts.now)) }
     ensures failed { OnErr result (IsTrue (O.has_failed out.new)) }
 {
     for part in parts {
-        let commits = part.kept().len();
+        let commits = part.commits();
         write!(out, " {commits}")?;
     }
     Ok(())

@@ -60,6 +60,7 @@ pub fn answer<'a, const N: usize, K: Loaded, O: Output>(
             database.ask(warehouse, Request::Limit(frames), out)?;
         }
         Event::Fork(name) => return fork(database, name, out),
+        Event::ForkFrom(name, from) => return fork_from(database, name, &from, out),
         Event::Close(name) => return close(database, name, out),
         Event::Query(name, text) => return query(database, &name, &text, out),
         Event::Check(name) => return check(database, &name, out),
@@ -89,8 +90,8 @@ fn run<const N: usize, K: Loaded, O: Output>(
     database.ask(home, Request::Run(command), out)
 }
 
-/// Opens a snapshot of a name, and writes how many commits each warehouse has. Where that is refused, no snapshot is
-/// left of it.
+/// Opens a snapshot of a name, and writes behind how many commits each warehouse is in it. Where that is refused, no
+/// snapshot is left of it.
 fn fork<'a, const N: usize, K: Loaded, O: Output>(
     database: &mut Database<'a, N, K>,
     name: SnapshotName<'a>,
@@ -107,9 +108,36 @@ fn fork<'a, const N: usize, K: Loaded, O: Output>(
     }
     let bytes = name.as_bytes();
     match database.fork(name) {
-        Ok(()) => database.write_snapshot(bytes, out)?,
+        Ok(()) => database.write_opened(bytes, out)?,
         Err(refusal) => write_refused(out, refusal)?,
     }
+    Ok(())
+}
+
+/// Opens a snapshot of a name, of what the one of another name sees, and writes the same.
+fn fork_from<'a, const N: usize, K: Loaded, O: Output>(
+    database: &mut Database<'a, N, K>,
+    name: SnapshotName<'a>,
+    from: &SnapshotName<'_>,
+    out: &mut O,
+) -> Result<(), Unanswered>
+    ensures answered { OnOk result (IsAnswered N (events.ForkFrom name.entry from.now) database.old database.new
+        (O.contents out.old) (O.contents out.new)) }
+    ensures unanswered { IfErr result (IsUnanswered database.old (events.ForkFrom name.entry from.now)
+        (O.contents out.new ≡ O.contents out.old) (IsTrue (O.has_failed out.new))) }
+{
+    let (None, Some(place)) = (
+        database.place_of_name(&name),
+        database.place_of_name(from),
+    ) else {
+        return Err(Unanswered::BadEvent);
+    };
+    let bytes = name.as_bytes();
+    if let Err(refusal) = database.fork_from(name, place) {
+        write_refused(out, refusal)?;
+        return Ok(());
+    }
+    database.write_opened(bytes, out)?;
     Ok(())
 }
 

@@ -1,2 +1,3 @@
 pub mod JoinedLaws
 pub mod ShownLaws
+pub mod AgainLaws

@@ -1,11 +1,11 @@
 //! A session over a snapshot of the whole database.
 
-ghost use Rattle.std.specs.Prelude.{◌≡◌, ◌≤◌, ◌==◌, ◌↔◌, IfErr, IfOk, IsOk, IsOkAnd, IsTrue, MatchResult, OnErr, OnOk, filter, length, map};
+ghost use Rattle.std.specs.Prelude.{◌≡◌, ◌⊎◌, ◌≤◌, ◌==◌, ◌↔◌, Err, false, IfErr, IfOk, IsOk, IsOkAnd, IsTrue, MatchResult, OnErr, OnOk, filter, length, map};
 ghost use Rattle.hy_schema.specs.declared.refusal.Refusal.TheVariants.{BadQuery, NoMemory, NotMine};
 ghost use Rattle.hy_commands.specs.Parts.{Database};
 ghost use Rattle.hy_forks.specs.Crossings.{ArePartitions, HaveNoPart};
 ghost use Rattle.hy_forks.specs.Lists.{Pairwise};
-ghost use Rattle.hy_forks.specs.Forks.{AreOfKit, ClosesHere, SpellsDatabase, are_from};
+ghost use Rattle.hy_forks.specs.Forks.{AreOfKit, ClosesHere, ForksAllFrom, IsUnforkedUntold, SpellsDatabase, are_from, shown};
 ghost use Rattle.hy_answers.specs.Snapshots.{lists_of_all};
 ghost use Rattle.hy_answers.specs.Texts.{answer_text};
 ghost use Rattle.hy_query.specs.Language.{query_of};
@@ -16,7 +16,7 @@ ghost use Rattle.hy_session.specs.Reports.{broken_condition, report_line, report
 use crate::rows::{rows_of_all, tables_of_all};
 use hy_answers::{run, text_of};
 use hy_conditions::first_broken;
-use hy_forks::{Loaded, Partition, Parts, SnapshotAll, close_all};
+use hy_forks::{Loaded, Partition, Parts, SnapshotAll, close_all, fork_all_from};
 use hy_query::{Query, parse_query};
 use hy_rows::{NewOrder, Tables, Warehouse};
 use hy_schema::Refusal;
@@ -118,6 +118,29 @@ impl<const N: usize> Session<N> {
         ensures refused { IfErr result (λ why. why ≡ NoMemory) }
     {
         Ok(tables_of_all(alloc, &self.all)?)
+    }
+
+    /// A session on what this one sees, which lives on when this one is closed, as `fork_all_from` of hy_forks gives it. E11
+    /// where one of its parts is another warehouse's or one of a kit with another name; E1.
+    pub fn fork<K: Loaded, P: Parts<Part = Partition<N, K>>>(
+        &self,
+        alloc: Global,
+        parts: &mut P,
+    ) -> Result<Session<N>, Refusal>
+        requires parts { ArePartitions K.load (P.states parts.old) }
+        requires whole { HaveNoPart (P.states parts.old) }
+        ensures forks { IfOk result (ForksAllFrom K.passes self.now (P.states parts.old) (P.states parts.new)) }
+        ensures shown { IfOk result (λ again. map shown again ≡ map shown self.now) }
+        ensures rows { IfOk result (λ again. lists_of_all N again ≡ lists_of_all N self.now) }
+        ensures kit { IfOk result (AreOfKit K.passes) }
+        ensures mine { result ≡ Err NotMine ↔ (are_from K.passes self.now (P.states parts.old) ≡ false) }
+        ensures refused { IfErr result (λ why. (why ≡ NotMine) ⊎ (why ≡ NoMemory)) }
+        ensures err { OnErr result (Pairwise (λ number. IsUnforkedUntold) 1 (P.states parts.old) (P.states parts.new)) }
+        ensures parts { ArePartitions K.load (P.states parts.new) }
+        ensures whole { HaveNoPart (P.states parts.new) }
+    {
+        let all = fork_all_from(alloc, parts, &self.all)?;
+        Ok(Session { all })
     }
 
     /// Gives the snapshot back, as `close_all` of hy_forks does: E11 where one of its parts is another warehouse's or one

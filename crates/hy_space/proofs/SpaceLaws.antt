@@ -169,15 +169,15 @@ module _ (page_size : ℕ) (s : SpaceState) (counted : IsCounted page_size s) wh
       )
 
   -- few enough tables have a frame for one more user
-  pub room_for_user : (f : ℕ) → count_of s.frames f + times f s.owner ≤ length s.children + 2
+  pub room_for_user : (f : ℕ) → count_of s.frames f ≤ length s.children + 1
   room_for_user f =
       let once : All (λ table. child_times f table ≤ 1) s.children = All-from_get_or (λ table. child_times f table ≤ 1) s.children None (λ child _. counted.child_once f child) in
       omega (arith, counted.exact f, counted.owner_once f, sum_by-le (child_times f) 1 s.children once)
 
-  -- a child is forked at a place that had none
-  pub forked : (children : List (Option (List (List ℕ)))) (child : ℕ) (new : FrameTable) → IsPadded s.children children → AddsUsers s.frames new (λ f. times f s.owner) → (other : ℕ) → other ≢ child → (get_or (set children child (Some s.owner)) other None ≡ child_table s other) × (option_map (table_bytes new) (get_or (set children child (Some s.owner)) other None) ≡ child_bytes s other)
-  forked children child new padded adds other apart =
-      let read : get_or (set children child (Some s.owner)) other None ≡ child_table s other = get_or-set_other children child other (Some s.owner) None apart ∙ get_or-padded s.children children other padded in (
+  -- a child is opened at a place that had none
+  pub forked : (table : List (List ℕ)) (children : List (Option (List (List ℕ)))) (child : ℕ) (new : FrameTable) → IsPadded s.children children → AddsUsers s.frames new (λ f. times f table) → (other : ℕ) → other ≢ child → (get_or (set children child (Some table)) other None ≡ child_table s other) × (option_map (table_bytes new) (get_or (set children child (Some table)) other None) ≡ child_bytes s other)
+  forked table children child new padded adds other apart =
+      let read : get_or (set children child (Some table)) other None ≡ child_table s other = get_or-set_other children child other (Some table) None apart ∙ get_or-padded s.children children other padded in (
         read,
         ap (option_map (table_bytes new)) read ∙ same_child_bytes s.frames new (child_table s other) (λ f more. adds.pages f),
       )
@@ -253,6 +253,17 @@ module _ (page_size : ℕ) (s : SpaceState) (counted : IsCounted page_size s) wh
         let none : times f table ≡ 0 = omega (arith, (owners_alone segment page before own).1, child_in_sum f s.children child, ap (child_times f) is_table) in
         let one : count_of new f ≡ 1 = omega (arith, drops.counts f, own) in
         (one, drops.lent f (omega arith)),
+  ))
+
+  -- a child with the table of another one keeps own pages, none of which that one has
+  pub again_keeps : (new : SpaceState) (child : ℕ) (table : List (List ℕ)) → child_table s child ≡ Some table → new.owner ≡ s.owner → AddsUsers s.frames new.frames (λ f. times f table) → KeepsOwn s new
+  again_keeps new child table is_table same adds = KeepsOwn-from s new (λ segment page before after. (
+    ap (λ (rows : List (List ℕ)). get_or (get_or rows segment []) page 0) same,
+    λ own.
+        let f = frame_no s segment page in
+        let none : times f table ≡ 0 = omega (arith, (owners_alone segment page before own).1, child_in_sum f s.children child, ap (child_times f) is_table) in
+        let one : count_of new.frames f ≡ 1 = omega (arith, adds.counts f, own, none) in
+        (one, adds.lent f),
   ))
 
   -- a new page keeps own pages

@@ -4,7 +4,7 @@ ghost use Rattle.std.specs.Prelude.{◌≡◌, ℕ, true, ◌+◌, ◌^◌, ◌<
 ghost use Rattle.std.specs.Option.{option_map};
 ghost use Rattle.hy_frames.specs.FrameTable.{occurrences, max_frames, count_of, lent_at, in_use, free_of, shared_of, IsLimitFor, IsPageSize};
 ghost use Rattle.hy_page.specs.Bytes.{number_of, bytes_at, overwritten};
-ghost use Rattle.hy_space.specs.Space.{SpaceState, owner_bytes, child_table, child_bytes, page_count, HasPage, frame_no, page_bytes, IsPrivate, KeepsOwn, AddsUsers, DropsUsers, child_times, times, IsUnchanged, ChangesBytesOf, HasChildPage, child_frame_no, IsChildPrivate, MovesChildPage, page_at, with_new_frame, with_first_frames, with_page, with_new_page, with_first_pages, MakesPrivate, WritesPage, GrowsPage, Lends, LacksFrame, IsLeastFree, SameForChildren, SameForOthers, SameForOwner, IsSound};
+ghost use Rattle.hy_space.specs.Space.{SpaceState, owner_bytes, table_bytes, child_table, child_bytes, page_count, HasPage, frame_no, page_bytes, IsPrivate, KeepsOwn, AddsUsers, DropsUsers, child_times, times, IsUnchanged, ChangesBytesOf, HasChildPage, child_frame_no, IsChildPrivate, MovesChildPage, page_at, with_new_frame, with_first_frames, with_page, with_new_page, with_first_pages, MakesPrivate, WritesPage, GrowsPage, Lends, LacksFrame, IsLeastFree, SameForChildren, SameForOthers, SameForOwner, IsSound};
 ghost use Rattle.hy_space.specs.inside.Children.{IsFirstClosed, IsPadded};
 
 use super::tables::PageTable;
@@ -182,6 +182,51 @@ impl<const N: usize> Space<N> {
         ensures err { OnErr result (self.new ≡ self.old) }
     {
         let table = self.owner.try_clone(self.alloc)?;
+        self.open(table)
+    }
+
+    /// Opens a child that sees what an open one sees. No page is copied, and no frame taken.
+    pub fn fork_child(&mut self, child: u64) -> Result<u64, AllocError>
+        requires { IsSome (child_table self.old child) }
+        ensures least { IfOk result (IsLeastFree self.old) }
+        ensures table { IfOk result (λ new. child_table self.new new ≡ child_table self.old child) }
+        ensures bytes { IfOk result (λ new. child_bytes self.new new ≡ child_bytes self.old child) }
+        ensures others { IfOk result (SameForOthers self.old self.new) }
+        ensures owner { OnOk result (SameForOwner self.old self.new) }
+        ensures users { OnOk result (AddsUsers self.old.frames self.new.frames
+            (λ f. child_times f (child_table self.old child))) }
+        ensures kept { OnOk result (KeepsOwn self.old self.new) }
+        ensures err { OnErr result (self.new ≡ self.old) }
+    {
+        let table = self.table_of(child).try_clone(self.alloc)?;
+        self.open(table)
+    }
+
+    /// The table of an open child.
+    fn table_of(&self, child: u64) -> &PageTable
+        requires { IsSome (child_table self.now child) }
+        ensures table { child_table self.now child ≡ Some result.now }
+        ensures used { (f : ℕ) → times f result.now ≤ count_of self.now.frames f }
+        ensures once { (f : ℕ) → times f result.now ≤ 1 }
+    {
+        match &self.children[child as usize] {
+            Some(table) => table,
+            None => unreachable!(),
+        }
+    }
+
+    /// Opens a child with a table whose frames are in use, each at one place of it at most.
+    fn open(&mut self, table: PageTable) -> Result<u64, AllocError>
+        requires used { (f : ℕ) → times f table ≤ count_of self.old.frames f }
+        requires once { (f : ℕ) → times f table ≤ 1 }
+        ensures least { IfOk result (IsLeastFree self.old) }
+        ensures table { IfOk result (λ child. child_table self.new child ≡ Some table) }
+        ensures bytes { IfOk result (λ child. child_bytes self.new child ≡ Some (table_bytes self.old.frames table)) }
+        ensures others { IfOk result (SameForOthers self.old self.new) }
+        ensures owner { OnOk result (SameForOwner self.old self.new) }
+        ensures users { OnOk result (AddsUsers self.old.frames self.new.frames (λ f. times f table)) }
+        ensures err { OnErr result (self.new ≡ self.old) }
+    {
         let child = place_for_child(&mut self.children)?;
         users::share_table(&mut self.frames, &table);
         self.children[child] = Some(table);

@@ -23,6 +23,19 @@ pub fn order_of(rt: &(impl Abort + AllocGlobal), home: u64, lines: &[(u64, u64)]
     })
 }
 
+/// A payment of 100 cents in warehouse 1, by a customer of a warehouse.
+pub fn payment_by(customer_warehouse: u64) -> Command {
+    Command::Payment(Payment {
+        warehouse: 1,
+        district: 1,
+        customer_warehouse,
+        customer_district: 1,
+        who: Who::Number(1),
+        amount: 100,
+        at: 1,
+    })
+}
+
 /// The payment with a number, of so many cents and a hundred: in warehouse 1 where the number is odd, else in 2, and by a
 /// customer of the other one where five divides it.
 pub fn numbered_payment(number: u8) -> Command {

@@ -202,6 +202,22 @@ impl<K: Loaded> Hall<K> {
         }
     }
 
+    /// Opens a session on what another one sees.
+    pub fn fork_session(
+        &mut self,
+        rt: &impl Abort,
+        alloc: Global,
+        opened: &OpenSession<K>,
+    ) -> OpenSession<K> {
+        OpenSession {
+            session: opened
+                .session
+                .fork(alloc, &mut self.parts)
+                .expect(rt, "a session"),
+            of: PhantomData,
+        }
+    }
+
     /// Closes a session.
     pub fn close_session(&mut self, rt: &impl Abort, opened: OpenSession<K>) {
         let OpenSession { session, of: _ } = opened;

@@ -2,8 +2,9 @@
 
 ghost use Rattle.std.specs.Prelude.{◌≡◌, length};
 
+use crate::commands::payment_by;
 use crate::halls::TakenAll;
-use hy_commands::{Command, Commit, Payment, Reply, Who};
+use hy_commands::{Commit, Reply};
 use hy_crossing::{are_partitions, cross, partitions_of};
 use hy_forks::{close_all, drain, find_history, fork_all};
 use hy_loads::Load;
@@ -42,19 +43,6 @@ fn all_held<'a, K: Loaded, R: Wait + Abort + AllocGlobal>(
     held
 }
 
-/// A payment in warehouse 1 by a customer of warehouse 2.
-fn payment() -> Command {
-    Command::Payment(Payment {
-        warehouse: 1,
-        district: 1,
-        customer_warehouse: 2,
-        customer_district: 1,
-        who: Who::Number(1),
-        amount: 100,
-        at: 1,
-    })
-}
-
 /// Pays across two warehouses, takes a snapshot of all and gives it back, and drains; each time with all locks.
 fn pay_and_look<K: Loaded, R: Wait + Abort + AllocGlobal>(
     rt: &R,
@@ -65,7 +53,7 @@ fn pay_and_look<K: Loaded, R: Wait + Abort + AllocGlobal>(
     let mut held = all_held(rt, locks);
     assert!(rt; are_partitions(&mut held));
     let mut journal = journal.lock(rt);
-    let command = payment();
+    let command = payment_by(2);
     assert!(rt; command.is_crossing());
     let done = cross(&mut held, &mut journal, Job::new(command, pass));
     let (reply, mut pass, _share) = done.open();

@@ -2,7 +2,7 @@
 
 ghost use Rattle.std.specs.Prelude.{◌≡◌, length};
 
-use crate::commands::{numbered_payment, order_of};
+use crate::commands::{numbered_payment, order_of, payment_by};
 use crate::halls::Hall;
 use hy_commands::{Commit, Reply};
 use hy_loads::Load;
@@ -18,6 +18,7 @@ use std::process::Abort;
 #[derive(Clone, Copy)]
 enum Case {
     AnswersTheSame,
+    PassedOn,
     WithoutMemory,
     BrokenTexts,
 }
@@ -44,6 +45,7 @@ fn run_in_world<K: Loaded, R: Abort + AllocGlobal>(
     let hall = Hall::<K>::new(rt, load, kit, 200);
     match case {
         Case::AnswersTheSame => answers_the_same(rt, hall),
+        Case::PassedOn => passed_on(rt, hall),
         Case::WithoutMemory => without_memory(rt, hall),
         Case::BrokenTexts => broken_texts(rt, hall),
     }
@@ -171,6 +173,35 @@ fn answers_the_same<K: Loaded, R: Abort + AllocGlobal>(rt: &R, mut hall: Hall<K>
 #[test]
 fn a_snapshot_answers_the_same(rt: HostRuntime) {
     run(&rt, Case::AnswersTheSame);
+}
+
+/// What a session reports of W_YTD in both warehouses.
+fn totals<R: Abort + AllocGlobal>(rt: &R, session: &Session<4096>) -> (i64, i64) {
+    let report = session.report(rt.alloc()).expect(rt, "a report");
+    match report.as_slice() {
+        [first, second] => (first.ytd, second.ytd),
+        _ => panic!(rt; "two warehouses"),
+    }
+}
+
+/// A session on the load is passed on behind a payment: the other one has the load when the first one is closed.
+fn passed_on<K: Loaded, R: Abort + AllocGlobal>(rt: &R, mut hall: Hall<K>) {
+    let first = hall.open_session(rt, rt.alloc());
+    assert!(rt; matches!(hall.run(rt, payment_by(1)), Reply::Payment { .. }));
+    let second = hall.fork_session(rt, rt.alloc(), &first);
+    hall.close_session(rt, first);
+    assert!(rt; matches!(hall.run(rt, payment_by(1)), Reply::Payment { .. }));
+    assert!(rt; totals(rt, &second.session) == (30_000, 30_000));
+    let third = hall.open_session(rt, rt.alloc());
+    assert!(rt; totals(rt, &third.session) == (30_200, 30_000));
+    hall.close_session(rt, third);
+    hall.close_session(rt, second);
+    assert!(rt; hall.part(rt, 1).shared() == 0 && hall.part(rt, 2).shared() == 0);
+}
+
+#[test]
+fn session_forks(rt: HostRuntime) {
+    run(&rt, Case::PassedOn);
 }
 
 /// The answer to a query, which is asked for again where memory is refused.

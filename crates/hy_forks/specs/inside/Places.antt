@@ -9,7 +9,7 @@ use Rattle.hy_undo.specs.Touched.{touched}
 use Rattle.hy_partition.specs.Jobs.{Log}
 use Rattle.hy_partition.specs.Partition.{PartitionState}
 use Rattle.hy_partition.specs.Snapshots.{SnapshotState}
-use Rattle.hy_partition.specs.Steps.{Closes, Forks, StaysUnforked, is_from}
+use Rattle.hy_partition.specs.Steps.{Closes, Forks, ForksFrom, StaysUnforked, is_from}
 
 -- a partition whose counts of frames were exact was forked
 pub record ForksExactly (n : ℕ) (kit : Origin) (log known : Log) (snapshot : SnapshotState)
@@ -21,6 +21,18 @@ pub record ForksExactly (n : ℕ) (kit : Origin) (log known : Log) (snapshot : S
 abbrev pub ForksExactlyHere : ℕ → Origin → Log → Log → List SnapshotState → ℕ → PartitionState → PartitionState → Type 0
 ForksExactlyHere n kit log known snapshots number old new =
     IsSomeAnd (slice_get snapshots (number - 1)) (λ snapshot. ForksExactly n kit log known snapshot old new)
+
+-- a partition whose counts of frames were exact has a snapshot more, of what another one sees
+pub record ForksFromExactly (kit : Origin) (from snapshot : SnapshotState) (old new : PartitionState) : Type 0 where
+  pub exact : CountsAreExact old.space
+  pub forks : ForksFrom kit from old new snapshot
+
+-- the partition of the warehouse with a number has, and both snapshots stand at its place
+abbrev pub ForksFromExactlyHere : Origin → List SnapshotState → List SnapshotState → ℕ → PartitionState → PartitionState
+    → Type 0
+ForksFromExactlyHere kit all snapshots number old new =
+    IsSomeAnd (slice_get snapshots (number - 1)) (λ snapshot. IsSomeAnd (slice_get all (number - 1)) (λ from.
+    ForksFromExactly kit from snapshot old new))
 
 -- a partition isn't forked, and stays: it lacks frames, or memory is refused
 pub record RefusesFork (why : Refusal) (old new : PartitionState) : Type 0 where

@@ -1,9 +1,9 @@
 -- Each call on one partition is an event of its world; what is done to each is one event of the whole.
 use Rattle.std.proofs.Common.{refl, ap, suc}
 use Rattle.hy_partition.specs.Partition.{PartitionState}
-use Rattle.hy_partition.specs.Schedules.{begins, closes, forks, steps, takes}
+use Rattle.hy_partition.specs.Schedules.{begins, closes, forks, forks_from, steps, takes}
 use Rattle.hy_schedules.specs.Schedules.{world_at}
-use Rattle.hy_schedules.proofs.CallLaws.{drained-step, is-fresh, leads-at, leads-close_all, leads-drain, leads-fork_all, leads-look, stays-at, stays-told, stays-unforked}
+use Rattle.hy_schedules.proofs.CallLaws.{drained-step, is-fresh, leads-at, leads-close_all, leads-drain, leads-fork_all, leads-fork_all_from, leads-look, stays-at, stays-told, stays-unforked}
 use Rattle.hy_schedules.proofs.CrossLaws.{leads-cross}
 use Rattle.hy_schedules.proofs.theorem.calls_of_all_are_events.Goals as goal
 
@@ -40,6 +40,13 @@ returns-clause-fork c = λ n place kit log known client parts news whole snapsho
     (λ before world. c.calls_are_events.ensures.fork n kit log known client changes.0 changes.1
     (world_at whole (suc place) before) snapshot world changes.4)
 
+pub returns-clause-fork_from : goal.returns-clause-fork_from
+returns-clause-fork_from c = λ n place kit log parts news whole from snapshot is within changes.
+    leads-at n place log log parts whole is within (forks_from from.child snapshot.child) changes.0 changes.1 news refl
+    changes.2 changes.3 changes.4.job.drained
+    (λ before world. c.calls_are_events.ensures.fork_from n kit log changes.0 changes.1
+    (world_at whole (suc place) before) from snapshot world changes.4)
+
 pub returns-clause-refused_fork : goal.returns-clause-refused_fork
 returns-clause-refused_fork c = λ n place log parts news whole is within changes.
     stays-at n place log log parts whole is within changes.0 changes.1 news changes.2 changes.3 changes.4.job
@@ -60,6 +67,12 @@ pub returns-clause-fork_all : goal.returns-clause-fork_all
 returns-clause-fork_all c = λ n kit log known client parts news whole snapshots is forked.
     leads-fork_all n log parts news whole is kit known client snapshots
     (λ p q world snapshot is forks. c.calls_are_events.ensures.fork n kit log known client p q world snapshot is forks)
+    forked
+
+pub returns-clause-fork_all_from : goal.returns-clause-fork_all_from
+returns-clause-fork_all_from c = λ n kit log parts news whole all snapshots is forked.
+    leads-fork_all_from n log parts news whole is kit all snapshots
+    (λ p q world from snapshot is forks. c.calls_are_events.ensures.fork_from n kit log p q world from snapshot is forks)
     forked
 
 pub returns-clause-refused_fork_all : goal.returns-clause-refused_fork_all

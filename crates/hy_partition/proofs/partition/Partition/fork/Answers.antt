@@ -1,4 +1,5 @@
 use Rattle.std.proofs.Common.{◌≡◌, ℕ, List, Option, Some, None, ap, refl, ◌∙◌, sym, subst, length, arith}
+use Rattle.std.specs.Arc.{arc_value}
 use Rattle.std.specs.Prelude.{slice_index_or}
 use Rattle.hy_passes.specs.Worlds.{KeptState}
 use Rattle.hy_commands.specs.declared.command.Commit.{Commit}
@@ -13,7 +14,7 @@ use Rattle.hy_partition.specs.inside.Soundness.{IsSound, IsTied}
 use Rattle.hy_partition.specs.Steps.{Forks, StaysUnforked}
 use Rattle.hy_partition.specs.inside.Views.{partition_of}
 use Rattle.hy_partition.proofs.SoundLaws.{least_within, snapshot_fresh, sound-told}
-use Rattle.hy_partition.proofs.ForkLaws.{forks, sound-as_before, sound-opened, sound-unforked, stays-as_before, stays_unforked, taken_behind}
+use Rattle.hy_partition.proofs.ForkLaws.{forks, sound-as_before, sound-opened, sound-unforked, stays-as_before, stays-same, stays_unforked, taken_behind}
 use Rattle.hy_partition.proofs.TieLaws.{free_number, tied-opened, tied-unforked}
 use Rattle.hy_partition.proofs.partition.Partition.fork.Goals as goal
 
@@ -21,26 +22,8 @@ pub returns-then-is_err-clause-err : goal.returns-then-is_err-clause-err
 returns-then-is_err-clause-err g c =
     let p : PartitionState = partition_of c.self.inside in
     let after : PartitionState = record p { snapshots = c.reserve.new.self.items } in
-    let stays : StaysUnforked p after = record {
-      job = record {
-        terms = refl;
-        kept = refl;
-        drained = refl;
-        book = refl;
-        running = refl;
-        part = refl;
-        undo = refl;
-        finished = refl;
-        owner = record { table = refl; bytes = refl };
-      };
-      seen = refl;
-      snapshots = λ child. ap (λ (all : List (Option ℕ)). slice_index_or all child None) c.reserve.ensures.items;
-      tables = λ child. refl;
-      bytes = λ child. refl;
-      counts = λ f. refl;
-      max_frames = refl;
-    } in
-    subst (λ (old : PartitionState). StaysUnforked old after) c.self.view_is stays
+    subst (λ (old : PartitionState). StaysUnforked old after) c.self.view_is
+    (stays-same p c.self.inside.space c.reserve.new.self.items refl c.reserve.ensures.items)
 
 pub invariant_of-self-in_default-fork : goal.invariant_of-self-in_default-fork
 invariant_of-self-in_default-fork g c = (
@@ -57,22 +40,22 @@ returns-in_default-fork-clause-err g c =
     (stays-as_before g.row.N _ _ p c.self.invariant.0 c.fork.new.space c.in_default-fork.ensures.err
     c.reserve.new.self.items c.reserve.ensures.items c.in_default-fork.ensures.limit)
 
-pub invariant_of-self-in_default-holds : goal.invariant_of-self-in_default-holds
-invariant_of-self-in_default-holds g c =
+pub invariant_of-self-in_default-of : goal.invariant_of-self-in_default-of
+invariant_of-self-in_default-of g c =
     let child = c.in-Ok-fork.ensures in (
-      sound-unforked g.row.N _ _ (partition_of c.self.inside) c.self.invariant.0 c.fork.new.space c.holds.new.self c.in-Ok-fork.child child.least child.bytes child.others child.owner child.undo_log
-          c.holds.ensures.unchanged c.holds.ensures.kept c.close.new.self c.close.ensures.closed c.close.ensures.others c.close.ensures.owner c.close.ensures.kept
+      sound-unforked g.row.N _ _ (partition_of c.self.inside) c.self.invariant.0 c.fork.new.space c.of.new.space c.in-Ok-fork.child child.least child.bytes child.others child.owner child.undo_log
+          c.of.ensures.unchanged c.of.ensures.own c.close.new.self c.close.ensures.closed c.close.ensures.others c.close.ensures.owner c.close.ensures.kept
           c.reserve.new.self.items c.reserve.ensures.items,
       tied-unforked g.K.Loaded.load c.self.inside.kept c.self.inside.desk (partition_of c.self.inside) c.self.invariant.1 c.close.new.self c.reserve.new.self.items c.reserve.ensures.items,
     )
 
-pub returns-in_default-holds-clause-err : goal.returns-in_default-holds-clause-err
-returns-in_default-holds-clause-err g c =
+pub returns-in_default-of-clause-err : goal.returns-in_default-of-clause-err
+returns-in_default-of-clause-err g c =
     let child = c.in-Ok-fork.ensures in
     let p : PartitionState = partition_of c.self.inside in
     let stays : StaysUnforked p (record p { space = c.close.new.self; snapshots = c.reserve.new.self.items }) =
-    stays_unforked g.row.N _ _ p c.self.invariant.0 c.fork.new.space c.holds.new.self c.in-Ok-fork.child child.least child.bytes child.others child.owner child.undo_log
-    c.holds.ensures.unchanged c.holds.ensures.kept c.close.new.self c.close.ensures.closed c.close.ensures.others c.close.ensures.owner c.close.ensures.kept
+    stays_unforked g.row.N _ _ p c.self.invariant.0 c.fork.new.space c.of.new.space c.in-Ok-fork.child child.least child.bytes child.others child.owner child.undo_log
+    c.of.ensures.unchanged c.of.ensures.own c.close.new.self c.close.ensures.closed c.close.ensures.others c.close.ensures.owner c.close.ensures.kept
     c.reserve.new.self.items c.reserve.ensures.items child.users child.limit c.close.ensures.users in
     subst (λ (old : PartitionState). StaysUnforked old (record p { space = c.close.new.self; snapshots = c.reserve.new.self.items })) c.self.view_is stays
 
@@ -97,11 +80,11 @@ new-requires g c =
     let still : projection_of list.warehouse list.seen ≡ p.kept =
     ap (λ warehouse. projection_of warehouse list.seen) c.tell.ensures.same.0 ∙ c.tell.ensures.kept in
     let count : length c.list.result.now ≡ length p.kept = ap length (c.list.ensures ∙ still) in
-    let taken = taken_behind g.row.N _ _ p c.self.invariant.0 c.fork.new.space c.holds.new.self c.in-Ok-fork.child child.least child.bytes child.others child.owner child.undo_log
-    c.holds.ensures.unchanged c.holds.ensures.kept c.sound.ensures
-    (snapshot_of c.in-Ok.load c.give-ticket.result (length c.list.result.now) c.noted.result.value.items _) load
+    let taken = taken_behind g.row.N _ _ p c.self.invariant.0 c.fork.new.space c.of.new.space c.in-Ok-fork.child child.least child.bytes child.others child.owner child.undo_log
+    c.of.ensures.unchanged c.of.ensures.own c.sound.ensures
+    (snapshot_of c.in-Ok.load c.give-ticket.result (length c.list.result.now) (arc_value c.in-Ok-of.shared)) load
     (ap (λ (t : TicketState). t.warehouse) c.give-ticket.ensures.ticket ∙ c.self.invariant.1.desk_of) count
-    (c.noted.ensures ∙ still) c.in-Ok-holds.ensures.holds in
+    (c.in-Ok-of.ensures.kept ∙ c.noted-kept.ensures) c.in-Ok-of.ensures.holds in
     (omega arith, (omega arith, taken))
 
 pub invariant_of-self-2 : goal.invariant_of-self-2
@@ -118,25 +101,25 @@ invariant_of-self-2 g c =
     → slice_index_or c.open_snapshot.new.snapshots.items other None ≡ commits_of p other =
     λ other apart. c.open_snapshot.ensures.others other apart ∙ ap (λ items. slice_index_or items other None) c.reserve.ensures.items in
     let sound : IsSound g.row.N inside.kept.room inside.executor
-    (record p { space = c.holds.new.self; snapshots = c.open_snapshot.new.snapshots.items }) =
-    sound-opened g.row.N _ _ p c.self.invariant.0 c.fork.new.space c.holds.new.self c.in-Ok-fork.child child.least child.bytes child.others child.owner child.undo_log
-    c.holds.ensures.unchanged c.holds.ensures.kept c.open_snapshot.new.snapshots.items opened others in (
+    (record p { space = c.of.new.space; snapshots = c.open_snapshot.new.snapshots.items }) =
+    sound-opened g.row.N _ _ p c.self.invariant.0 c.fork.new.space c.of.new.space c.in-Ok-fork.child child.least child.bytes child.others child.owner child.undo_log
+    c.of.ensures.unchanged c.of.ensures.own c.open_snapshot.new.snapshots.items opened others in (
       subst (λ (room : ℕ). IsSound g.row.N room inside.executor (record p {
         seen = list.seen;
         kept = projection_of list.warehouse list.seen;
-        space = c.holds.new.self;
+        space = c.of.new.space;
         snapshots = c.open_snapshot.new.snapshots.items;
       })) (sym c.tell.ensures.same.1)
-          (sound-told g.row.N _ _ (record p { space = c.holds.new.self; snapshots = c.open_snapshot.new.snapshots.items }) sound
+          (sound-told g.row.N _ _ (record p { space = c.of.new.space; snapshots = c.open_snapshot.new.snapshots.items }) sound
           list.seen (projection_of list.warehouse list.seen) still),
       subst (λ (desk : DeskState). IsTied g.K.Loaded.load list desk (record p {
         seen = list.seen;
         kept = projection_of list.warehouse list.seen;
-        space = c.holds.new.self;
+        space = c.of.new.space;
         snapshots = c.open_snapshot.new.snapshots.items;
       })) (sym c.give-ticket.ensures.desk)
           (tied-opened g.K.Loaded.load inside.kept inside.desk p c.self.invariant.1 list
-          (projection_of list.warehouse list.seen) c.holds.new.self c.open_snapshot.new.snapshots.items c.in-Ok-fork.child
+          (projection_of list.warehouse list.seen) c.of.new.space c.open_snapshot.new.snapshots.items c.in-Ok-fork.child
           (length p.kept) c.tell.ensures.same.0 still opened others),
     )
 
@@ -157,10 +140,10 @@ returns-clause-forks g c =
     let all : p.kept ≡ projection_of p.warehouse log =
     sym still ∙ ap (λ warehouse. projection_of warehouse list.seen) (c.tell.ensures.same.0 ∙ c.self.invariant.1.list_of)
     ∙ ap (projection_of p.warehouse) c.tell.ensures.seen.0 in
-    let after : PartitionState = record p { seen = log; space = c.holds.new.self; snapshots = c.open_snapshot.new.snapshots.items } in
+    let after : PartitionState = record p { seen = log; space = c.of.new.space; snapshots = c.open_snapshot.new.snapshots.items } in
     let done : Forks g.row.N g.K.World.passes log c.args.pass.now.seen p after c.new.result =
-    forks g.row.N _ _ p c.self.invariant.0 c.fork.new.space c.holds.new.self c.in-Ok-fork.child child.least child.bytes child.others child.owner child.undo_log
-    c.holds.ensures.unchanged c.holds.ensures.kept g.K.World.passes log c.args.pass.now.seen
+    forks g.row.N _ _ p c.self.invariant.0 c.fork.new.space c.of.new.space c.in-Ok-fork.child child.least child.bytes child.others child.owner child.undo_log
+    c.of.ensures.unchanged c.of.ensures.own g.K.World.passes log c.args.pass.now.seen
     c.open_snapshot.new.snapshots.items c.new.result
     (c.open_snapshot.ensures.opened ∙ ap Some count)
     (λ other apart. c.open_snapshot.ensures.others other apart ∙ ap (λ items. slice_index_or items other None) c.reserve.ensures.items)
@@ -171,19 +154,19 @@ returns-clause-forks g c =
     ∙ ap (λ warehouse. desk_of g.K.World.passes warehouse) desk)
     (ap (λ (s : SnapshotState). s.child) is ∙ ap (λ (t : TicketState). t.number) ticket)
     (ap (λ (s : SnapshotState). s.commits) is ∙ count)
-    (ap (λ (s : SnapshotState). s.kept) is ∙ c.noted.ensures ∙ still)
-    (c.in-Ok-holds.ensures.holds ∙ ap (λ (s : SnapshotState). Some s.bytes) (sym is))
+    (ap (λ (s : SnapshotState). s.kept) is ∙ c.in-Ok-of.ensures.kept ∙ c.noted-kept.ensures)
+    (c.in-Ok-of.ensures.holds ∙ ap (λ (s : SnapshotState). Some s.bytes) (sym is))
     c.tell.ensures.seen.1 (subst (λ (serial : Log). IsPrefix c.args.pass.now.seen serial) c.tell.ensures.log c.tell_client.ensures.begins) all in
     subst (λ (old : PartitionState). Forks g.row.N g.K.World.passes log c.args.pass.now.seen old
     (record p {
       seen = list.seen;
       kept = projection_of list.warehouse list.seen;
-      space = c.holds.new.self;
+      space = c.of.new.space;
       snapshots = c.open_snapshot.new.snapshots.items;
     }) c.new.result) c.self.view_is
     (subst (λ (kept : List Commit). Forks g.row.N g.K.World.passes log c.args.pass.now.seen p
-    (record p { seen = list.seen; kept = kept; space = c.holds.new.self; snapshots = c.open_snapshot.new.snapshots.items })
+    (record p { seen = list.seen; kept = kept; space = c.of.new.space; snapshots = c.open_snapshot.new.snapshots.items })
     c.new.result) (sym still)
     (subst (λ (seen : Log). Forks g.row.N g.K.World.passes log c.args.pass.now.seen p
-    (record p { seen = seen; space = c.holds.new.self; snapshots = c.open_snapshot.new.snapshots.items }) c.new.result)
+    (record p { seen = seen; space = c.of.new.space; snapshots = c.open_snapshot.new.snapshots.items }) c.new.result)
     (sym c.tell.ensures.seen.0) done))

@@ -3,7 +3,7 @@ use Rattle.std.specs.Prelude.{vec_len}
 use Rattle.hy_commands.specs.declared.command.Commit.{Commit}
 use Rattle.hy_passes.specs.Worlds.{new_client, new_partition}
 use Rattle.hy_partition.proofs.SeatLaws.{length-numbered, only_seat}
-use Rattle.hy_bench.proofs.payment_rounds.payments.Goals as goal
+use Rattle.hy_bench.proofs.payment_rounds.opened.Goals as goal
 
 -- one client
 pub take_last-pass-requires : goal.take_last-pass-requires

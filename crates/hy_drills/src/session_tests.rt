@@ -1,0 +1,145 @@
+//! A snapshot that is passed on from one thread to another.
+
+ghost use Rattle.std.specs.Prelude.{◌≡◌, length};
+ghost use Rattle.std.proofs.Props.{props};
+ghost use Rattle.hy_forks.specs.Forks.{AreOfKit};
+
+use crate::gates::{Held, watch};
+use crate::halls::{Hall, Room, TestEngine, hand_in, paid, payment, pop};
+use hy_commands::Commit;
+use hy_forks::SnapshotAll;
+use hy_loads::Load;
+use hy_partition::Loaded;
+use hy_passes::{Kit, Pass, make};
+use hy_session::Session;
+use hy_tables::generate;
+use std::marker::{Brand, PhantomData};
+use std::process::Abort;
+use std::sync::{Mutex, Wait};
+use std::sync::atomic::{AtomicBool, Ordering};
+use std::thread::{Threads, join};
+
+/// A session over all warehouses of this world.
+struct OpenSession<K: Loaded> {
+    session: Session<4096>,
+    of: PhantomData<K>,
+    ghost own: { AreOfKit K.passes session } by { Prim.hlevel props },
+}
+
+/// A session over a snapshot of this world.
+fn session_of<K: Loaded>(all: SnapshotAll<4096>) -> OpenSession<K>
+    requires { AreOfKit K.passes all }
+{
+    OpenSession {
+        session: Session::new(all),
+        of: PhantomData,
+    }
+}
+
+/// Takes one of the sessions: it has the load and meets the conditions. Then it is closed.
+fn look_and_close<K: Loaded, R: Wait + Abort + AllocGlobal>(
+    rt: &R,
+    engine: &TestEngine<K>,
+    sessions: &Mutex<Vec<OpenSession<K>>>,
+) {
+    let Some(OpenSession { session, of: _ }) = sessions.lock(rt).pop() else {
+        panic!(rt; "a session")
+    };
+    let broken = session.check_conditions(rt.alloc());
+    let report = session.report(rt.alloc());
+    let room = engine.room(rt.alloc()).expect(rt, "room");
+    let mut held = engine.hold(rt, room).expect(rt, "all partitions");
+    match session.close_all(&mut held) {
+        Ok(()) => {}
+        Err(_) => panic!(rt; "a session over others"),
+    }
+    assert!(rt; broken == Ok(None));
+    for line in report.expect(rt, "a report").as_slice() {
+        assert!(rt; line.ytd == 30_000);
+    }
+}
+
+/// A session on the load is passed on to a second thread while a payment runs, and is closed by its own.
+fn pass_on<K: Loaded + Send + Sync, R: Threads + Wait + Abort + AllocGlobal + Sync>(
+    rt: &R,
+    engine: &TestEngine<K>,
+    mut pass: Pass<Commit, K>,
+) {
+    let client = pass.client();
+    let first = engine
+        .fork_all(rt, rt.alloc(), &mut pass)
+        .expect(rt, "a snapshot");
+    hand_in(rt, engine, payment(1, 1, 100), pass);
+    let again = engine
+        .fork_all_from(rt, rt.alloc(), &first)
+        .expect(rt, "another one");
+    let mut opened = Vec::with_capacity(rt.alloc(), 2).expect(rt, "places");
+    opened.push_reserved(session_of(first));
+    opened.push_reserved(session_of(again));
+    let sessions = Mutex::new(opened);
+    join(
+        rt,
+        || look_and_close(rt, engine, &sessions),
+        || look_and_close(rt, engine, &sessions),
+    );
+    let left = sessions.into_inner();
+    assert!(rt; left.is_empty());
+    left.destroy_empty();
+    paid(rt, engine, client, -1100);
+    engine.close(rt);
+}
+
+/// A worker, and who passes a session on.
+fn run_pass_on<K: Loaded + Send + Sync, R: Threads + Wait + Abort + AllocGlobal + Sync>(
+    rt: &R,
+    engine: &TestEngine<K>,
+    pass: Pass<Commit, K>,
+    ended: &AtomicBool,
+) {
+    join(
+        rt,
+        || engine.work(rt, 1),
+        || pass_on(rt, engine, pass),
+    );
+    ended.store(true, Ordering::SeqCst);
+}
+
+fn passes_on<K: Loaded + Send + Sync, R: Threads + Wait + Abort + AllocGlobal + Sync>(
+    rt: &R,
+    load: &Load,
+    kit: Kit<Commit>,
+)
+    requires load { load.now ≡ K.load }
+    requires kit { kit ≡ K.passes }
+    requires partitions { kit.partitions ≡ length load.now.tables.warehouses }
+{
+    let room = Room {
+        clients: 1,
+        capacity: 1,
+    };
+    let Hall {
+        engine,
+        passes: _,
+        mut clients,
+    } = Hall::<K>::new(rt, load, kit, room, Held::never());
+    let pass = pop(rt, &mut clients);
+    let ended = AtomicBool::new(false);
+    join(
+        rt,
+        || watch(rt, &ended),
+        || run_pass_on(rt, &engine, pass, &ended),
+    );
+    assert!(rt; !engine.gate().too_long.load(Ordering::SeqCst));
+    let (parts, _journal) = engine.finish();
+    for part in parts.as_slice() {
+        assert!(rt; part.shared() == 0);
+    }
+}
+
+#[test]
+fn a_session_is_passed_on(rt: HostRuntime) {
+    let load = generate(rt.alloc(), 2, 3, 20).expect(&rt, "a load");
+    assert!(&rt; load.tables().warehouses.len() == 2);
+    let kit = make::<Commit>(rt.alloc(), 2, 1, 1).expect(&rt, "a kit");
+    passes_on::<Brand, HostRuntime>(&rt, &load, kit);
+}

@@ -1,0 +1,104 @@
+use Rattle.std.proofs.Common.{◌≡◌, ◌∙◌, ◌<◌, ◌++◌, ◌∷◌, [], List, Err, true, length, map, slice_index_or, ap, refl, subst, sym}
+use Rattle.std.proofs.lemmas.List.Elements.{All-push}
+use Rattle.hy_partition.specs.Snapshots.{SnapshotState}
+use Rattle.hy_crossing.specs.Lists.{Pairwise}
+use Rattle.hy_forks.specs.Forks.{ForksAllFrom, IsUnforkedUntold, are_from, shown}
+use Rattle.hy_forks.proofs.AgainLaws.{all-untold-same}
+use Rattle.hy_script.specs.Databases.{DatabaseState, OpenSnapshot}
+use Rattle.hy_script.specs.Steps.{OpensFrom}
+use Rattle.hy_script.specs.inside.Invariants.{IsOfAll}
+use Rattle.hy_script.proofs.DatabaseLaws.{served-pairs}
+use Rattle.hy_script.proofs.ListLaws.{item_at}
+use Rattle.hy_script.proofs.ResultLaws.{on_err}
+use Rattle.hy_script.proofs.SnapshotLaws.{are_from-own, forked_from-own, keeps-forked_from, keeps-untold, own-at, own-memory}
+use Rattle.hy_script.proofs.database.Database.fork_from.Goals as goal
+
+pub returns-in_err-reserve-clause-stays : goal.returns-in_err-reserve-clause-stays
+returns-in_err-reserve-clause-stays g c =
+    let parts = c.self.inside.parts.items in
+    on_err c.from_residual.result
+    (subst (λ (now : DatabaseState). Pairwise (λ number. IsUnforkedUntold) 1 now.parts parts) c.self.view_is
+    (all-untold-same parts))
+
+pub invariant_of-self-in-Err : goal.invariant_of-self-in-Err
+invariant_of-self-in-Err g c =
+    let olds = c.self.inside.parts.items in
+    let news = c.fork.new.parts.items in
+    record {
+      load = c.fork.ensures.parts;
+      whole = c.fork.ensures.whole;
+      served = served-pairs 1 olds news c.self.inside.terminals.items
+          (keeps-untold olds news c.in-Err.ensures.err) c.self.invariant.served;
+      taken = rw c.reserve.ensures.items (c.self.invariant.taken);
+      pass_is = c.self.invariant.pass_is;
+    }
+
+-- the snapshot that is forked is one of these partitions
+pub returns-in-Err-clause-refused : goal.returns-in-Err-clause-refused
+returns-in-Err-clause-refused g c =
+    let kit = g.K.World.passes in
+    let lists = g.K.Loaded.load in
+    let olds = c.self.inside.parts.items in
+    let held = c.self.inside.snapshots.items in
+    let within : c.args.place < length held =
+    subst (λ (now : DatabaseState). c.args.place < length now.snapshots) (sym c.self.view_is) c.requires in
+    let is = c.index.ensures ∙ ap (λ (all : List OpenSnapshot). slice_index_or all c.args.place c.index.result.now)
+    c.reserve.ensures.items in
+    let own = own-at kit (length lists.tables.warehouses) held c.args.place c.index.result.now within is
+    c.self.invariant.taken in
+    let from : are_from kit c.session.result.now olds ≡ true =
+    subst (λ (it : List SnapshotState). are_from kit it olds ≡ true) (sym c.session.ensures)
+    (are_from-own kit lists olds c.index.result.now c.self.invariant.load own) in
+    own-memory {T = List SnapshotState} (Err c.in-Err.refusal) (are_from kit c.session.result.now olds) from
+    c.in-Err.ensures.mine c.in-Err.ensures.refused
+
+pub invariant_of-self-in-Ok : goal.invariant_of-self-in-Ok
+invariant_of-self-in-Ok g c =
+    let kit = g.K.World.passes in
+    let lists = g.K.Loaded.load in
+    let olds = c.self.inside.parts.items in
+    let news = c.fork.new.parts.items in
+    let session = c.in-Ok.session in
+    let forks = c.in-Ok.ensures.forks in
+    let own = forked_from-own kit c.session.result.now olds news session forks lists c.args.name c.self.invariant.load
+    c.fork.ensures.parts in
+    record {
+      load = c.fork.ensures.parts;
+      whole = c.fork.ensures.whole;
+      served = served-pairs 1 olds news c.self.inside.terminals.items
+          (keeps-forked_from kit c.session.result.now olds news session forks) c.self.invariant.served;
+      taken = rw (c.push_reserved.ensures.items, c.new.ensures, c.reserve.ensures.items)
+          (All-push (IsOfAll kit (length lists.tables.warehouses)) c.self.inside.snapshots.items
+          (record { name = c.args.name; parts = session }) c.self.invariant.taken own);
+      pass_is = c.self.invariant.pass_is;
+    }
+
+pub returns-clause-opens : goal.returns-clause-opens
+returns-clause-opens g c =
+    let kit = g.K.World.passes in
+    let olds = c.self.inside.parts.items in
+    let news = c.fork.new.parts.items in
+    let held = c.self.inside.snapshots.items in
+    let session = c.in-Ok.session in
+    let opened : OpenSnapshot = record { name = c.args.name; parts = session } in
+    let within : c.args.place < length held =
+    subst (λ (now : DatabaseState). c.args.place < length now.snapshots) (sym c.self.view_is) c.requires in
+    let is = c.index.ensures ∙ ap (λ (all : List OpenSnapshot). slice_index_or all c.args.place c.index.result.now)
+    c.reserve.ensures.items in
+    let new : DatabaseState = record {
+      parts = news;
+      snapshots = c.push_reserved.new.self.items;
+      log = c.self.inside.journal.list.log;
+    } in
+    let more : c.push_reserved.new.self.items ≡ held ++ opened ∷ [] =
+    rw (c.new.ensures, c.reserve.ensures.items) at c.push_reserved.ensures.items in
+    subst (λ (now : DatabaseState). OpensFrom c.args.place c.args.name now new) c.self.view_is (record {
+      kit = kit;
+      from = c.index.result.now;
+      there = item_at held c.args.place c.index.result.now within is;
+      parts = session;
+      forks = subst (λ (it : List SnapshotState). ForksAllFrom kit it olds news session) c.session.ensures
+          c.in-Ok.ensures.forks;
+      shows = c.in-Ok.ensures.shown ∙ ap (map shown) c.session.ensures;
+      snapshots = more;
+    })
