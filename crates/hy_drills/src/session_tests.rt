@@ -15,8 +15,8 @@ use hy_session::Session;
 use hy_tables::generate;
 use std::marker::{Brand, PhantomData};
 use std::process::Abort;
-use std::sync::{Mutex, Wait};
 use std::sync::atomic::{AtomicBool, Ordering};
+use std::sync::{Mutex, Wait};
 use std::thread::{Threads, join};
 
 /// A session over all warehouses of this world.
@@ -96,11 +96,7 @@ fn run_pass_on<K: Loaded + Send + Sync, R: Threads + Wait + Abort + AllocGlobal 
     pass: Pass<Commit, K>,
     ended: &AtomicBool,
 ) {
-    join(
-        rt,
-        || engine.work(rt, 1),
-        || pass_on(rt, engine, pass),
-    );
+    join(rt, || engine.work(rt, 1), || pass_on(rt, engine, pass));
     ended.store(true, Ordering::SeqCst);
 }
 

@@ -126,10 +126,7 @@ fn fork_from<'a, const N: usize, K: Loaded, O: Output>(
     ensures unanswered { IfErr result (IsUnanswered database.old (events.ForkFrom name.entry from.now)
         (O.contents out.new ≡ O.contents out.old) (IsTrue (O.has_failed out.new))) }
 {
-    let (None, Some(place)) = (
-        database.place_of_name(&name),
-        database.place_of_name(from),
-    ) else {
+    let (None, Some(place)) = (database.place_of_name(&name), database.place_of_name(from)) else {
         return Err(Unanswered::BadEvent);
     };
     let bytes = name.as_bytes();

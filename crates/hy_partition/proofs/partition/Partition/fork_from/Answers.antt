@@ -83,7 +83,7 @@ invariant_of-self-2 g c =
           child.bytes child.others child.owner child.kept snapshots
           (c.open_snapshot.ensures.opened ∙ sym is_open) others,
       subst (λ (desk : DeskState). IsTied g.K.Loaded.load c.self.inside.kept desk
-      (record p { space = c.fork_child.new.self; snapshots = snapshots })) (sym c.give-own.ensures.desk)
+          (record p { space = c.fork_child.new.self; snapshots = snapshots })) (sym c.give-own.ensures.desk)
           (tied-opened g.K.Loaded.load c.self.inside.kept c.self.inside.desk p c.self.invariant.1 c.self.inside.kept
           p.kept c.fork_child.new.self snapshots c.in-Ok-fork_child.child c.in-Some.count refl refl
           c.open_snapshot.ensures.opened others),
