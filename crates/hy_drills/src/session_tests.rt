@@ -1,7 +1,6 @@
-//! A snapshot that is passed on from one thread to another.
+//! A snapshot that is forked beside what a worker does.
 
 ghost use Rattle.std.specs.Prelude.{◌≡◌, length};
-ghost use Rattle.std.proofs.Props.{props};
 ghost use Rattle.hy_forks.specs.Forks.{AreOfKit};
 
 use crate::gates::{Held, watch};
@@ -13,38 +12,21 @@ use hy_partition::Loaded;
 use hy_passes::{Kit, Pass, make};
 use hy_session::Session;
 use hy_tables::generate;
-use std::marker::{Brand, PhantomData};
+use std::marker::Brand;
 use std::process::Abort;
+use std::sync::Wait;
 use std::sync::atomic::{AtomicBool, Ordering};
-use std::sync::{Mutex, Wait};
 use std::thread::{Threads, join};
 
-/// A session over all warehouses of this world.
-struct OpenSession<K: Loaded> {
-    session: Session<4096>,
-    of: PhantomData<K>,
-    ghost own: { AreOfKit K.passes session } by { Prim.hlevel props },
-}
-
-/// A session over a snapshot of this world.
-fn session_of<K: Loaded>(all: SnapshotAll<4096>) -> OpenSession<K>
-    requires { AreOfKit K.passes all }
-{
-    OpenSession {
-        session: Session::new(all),
-        of: PhantomData,
-    }
-}
-
-/// Takes one of the sessions: it has the load and meets the conditions. Then it is closed.
+/// A session over a snapshot of this world has the load and meets the conditions. Then it is closed.
 fn look_and_close<K: Loaded, R: Wait + Abort + AllocGlobal>(
     rt: &R,
     engine: &TestEngine<K>,
-    sessions: &Mutex<Vec<OpenSession<K>>>,
-) {
-    let Some(OpenSession { session, of: _ }) = sessions.lock(rt).pop() else {
-        panic!(rt; "a session")
-    };
+    all: SnapshotAll<4096>,
+)
+    requires { AreOfKit K.passes all }
+{
+    let session = Session::new(all);
     let broken = session.check_conditions(rt.alloc());
     let report = session.report(rt.alloc());
     let room = engine.room(rt.alloc()).expect(rt, "room");
@@ -59,8 +41,8 @@ fn look_and_close<K: Loaded, R: Wait + Abort + AllocGlobal>(
     }
 }
 
-/// A session on the load is passed on to a second thread while a payment runs, and is closed by its own.
-fn pass_on<K: Loaded + Send + Sync, R: Threads + Wait + Abort + AllocGlobal + Sync>(
+/// A snapshot of the load is forked while a payment runs, and its fork lives on when it is closed.
+fn fork_and_look<K: Loaded + Send + Sync, R: Threads + Wait + Abort + AllocGlobal + Sync>(
     rt: &R,
     engine: &TestEngine<K>,
     mut pass: Pass<Commit, K>,
@@ -73,34 +55,28 @@ fn pass_on<K: Loaded + Send + Sync, R: Threads + Wait + Abort + AllocGlobal + Sy
     let again = engine
         .fork_all_from(rt, rt.alloc(), &first)
         .expect(rt, "another one");
-    let mut opened = Vec::with_capacity(rt.alloc(), 2).expect(rt, "places");
-    opened.push_reserved(session_of(first));
-    opened.push_reserved(session_of(again));
-    let sessions = Mutex::new(opened);
-    join(
-        rt,
-        || look_and_close(rt, engine, &sessions),
-        || look_and_close(rt, engine, &sessions),
-    );
-    let left = sessions.into_inner();
-    assert!(rt; left.is_empty());
-    left.destroy_empty();
+    look_and_close(rt, engine, first);
     paid(rt, engine, client, -1100);
+    look_and_close(rt, engine, again);
     engine.close(rt);
 }
 
-/// A worker, and who passes a session on.
-fn run_pass_on<K: Loaded + Send + Sync, R: Threads + Wait + Abort + AllocGlobal + Sync>(
+/// A worker, and who forks a snapshot beside it.
+fn run_beside<K: Loaded + Send + Sync, R: Threads + Wait + Abort + AllocGlobal + Sync>(
     rt: &R,
     engine: &TestEngine<K>,
     pass: Pass<Commit, K>,
     ended: &AtomicBool,
 ) {
-    join(rt, || engine.work(rt, 1), || pass_on(rt, engine, pass));
+    join(
+        rt,
+        || engine.work(rt, 1),
+        || fork_and_look(rt, engine, pass),
+    );
     ended.store(true, Ordering::SeqCst);
 }
 
-fn passes_on<K: Loaded + Send + Sync, R: Threads + Wait + Abort + AllocGlobal + Sync>(
+fn forks_beside<K: Loaded + Send + Sync, R: Threads + Wait + Abort + AllocGlobal + Sync>(
     rt: &R,
     load: &Load,
     kit: Kit<Commit>,
@@ -123,7 +99,7 @@ fn passes_on<K: Loaded + Send + Sync, R: Threads + Wait + Abort + AllocGlobal + 
     join(
         rt,
         || watch(rt, &ended),
-        || run_pass_on(rt, &engine, pass, &ended),
+        || run_beside(rt, &engine, pass, &ended),
     );
     assert!(rt; !engine.gate().too_long.load(Ordering::SeqCst));
     let (parts, _journal) = engine.finish();
@@ -133,9 +109,9 @@ fn passes_on<K: Loaded + Send + Sync, R: Threads + Wait + Abort + AllocGlobal + 
 }
 
 #[test]
-fn a_session_is_passed_on(rt: HostRuntime) {
+fn a_snapshot_is_forked_beside_a_payment(rt: HostRuntime) {
     let load = generate(rt.alloc(), 2, 3, 20).expect(&rt, "a load");
     assert!(&rt; load.tables().warehouses.len() == 2);
     let kit = make::<Commit>(rt.alloc(), 2, 1, 1).expect(&rt, "a kit");
-    passes_on::<Brand, HostRuntime>(&rt, &load, kit);
+    forks_beside::<Brand, HostRuntime>(&rt, &load, kit);
 }
