@@ -17,6 +17,7 @@ pub mod TableLaws
 pub mod MeaningLaws
 pub mod StageLaws
 pub mod JoinedLaws
+pub mod MatchLaws
 pub mod GroupMeaningLaws
 pub mod LeaderLaws
 pub mod AnswerLaws

@@ -4,6 +4,7 @@ pub mod Combinations
 pub mod Groups
 pub mod Items
 pub mod Joins
+pub mod Matches
 pub mod Names
 pub mod Numbers
 pub mod Orders

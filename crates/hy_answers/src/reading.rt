@@ -2,7 +2,7 @@
 
 ghost use Rattle.std.specs.Prelude.{◌≡◌, All, IfOk, IsSome, IsTrue, length, map};
 ghost use Rattle.std.specs.List.{AllByRecursion, list_all};
-ghost use Rattle.hy_columns.specs.Snapshots.{lists_of_all};
+ghost use Rattle.hy_columns.specs.Scans.{lists_in_scan};
 ghost use Rattle.hy_query.specs.Columns.{kind_of};
 ghost use Rattle.hy_query.specs.Rows.{rows_of};
 ghost use Rattle.hy_answers.specs.inside.Reading.{IsReadFrom, IsSource, names_of};
@@ -10,7 +10,7 @@ ghost use Rattle.hy_answers.specs.inside.Sources.{is_read};
 
 use crate::names::names_of;
 use crate::sources::{SourceColumn, Sources};
-use hy_columns::{SnapshotAll, column_of, count_of};
+use hy_columns::{Scan, column_of, count_of};
 use hy_query::{Column, Query};
 use hy_schema::Table;
 use std::alloc::{AllocError, Global};
@@ -18,15 +18,15 @@ use std::alloc::{AllocError, Global};
 /// How many rows each table has.
 fn read_counts<const N: usize>(
     alloc: Global,
-    all: &SnapshotAll<N>,
+    scan: &Scan<'_, N>,
     tables: &[Table],
 ) -> Result<Vec<usize>, AllocError>
     ensures { IfOk result (λ counts. counts.items
-        ≡ map (λ table. length (rows_of (lists_of_all N all.now) table)) tables.now) }
+        ≡ map (λ table. length (rows_of (lists_in_scan N scan.now) table)) tables.now) }
 {
     let mut counts = Vec::new(alloc);
     for table in tables {
-        counts.push(count_of(all, *table))?;
+        counts.push(count_of(scan, *table))?;
     }
     Ok(counts)
 }
@@ -34,16 +34,16 @@ fn read_counts<const N: usize>(
 /// The values of some columns, each read once.
 fn read_columns<'a, const N: usize>(
     alloc: Global,
-    all: &'a SnapshotAll<N>,
+    scan: &'a Scan<'_, N>,
     names: &[Column],
 ) -> Result<Vec<SourceColumn<'a>>, AllocError>
     requires { All (λ column. IsSome (kind_of column)) names.now }
     ensures { IfOk result (λ sources. (map (λ source. source.column) sources.items ≡ names.now)
-        × AllByRecursion (IsSource (lists_of_all N all.now)) sources.items) }
+        × AllByRecursion (IsSource (lists_in_scan N scan.now)) sources.items) }
 {
     let mut sources = Vec::new(alloc);
     for column in names {
-        let values = column_of(alloc, all, column)?;
+        let values = column_of(alloc, scan, column)?;
         sources.push(SourceColumn {
             column: *column,
             values,
@@ -56,14 +56,14 @@ fn read_columns<'a, const N: usize>(
 pub(crate) fn read_sources<'a, const N: usize>(
     alloc: Global,
     query: &Query<'_>,
-    all: &'a SnapshotAll<N>,
+    scan: &'a Scan<'_, N>,
 ) -> Result<Sources<'a>, AllocError>
-    ensures { IfOk result (λ sources. IsReadFrom (lists_of_all N all.now) query.now sources
+    ensures { IfOk result (λ sources. IsReadFrom (lists_in_scan N scan.now) query.now sources
         × IsTrue (list_all (is_read sources.columns.items) (names_of query.now))) }
 {
     query.sound();
     let names = names_of(alloc, query)?;
-    let counts = read_counts(alloc, all, query.tables())?;
-    let columns = read_columns(alloc, all, &names)?;
+    let counts = read_counts(alloc, scan, query.tables())?;
+    let columns = read_columns(alloc, scan, &names)?;
     Ok(Sources { counts, columns })
 }

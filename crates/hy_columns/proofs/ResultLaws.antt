@@ -3,24 +3,23 @@ use Rattle.std.proofs.Common.{◌≡◌, ℕ, pos, List, Result, Ok, Err, IfOk, 
 use Rattle.hy_rows.specs.Columns.{number_at}
 use Rattle.hy_rows.specs.declared.value.Value.{Value}
 use Rattle.hy_rows.specs.declared.value.Value.TheVariants.{Whole}
-use Rattle.hy_forks.specs.Snapshots.{SnapshotState}
 use Rattle.hy_columns.specs.declared.fields.Segment.{Segment}
 use Rattle.hy_columns.specs.declared.values.ColumnValues.{ColumnValues}
 use Rattle.hy_columns.specs.Columns.{values_of}
-use Rattle.hy_columns.specs.inside.Snapshots.{read_all}
+use Rattle.hy_columns.specs.inside.Scans.{read_all}
 
 pub values-same : {E : Type 0} (result : Result ColumnValues E) {read told : List Value} → read ≡ told
     → IfOk result (λ found. values_of found ≡ read) → IfOk result (λ found. values_of found ≡ told)
 values-same (Ok found) same is = is ∙ same
 values-same (Err error) same is = is
 
--- the numbers of some width in the rows of all snapshots
-abbrev pub AreNumbers : {E : Type 0} → ℕ → Segment → ℕ → List SnapshotState → Result (Vec ℕ Global) E → ℕ → Type 0
-AreNumbers n segment offset snapshots result width = IfOk result (λ numbers.
+-- the numbers of some width in the rows of all warehouses
+abbrev pub AreNumbers : {E : Type 0} → ℕ → Segment → ℕ → List (List (List (List ℕ))) → Result (Vec ℕ Global) E → ℕ → Type 0
+AreNumbers n segment offset pages result width = IfOk result (λ numbers.
     map (λ number. Whole (pos number)) numbers.items
-    ≡ read_all n segment (λ bytes. Whole (pos (number_at bytes offset width))) snapshots)
+    ≡ read_all n segment (λ bytes. Whole (pos (number_at bytes offset width))) pages)
 
-pub numbers-same : {E : Type 0} (n : ℕ) (segment : Segment) (offset : ℕ) (snapshots : List SnapshotState)
+pub numbers-same : {E : Type 0} (n : ℕ) (segment : Segment) (offset : ℕ) (pages : List (List (List (List ℕ))))
     → (result : Result (Vec ℕ Global) E) {width known : ℕ} → width ≡ known
-    → AreNumbers n segment offset snapshots result known → AreNumbers n segment offset snapshots result width
-numbers-same n segment offset snapshots result same are = subst (AreNumbers n segment offset snapshots result) (sym same) are
+    → AreNumbers n segment offset pages result known → AreNumbers n segment offset pages result width
+numbers-same n segment offset pages result same are = subst (AreNumbers n segment offset pages result) (sym same) are

@@ -1,3 +1,3 @@
 pub mod Columns
-pub mod Snapshots
+pub mod Scans
 pub mod inside

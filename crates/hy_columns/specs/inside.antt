@@ -1,7 +1,7 @@
 -- What the private functions and the proofs of this crate speak of, and no public contract.
 pub mod Fields
 pub mod Pages
-pub mod Snapshots
+pub mod Scans
 pub mod Spanned
 pub mod Texts
 pub mod WorkedSpanned

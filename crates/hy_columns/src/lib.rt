@@ -1,4 +1,4 @@
-//! The columns of tables, read from the pages of snapshots. What whoever reads them names of the crate below is passed on.
+//! The columns of tables, read from the pages of all warehouses.
 #![tactic(auto)]
 
 mod column;
@@ -9,12 +9,15 @@ mod items;
 mod joined;
 mod pages;
 mod reading;
+mod scan;
 mod spanned;
 mod texts;
+#[cfg(test)]
+mod thread_tests;
 mod values;
 
 pub use column::column_of;
 pub use count::count_of;
-pub use hy_forks::SnapshotAll;
+pub use scan::{Scan, WarehousePages};
 pub use texts::CopiedTexts;
 pub use values::ColumnValues;

@@ -6,7 +6,10 @@ pub mod Language
 pub mod Rows
 pub mod Sorting
 pub mod Meaning
+pub mod Counting
 pub mod inside
 pub mod WorkedTexts
 pub mod WorkedAnswers
 pub mod WorkedTables
+pub mod WorkedMeaning
+pub mod WorkedCounts

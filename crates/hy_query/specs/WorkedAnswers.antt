@@ -21,15 +21,15 @@ answer_in lists (Ok query) = answer_of query lists
 answer_in lists (Err place) = []
 
 -- two warehouses with a district and two stock rows each, and two items
-abbrev district : ℕ → List ℕ → ℕ → District
+abbrev pub district : ℕ → List ℕ → ℕ → District
 district warehouse name tax =
     record { id = 1; warehouse = warehouse; name = name; tax = tax; ytd = pos 5; next_order = 1 }
 
-abbrev stock : ℕ → ℕ → ℕ → Stock
+abbrev pub stock : ℕ → ℕ → ℕ → Stock
 stock warehouse item quantity =
     record { item = item; warehouse = warehouse; quantity = quantity; ytd = 0; order_count = 0; remote_count = 0 }
 
-abbrev item : ℕ → List ℕ → ℕ → Item
+abbrev pub item : ℕ → List ℕ → ℕ → Item
 item number name price = record { id = number; image = 7; name = name; price = price }
 
 abbrev shop : Lists
@@ -46,6 +46,9 @@ asked text = answer_in shop (query_of text)
 
 abbrev pub number : ℕ → Row
 number value = Whole (pos value) ∷ []
+
+abbrev pub numbers : List ℕ → Row
+numbers values = map (λ value. Whole (pos value)) values
 
 -- ---- combinations and conditions
 

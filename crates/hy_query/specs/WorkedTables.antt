@@ -1,6 +1,6 @@
 -- A row of each table as a query's answer, which the checker computes: the query asks for the first columns of the table, by
 -- the names that the catalogue has, and the answer are the values in the row's words and numbers.
-use Rattle.std.specs.Prelude.{◌≡◌, ℕ, ◌++◌, List, [], ◌∷◌, map, take, codes, pos, negsuc, refl}
+use Rattle.std.specs.Prelude.{◌≡◌, ℕ, ◌++◌, List, [], ◌∷◌, map, take, codes, negsuc, refl}
 use Rattle.hy_rows.specs.Catalogue.{definition_of, names_of}
 use Rattle.hy_rows.specs.Tables.{Lists}
 use Rattle.hy_rows.specs.WorkedRows.{fresh_customer, fresh_district, fresh_warehouse, some_rows}
@@ -10,7 +10,7 @@ use Rattle.hy_rows.specs.declared.value.Value.TheVariants.{Text, Whole}
 use Rattle.hy_query.specs.Columns.{lowered}
 use Rattle.hy_query.specs.Language.{query_of}
 use Rattle.hy_query.specs.Rows.{Row}
-use Rattle.hy_query.specs.WorkedAnswers.{answer_in, number}
+use Rattle.hy_query.specs.WorkedAnswers.{answer_in, number, numbers}
 
 -- one row of each table
 abbrev one_of_each : Lists
@@ -34,9 +34,6 @@ abbrev first_columns : ℕ → Table → List Row
 first_columns count table =
     answer_in one_of_each (query_of (codes "from " ++ (definition_of table).word ++ codes " select "
     ++ joined (map lowered (take count (names_of table)))))
-
-abbrev numbers : List ℕ → Row
-numbers values = map (λ value. Whole (pos value)) values
 
 abbrev of_warehouse : first_columns 4 tables.Warehouse
     ≡ (number 1 ++ Text (codes "W1") ∷ number 500 ++ number 30_000) ∷ []

@@ -5,7 +5,7 @@ use Rattle.hy_rows.specs.Tables.{Tables, all_of}
 use Rattle.hy_rows.specs.declared.item.Item.{Item}
 use Rattle.hy_forks.specs.Snapshots.{SnapshotState}
 use Rattle.hy_forks.specs.Forks.{Shown, shown}
-use Rattle.hy_answers.specs.Snapshots.{items_of, lists_of_all}
+use Rattle.hy_session.specs.Snapshots.{items_of, lists_of_all}
 
 first : {Row : Type 0} {one other : Row} {ones others : List Row} → one ∷ ones ≡ other ∷ others → one ≡ other
 first same = cc

@@ -1,3 +1,4 @@
 pub mod JoinedLaws
+pub mod ScanLaws
 pub mod ShownLaws
 pub mod AgainLaws

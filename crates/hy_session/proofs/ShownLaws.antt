@@ -7,7 +7,7 @@ use Rattle.hy_rows.specs.declared.item.Item.{Item}
 use Rattle.hy_commands.specs.Parts.{Database, rows_of}
 use Rattle.hy_forks.specs.Snapshots.{SnapshotState}
 use Rattle.hy_forks.specs.Forks.{SpellsDatabase}
-use Rattle.hy_answers.specs.Snapshots.{items_of, lists_of_all}
+use Rattle.hy_session.specs.Snapshots.{items_of, lists_of_all}
 use Rattle.hy_session.specs.Databases.{lists_of}
 
 abbrev rows_by : ℕ → SnapshotState → Tables

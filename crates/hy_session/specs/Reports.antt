@@ -5,7 +5,7 @@ use Rattle.hy_rows.specs.declared.new_order.NewOrder.{NewOrder}
 use Rattle.hy_rows.specs.declared.warehouse.Warehouse.{Warehouse}
 use Rattle.hy_schema.specs.Conditions.{first_broken}
 use Rattle.hy_forks.specs.Snapshots.{SnapshotState}
-use Rattle.hy_answers.specs.Snapshots.{lists_of_all}
+use Rattle.hy_session.specs.Snapshots.{lists_of_all}
 use Rattle.hy_session.specs.declared.session.WarehouseReport.{WarehouseReport}
 
 -- a warehouse's number, its W_YTD, and how many rows of NEW-ORDER are its own

@@ -2,6 +2,8 @@
 #![tactic(auto)]
 
 mod rows;
+mod scans;
 mod session;
 
+pub use scans::run;
 pub use session::{Session, WarehouseReport};

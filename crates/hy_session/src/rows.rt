@@ -1,7 +1,7 @@
 //! The rows of all warehouses, from their snapshots.
 
 ghost use Rattle.std.specs.Prelude.{◌≡◌, IfOk};
-ghost use Rattle.hy_answers.specs.Snapshots.{lists_of_all};
+ghost use Rattle.hy_session.specs.Snapshots.{lists_of_all};
 ghost use Rattle.hy_session.specs.inside.Joined.{joined};
 
 use hy_forks::SnapshotAll;

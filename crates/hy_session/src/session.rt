@@ -6,7 +6,7 @@ ghost use Rattle.hy_commands.specs.Parts.{Database};
 ghost use Rattle.hy_forks.specs.Crossings.{ArePartitions, HaveNoPart};
 ghost use Rattle.hy_forks.specs.Lists.{Pairwise};
 ghost use Rattle.hy_forks.specs.Forks.{AreOfKit, ClosesHere, ForksAllFrom, IsUnforkedUntold, SpellsDatabase, are_from, shown};
-ghost use Rattle.hy_answers.specs.Snapshots.{lists_of_all};
+ghost use Rattle.hy_session.specs.Snapshots.{lists_of_all};
 ghost use Rattle.hy_answers.specs.Texts.{answer_text};
 ghost use Rattle.hy_query.specs.Language.{query_of};
 ghost use Rattle.hy_query.specs.Meaning.{answer_of};
@@ -14,7 +14,8 @@ ghost use Rattle.hy_session.specs.Databases.{lists_of};
 ghost use Rattle.hy_session.specs.Reports.{broken_condition, report_line, report_of};
 
 use crate::rows::{rows_of_all, tables_of_all};
-use hy_answers::{run, text_of};
+use crate::scans::run;
+use hy_answers::text_of;
 use hy_conditions::first_broken;
 use hy_forks::{Loaded, Partition, Parts, SnapshotAll, close_all, fork_all_from};
 use hy_query::{Query, parse_query};

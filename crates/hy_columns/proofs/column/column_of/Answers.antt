@@ -23,5 +23,5 @@ pub returns-in-Some : goal.returns-in-Some
 returns-in-Some g c =
     let column : Column = c.args.column.now in
     values-same c.page_values.result
-    (sym (column-all g.row.N c.args.all.now column.table c.in-Some.segment (sym c.in-Some.ensures) column.place c.field_at-field.result c.field_at-field.ensures))
+    (sym (column-all g.row.N c.args.scan.now column.table c.in-Some.segment (sym c.in-Some.ensures) column.place c.field_at-field.result c.field_at-field.ensures))
     c.page_values.ensures

@@ -5,9 +5,9 @@ use Rattle.hy_columns.proofs.reading.pages_of.Goals as goal
 pub returns-clause-slots : goal.returns-clause-slots
 returns-clause-slots g c =
     subst (HasSlots g.row.N c.args.segment.row_bytes) (sym c.segment.ensures.pages)
-    (c.segment.ensures.whole.tables.slots c.args.segment.number c.args.segment.row_bytes c.requires)
+    (c.segment.ensures.tables.tables.slots c.args.segment.number c.args.segment.row_bytes c.requires.table)
 
 -- there are no more pages than frames
 pub returns-clause-few : goal.returns-clause-few
 returns-clause-few g c =
-    omega (arith, ap length c.segment.ensures.pages, c.segment.ensures.whole.few c.args.segment.number)
+    omega (arith, ap length c.segment.ensures.pages, c.segment.ensures.tables.few c.args.segment.number)
