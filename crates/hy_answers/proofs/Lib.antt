@@ -16,7 +16,9 @@ pub mod ItemLaws
 pub mod TableLaws
 pub mod MeaningLaws
 pub mod StageLaws
+pub mod TriedLaws
 pub mod JoinedLaws
+pub mod CountLaws
 pub mod MatchLaws
 pub mod GroupMeaningLaws
 pub mod LeaderLaws

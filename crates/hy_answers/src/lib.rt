@@ -19,6 +19,6 @@ mod text;
 mod values;
 mod writing;
 
-pub use answer::{Answer, run};
+pub use answer::{Answer, run, run_counted};
 pub use hy_columns::{Scan, WarehousePages};
 pub use text::text_of;

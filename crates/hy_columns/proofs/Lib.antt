@@ -1,6 +1,8 @@
 pub mod CopiedLaws
+pub mod CutLaws
 pub mod FieldLaws
 pub mod ItemLaws
+pub mod KnownLaws
 pub mod PageRows
 pub mod ResultLaws
 pub mod RowLaws

@@ -1,19 +1,20 @@
 -- The rows of slots that are spanned, and what is read of their bytes.
-use Rattle.std.proofs.Common.{◌≡◌, ℕ, zero, suc, ◌+◌, ◌-◌, ◌*◌, ◌/◌, ◌%◌, ◌^◌, ◌<◌, ◌≤◌, Bool, true, cond, List, [], ◌∷◌, ◌++◌, append_assoc, length, take, drop, refl, sym, ap, ap₂, ◌∙◌, arith}
+use Rattle.std.proofs.Common.{◌≡◌, ℕ, suc, ◌+◌, ◌-◌, ◌*◌, ◌/◌, ◌%◌, ◌^◌, ◌<◌, ◌≤◌, Bool, true, false, cond, List, [], ◌∷◌, ◌++◌, append_assoc, length, length-append, take, drop, refl, sym, ap, ap₂, ◌∙◌, arith}
 use Rattle.std.proofs.Math.Nat.{mod-lt, mul-le-mul_left}
 use Rattle.std.proofs.lemmas.Nat.{div-add-mod', div_below, mod-mul-add}
 use Rattle.std.proofs.lemmas.List.Concat.{flat_map-append}
+use Rattle.std.specs.Int.{from_bool}
 use Rattle.std.specs.Option.{option_map, option_to_list, unwrap_or}
 use Rattle.std.specs.Prelude.{Option, Some, None}
 use Rattle.hy_page.specs.Bytes.{bytes_at}
-use Rattle.hy_rows.specs.Spelling.{HasSlots, first_items, is_live, least_page, list_at, live_rows, row_of_slot, slot_at, slot_bytes, slot_start, slot_width, slots_end, used_slots}
+use Rattle.hy_rows.specs.Spelling.{HasSlots, first_items, is_live, least_page, list_at, live_rows, row_of_slot, slot_at, slot_bytes, slot_start, slot_width, used_slots}
 use Rattle.hy_relation.proofs.AddressLaws.{offset-behind}
 use Rattle.hy_relation.proofs.PageLaws.{length-slot_bytes, part-on_page}
 use Rattle.hy_relation.proofs.PartReads.{mark-live, part-some}
 use Rattle.hy_relation.proofs.SlotLaws.{slots-few, start-spanned}
 use Rattle.hy_relation.proofs.SpaceLaws.{used-within}
 use Rattle.hy_columns.proofs.PageRows.{Sized}
-use Rattle.hy_columns.specs.inside.Pages.{rows_up_to}
+use Rattle.hy_columns.specs.inside.Pages.{rows_from, whole_row}
 use Rattle.hy_columns.specs.inside.Spanned.{AreSpanned}
 
 -- ---- bytes that one page has
@@ -77,18 +78,38 @@ live-one None = refl
 live-one (Some row) = refl
 
 -- what was read of the slots so far, and then what is read of the next one
-pub rows-next : {Row : Type 0} (n width : ℕ) (row_of : List ℕ → Row) (pages : List (List ℕ)) (before now new : List Row) (k : ℕ)
-    → now ≡ before ++ rows_up_to n width row_of pages k → new ≡ now ++ option_to_list (row_of_slot row_of (slot_at n width pages k))
-    → new ≡ before ++ rows_up_to n width row_of pages (k + 1)
-rows-next {Row} n width row_of pages before now new k is_now is_new =
-    let slots : List (Option Row) = first_items (λ k. row_of_slot row_of (slot_at n width pages k)) k in
-    let slot : Option Row = row_of_slot row_of (slot_at n width pages k) in
+pub rows-next : {Row : Type 0} (n width : ℕ) (row_of : List ℕ → Row) (pages : List (List ℕ)) (before now new : List Row) (first k : ℕ)
+    → now ≡ before ++ rows_from n width row_of pages first k
+    → new ≡ now ++ option_to_list (row_of_slot row_of (slot_at n width pages (first + k)))
+    → new ≡ before ++ rows_from n width row_of pages first (k + 1)
+rows-next {Row} n width row_of pages before now new first k is_now is_new =
+    let slots : List (Option Row) = first_items (λ k. row_of_slot row_of (slot_at n width pages (first + k))) k in
+    let slot : Option Row = row_of_slot row_of (slot_at n width pages (first + k)) in
     let next : suc k ≡ k + 1 = omega arith in
     is_new ∙ ap (λ rows. rows ++ option_to_list slot) is_now
     ∙ append_assoc before (live_rows slots) (option_to_list slot)
     ∙ ap (λ last. before ++ (live_rows slots ++ last)) (live-one slot)
     ∙ ap (λ rows. before ++ rows) (sym (flat_map-append option_to_list slots (slot ∷ [])))
-    ∙ ap (λ count. before ++ rows_up_to n width row_of pages count) next
+    ∙ ap (λ count. before ++ rows_from n width row_of pages first count) next
+
+-- and so is their number
+pub counted-next : (n width : ℕ) (pages : List (List ℕ)) (first k now more : ℕ) (live : Bool)
+    → live ≡ is_live (slot_at n width pages (first + k)) → more ≡ from_bool live
+    → now ≡ length (rows_from n width whole_row pages first k)
+    → now + more ≡ length (rows_from n width whole_row pages first (k + 1))
+counted-next n width pages first k now more live is_live_there is_more is_now =
+    let slot : List ℕ = slot_at n width pages (first + k) in
+    let row : List (List ℕ) = option_to_list (row_of_slot whole_row slot) in
+    let so_far : List (List ℕ) = rows_from n width whole_row pages first k in
+    let all : so_far ++ row ≡ rows_from n width whole_row pages first (k + 1) =
+    rows-next n width whole_row pages [] so_far (so_far ++ row) first k refl refl in
+    let one : length row ≡ from_bool (is_live slot) = by_mark (is_live slot) (drop 1 slot) in
+    let same : more ≡ length row = is_more ∙ ap from_bool is_live_there ∙ sym one in
+    omega (arith, length-append so_far row, ap length all, same, is_now)
+  where
+    by_mark : (live : Bool) (row : List ℕ) → length (option_to_list (cond live (Some row) None)) ≡ from_bool live
+    by_mark true row = refl
+    by_mark false row = refl
 
 -- there are few bytes, and few slots
 module _ (n : ℕ) (pages : List (List ℕ)) (sized : Sized n pages) (few : length pages < 2 ^ 32) (small : n ≤ 65536) where

@@ -1,3 +1,4 @@
+pub mod Blocks
 pub mod Columns
 pub mod Scans
 pub mod inside

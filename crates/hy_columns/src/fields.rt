@@ -47,6 +47,16 @@ impl Segment {
     {
         self.row_bytes >= LEAST_PAGE
     }
+
+    /// How many of them lie on a page of `N` bytes, and one where they are spanned or longer than it.
+    pub(crate) fn slots_per_page<const N: usize>(self) -> usize
+        ensures { 0 < result }
+    {
+        if self.is_spanned() {
+            return 1;
+        }
+        (N / (1 + self.row_bytes)).max(1)
+    }
 }
 
 /// The segment of a table; none of ITEM, which no pages hold.

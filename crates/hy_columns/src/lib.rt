@@ -1,6 +1,7 @@
 //! The columns of tables, read from the pages of all warehouses.
 #![tactic(auto)]
 
+mod block;
 mod column;
 mod count;
 mod decode;
@@ -16,8 +17,9 @@ mod texts;
 mod thread_tests;
 mod values;
 
-pub use column::column_of;
-pub use count::count_of;
+pub use block::{Block, blocks_of};
+pub use column::{column_of, read_block};
+pub use count::{count_block, count_of};
 pub use scan::{Scan, WarehousePages};
 pub use texts::CopiedTexts;
 pub use values::ColumnValues;

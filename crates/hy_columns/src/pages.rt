@@ -1,8 +1,8 @@
 //! The values of a column on the pages of a segment.
 
-ghost use Rattle.std.specs.Prelude.{◌≡◌, ◌+◌, ◌-◌, ◌*◌, ◌<◌, ◌≤◌, ◌++◌, false, All, OnOk, length, map, option_to_list, vec_capacity, vec_len};
-ghost use Rattle.hy_rows.specs.Spelling.{HasSlots, is_live, is_spanned, list_at, row_of_slot, rows_of, slot_width, used_slots};
-ghost use Rattle.hy_columns.specs.inside.Pages.{rows_on, whole_row};
+ghost use Rattle.std.specs.Prelude.{◌≡◌, ◌+◌, ◌-◌, ◌*◌, ◌^◌, ◌<◌, ◌≤◌, ◌++◌, false, All, OnOk, length, map, option_to_list, vec_capacity, vec_len};
+ghost use Rattle.hy_rows.specs.Spelling.{HasSlots, is_live, is_spanned, row_of_slot, slot_width, used_slots};
+ghost use Rattle.hy_columns.specs.inside.Pages.{AreUnspanned, left_on, rows_on, rows_part, slots_behind, whole_row};
 
 use crate::decode::Decode;
 use hy_frames::Hold;
@@ -75,39 +75,66 @@ pub(crate) fn used_on<const N: usize>(pages: &[Hold<N>]) -> usize
     pages[0].page().field(0, 8) as usize
 }
 
-/// The bytes of a page with slots, by its place among these pages: the first page has none.
-fn slots_on<const N: usize>(pages: &[Hold<N>], place: usize) -> &[u8]
-    requires there { 1 + place < length pages.now }
+/// The bytes of the page on which a used slot lies, from this slot on.
+fn slots_from<const N: usize>(pages: &[Hold<N>], row_bytes: usize, slot: usize) -> &[u8]
+    requires pages { AreUnspanned N row_bytes pages.now }
+    requires used { slot < used_slots pages.now }
+    requires size { 256 ≤ N }
     requires small { N ≤ 65536 }
-    ensures bytes { result.now ≡ list_at pages.now (1 + place) }
-    ensures size { length result.now ≡ N }
+    ensures bytes { result.now ≡ slots_behind N row_bytes pages.now slot }
+    ensures size { left_on N row_bytes slot * slot_width row_bytes ≤ length result.now }
+    ensures some { 0 < left_on N row_bytes slot }
 {
-    pages[1 + place].page().bytes()
+    let width = 1 + row_bytes;
+    let per_page = N / width;
+    &pages[1 + slot / per_page].page().bytes()[slot % per_page * width..]
 }
 
-/// Reads the values of a column in all rows of a segment behind those that were read before. Only memory can lack.
-pub(crate) fn read_pages<'a, D: Decode<'a>, const N: usize>(
+/// How many slots of a page there are from a slot on.
+fn left_on<const N: usize>(row_bytes: usize, slot: usize) -> usize
+    requires unspanned { is_spanned row_bytes ≡ false }
+    requires size { 256 ≤ N }
+    ensures left { result ≡ left_on N row_bytes slot }
+    ensures some { 0 < result }
+{
+    let per_page = N / (1 + row_bytes);
+    per_page - slot % per_page
+}
+
+/// Reads the values of a column in the rows of so many slots of a segment, from one on, behind those that were read before.
+/// Only memory can lack.
+pub(crate) fn read_slots<'a, D: Decode<'a>, const N: usize>(
     column: &D,
     pages: &'a [Hold<N>],
     row_bytes: usize,
+    first: usize,
+    count: usize,
     values: &mut Vec<D::Output>,
 ) -> Result<(), AllocError>
     requires slots { HasSlots N row_bytes pages.now }
     requires unspanned { is_spanned row_bytes ≡ false }
+    requires sized { All (λ page. length page ≡ N) pages.now }
+    requires within { first + count ≤ used_slots pages.now }
+    requires few { length pages.now < 2 ^ 32 }
     requires size { 256 ≤ N }
     requires small { N ≤ 65536 }
     requires fits { D.fits column.now row_bytes }
     ensures { OnOk result (map D.value_of values.new.items
-        ≡ map D.value_of values.old.items ++ rows_of N row_bytes (D.value_in column.now) pages.now) }
+        ≡ map D.value_of values.old.items ++ rows_part N row_bytes (D.value_in column.now) pages.now first count) }
 {
-    know_sizes(pages);
-    let mut left = used_on(pages);
-    let per_page = N / (1 + row_bytes);
-    values.reserve(left)?;
-    for place in 0..pages.len() - 1 {
-        let count = left.min(per_page);
-        read_page(column, slots_on(pages, place), row_bytes, count, values);
-        left -= count;
+    values.reserve(count)?;
+    let mut done = 0;
+    while done < count {
+        let slot = first + done;
+        let more = (count - done).min(left_on::<N>(row_bytes, slot));
+        read_page(
+            column,
+            slots_from(pages, row_bytes, slot),
+            row_bytes,
+            more,
+            values,
+        );
+        done += more;
     }
     Ok(())
 }
@@ -129,23 +156,30 @@ fn count_page(page: &[u8], row_bytes: usize, count: usize) -> usize
     rows
 }
 
-/// How many rows a segment has.
-pub(crate) fn count_pages<const N: usize>(pages: &[Hold<N>], row_bytes: usize) -> usize
+/// How many of so many slots of a segment, from one on, have a row.
+pub(crate) fn count_slots<const N: usize>(
+    pages: &[Hold<N>],
+    row_bytes: usize,
+    first: usize,
+    count: usize,
+) -> usize
     requires slots { HasSlots N row_bytes pages.now }
     requires unspanned { is_spanned row_bytes ≡ false }
+    requires sized { All (λ page. length page ≡ N) pages.now }
+    requires within { first + count ≤ used_slots pages.now }
+    requires few { length pages.now < 2 ^ 32 }
     requires size { 256 ≤ N }
     requires small { N ≤ 65536 }
-    ensures rows { result ≡ length (rows_of N row_bytes whole_row pages.now) }
-    ensures most { result ≤ length pages.now * N }
+    ensures rows { result ≡ length (rows_part N row_bytes whole_row pages.now first count) }
+    ensures most { result ≤ count }
 {
-    know_sizes(pages);
-    let mut left = used_on(pages);
-    let per_page = N / (1 + row_bytes);
     let mut rows = 0;
-    for place in 0..pages.len() - 1 {
-        let count = left.min(per_page);
-        rows += count_page(slots_on(pages, place), row_bytes, count);
-        left -= count;
+    let mut done = 0;
+    while done < count {
+        let slot = first + done;
+        let more = (count - done).min(left_on::<N>(row_bytes, slot));
+        rows += count_page(slots_from(pages, row_bytes, slot), row_bytes, more);
+        done += more;
     }
     rows
 }

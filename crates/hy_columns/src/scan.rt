@@ -1,10 +1,12 @@
 //! What a query scans.
 
-ghost use Rattle.std.specs.Prelude.{◌≡◌, ◌==◌, ◌<◌, ◌≤◌, length, map};
+ghost use Rattle.std.specs.Prelude.{◌≡◌, ◌==◌, ℕ, ◌<◌, ◌≤◌, All, length, map};
 ghost use Rattle.hy_rows.specs.Catalogue.{segments};
 ghost use Rattle.hy_rows.specs.Spelling.{list_at};
 ghost use Rattle.hy_columns.specs.Scans.{AreTables};
+ghost use Rattle.hy_columns.specs.inside.Scans.{AreKnown};
 
+use crate::pages::know_sizes;
 use hy_frames::Hold;
 use hy_rows::{Item, SEGMENTS};
 use std::marker::Model;
@@ -21,13 +23,13 @@ pub struct WarehousePages<'a, const N: usize> {
 // Clauses see the bytes of the pages by segment.
 impl<'a, const N: usize> Model for WarehousePages<'a, N> {
     ghost use Rattle.std.specs.Prelude.{ℕ, List, map};
-    ghost use Rattle.hy_columns.specs.Scans.{AreTables};
+    ghost use Rattle.hy_columns.specs.inside.Scans.{AreKnown};
 
     ghost Value = { List (List (List ℕ)) };
 
     ghost view = { λ warehouse. map (λ segment. segment.now) warehouse.segments };
 
-    ghost invariant = { λ warehouse. AreTables N (map (λ segment. segment.now) warehouse.segments) };
+    ghost invariant = { λ warehouse. AreKnown N (map (λ segment. segment.now) warehouse.segments) };
 }
 
 impl<'a, const N: usize> WarehousePages<'a, N> {
@@ -36,6 +38,7 @@ impl<'a, const N: usize> WarehousePages<'a, N> {
         requires { AreTables N (map (λ segment. segment.now) segments) }
         ensures { result ≡ map (λ segment. segment.now) segments.entry }
     {
+        know_all_sizes(&segments[..]);
         WarehousePages { segments }
     }
 
@@ -43,10 +46,19 @@ impl<'a, const N: usize> WarehousePages<'a, N> {
     pub(crate) fn segment(&self, number: u32) -> &'a [Hold<N>]
         requires { number < segments }
         ensures pages { result.now ≡ list_at self.now number }
-        ensures tables { AreTables N self.now }
+        ensures known { AreKnown N self.now }
     {
         let segments = &self.segments[..];
         segments[number as usize]
+    }
+}
+
+/// Each page of some segments has all its bytes.
+fn know_all_sizes<const N: usize>(segments: &[&[Hold<N>]])
+    ensures { (place : ℕ) → All (λ page. length page ≡ N) (list_at (map (λ segment. segment.now) segments.now) place) }
+{
+    for pages in segments {
+        know_sizes(pages);
     }
 }
 
@@ -101,7 +113,7 @@ impl<'a, const N: usize> Scan<'a, N> {
         requires place { place < length self.now.pages }
         requires number { number < segments }
         ensures pages { result.now ≡ list_at (list_at self.now.pages place) number }
-        ensures tables { AreTables N (list_at self.now.pages place) }
+        ensures known { AreKnown N (list_at self.now.pages place) }
     {
         self.warehouses[place].segment(number)
     }

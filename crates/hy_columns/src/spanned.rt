@@ -1,15 +1,15 @@
 //! The values of a column in slots that are spanned, over the ends of pages.
 
-ghost use Rattle.std.specs.Prelude.{◌≡◌, ◌+◌, ◌*◌, ◌^◌, ◌<◌, ◌≤◌, ◌∷◌, ◌++◌, [], true, IsTrue, OnOk, drop, length, map, option_to_list, vec_capacity, vec_len};
+ghost use Rattle.std.specs.Prelude.{◌≡◌, ◌+◌, ◌*◌, ◌^◌, ◌<◌, ◌≤◌, ◌∷◌, ◌++◌, [], true, All, IsTrue, OnOk, drop, length, map, option_to_list, vec_capacity, vec_len};
 ghost use Rattle.hy_rows.specs.Columns.{number_at, text_at};
-ghost use Rattle.hy_rows.specs.Spelling.{HasSlots, is_live, is_spanned, row_of_slot, rows_of, slot_at, slot_bytes, slot_start, slot_width, used_slots};
+ghost use Rattle.hy_rows.specs.Spelling.{HasSlots, is_live, is_spanned, row_of_slot, slot_at, slot_bytes, slot_start, slot_width, used_slots};
 ghost use Rattle.hy_columns.specs.inside.Fields.{is_width};
-ghost use Rattle.hy_columns.specs.inside.Pages.{whole_row};
+ghost use Rattle.hy_columns.specs.inside.Pages.{rows_part, whole_row};
 ghost use Rattle.hy_columns.specs.inside.Spanned.{AreSpanned, IsWithin, bits_in, text_in};
 
 use crate::fields::Segment;
 use crate::joined::{bytes_on, number_on};
-use crate::pages::{is_live, know_sizes, used_on};
+use crate::pages::is_live;
 use crate::texts::CopiedTexts;
 use hy_frames::Hold;
 use std::alloc::AllocError;
@@ -171,67 +171,79 @@ fn copy_slot<const N: usize>(
     copy_text(column, pages, slot, texts)
 }
 
-/// Reads the numbers of a column in all rows of a segment behind those that were read before.
+/// Reads the numbers of a column in the rows of so many slots of a segment, from one on, behind those that were read before.
 pub(crate) fn read_numbers<B: FromBits, const N: usize>(
     column: SpannedColumn,
     pages: &[Hold<N>],
+    first: usize,
+    count: usize,
     numbers: &mut Vec<B>,
 ) -> Result<(), AllocError>
     requires slots { HasSlots N column.segment.row_bytes pages.now }
     requires spanned { is_spanned column.segment.row_bytes ≡ true }
+    requires sized { All (λ page. length page ≡ N) pages.now }
+    requires within { first + count ≤ used_slots pages.now }
     requires fits { IsWithin column }
     requires width { IsTrue (is_width column.width) }
     requires few { length pages.now < 2 ^ 32 }
     requires size { 256 ≤ N }
     requires small { N ≤ 65536 }
     ensures { OnOk result (map B.value_of numbers.new.items ≡ map B.value_of numbers.old.items
-        ++ rows_of N column.segment.row_bytes (bits_in B.value_of_bits column) pages.now) }
+        ++ rows_part N column.segment.row_bytes (bits_in B.value_of_bits column) pages.now first count) }
 {
-    know_sizes(pages);
-    let used = used_on(pages);
-    numbers.reserve(used)?;
-    for slot in 0..used {
-        read_slot(column, pages, slot, numbers);
+    numbers.reserve(count)?;
+    for place in 0..count {
+        read_slot(column, pages, first + place, numbers);
     }
     Ok(())
 }
 
-/// Copies the texts of a column in all rows of a segment behind those that were copied before.
+/// Copies the texts of a column in the rows of so many slots of a segment, from one on, behind those that were copied
+/// before.
 pub(crate) fn copy_texts<const N: usize>(
     column: SpannedColumn,
     pages: &[Hold<N>],
+    first: usize,
+    count: usize,
     texts: &mut CopiedTexts,
 ) -> Result<(), AllocError>
     requires slots { HasSlots N column.segment.row_bytes pages.now }
     requires spanned { is_spanned column.segment.row_bytes ≡ true }
+    requires sized { All (λ page. length page ≡ N) pages.now }
+    requires within { first + count ≤ used_slots pages.now }
     requires fits { IsWithin column }
     requires few { length pages.now < 2 ^ 32 }
     requires size { 256 ≤ N }
     requires small { N ≤ 65536 }
     ensures { OnOk result (texts.new
-        ≡ texts.old ++ rows_of N column.segment.row_bytes (text_in column) pages.now) }
+        ≡ texts.old ++ rows_part N column.segment.row_bytes (text_in column) pages.now first count) }
 {
-    know_sizes(pages);
-    for slot in 0..used_on(pages) {
-        copy_slot(column, pages, slot, texts)?;
+    for place in 0..count {
+        copy_slot(column, pages, first + place, texts)?;
     }
     Ok(())
 }
 
-/// How many rows a segment has: by the marks of its slots.
-pub(crate) fn count_spanned<const N: usize>(row_bytes: usize, pages: &[Hold<N>]) -> usize
+/// How many of so many slots of a segment, from one on, have a row: by their marks.
+pub(crate) fn count_spanned<const N: usize>(
+    row_bytes: usize,
+    pages: &[Hold<N>],
+    first: usize,
+    count: usize,
+) -> usize
     requires slots { HasSlots N row_bytes pages.now }
     requires spanned { is_spanned row_bytes ≡ true }
+    requires sized { All (λ page. length page ≡ N) pages.now }
+    requires within { first + count ≤ used_slots pages.now }
     requires few { length pages.now < 2 ^ 32 }
     requires size { 256 ≤ N }
     requires small { N ≤ 65536 }
-    ensures rows { result ≡ length (rows_of N row_bytes whole_row pages.now) }
-    ensures less { result < 2 ^ 48 }
+    ensures rows { result ≡ length (rows_part N row_bytes whole_row pages.now first count) }
+    ensures most { result ≤ count }
 {
-    know_sizes(pages);
     let mut rows = 0;
-    for slot in 0..used_on(pages) {
-        rows += usize::from(has_row(row_bytes, pages, slot));
+    for place in 0..count {
+        rows += usize::from(has_row(row_bytes, pages, first + place));
     }
     rows
 }

@@ -55,6 +55,19 @@ impl CopiedTexts {
         self.len() == 0
     }
 
+    /// Takes all away. The memory stays for others.
+    pub fn clear(&mut self)
+        ensures { self.new ≡ [] }
+    {
+        self.bytes.clear();
+        self.ends.clear();
+    }
+
+    /// Where their memory comes from.
+    pub(crate) fn allocator(&self) -> Global {
+        *self.bytes.allocator()
+    }
+
     /// The text at a place, from 0.
     pub fn text(&self, place: usize) -> &[u8]
         requires { place < length self.now }

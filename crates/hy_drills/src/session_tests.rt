@@ -1,32 +1,60 @@
-//! A snapshot that is forked beside what a worker does.
+//! A session that forks its snapshot, and passes the fork on to another thread.
 
 ghost use Rattle.std.specs.Prelude.{◌≡◌, length};
+ghost use Rattle.std.proofs.Props.{props};
 ghost use Rattle.hy_forks.specs.Forks.{AreOfKit};
 
 use crate::gates::{Held, watch};
 use crate::halls::{Hall, Room, TestEngine, hand_in, paid, payment, pop};
 use hy_commands::Commit;
-use hy_forks::SnapshotAll;
 use hy_loads::Load;
 use hy_partition::Loaded;
 use hy_passes::{Kit, Pass, make};
 use hy_session::Session;
 use hy_tables::generate;
-use std::marker::Brand;
+use std::marker::{Brand, PhantomData};
 use std::process::Abort;
 use std::sync::Wait;
 use std::sync::atomic::{AtomicBool, Ordering};
 use std::thread::{Threads, join};
 
-/// A session over a snapshot of this world has the load and meets the conditions. Then it is closed.
+/// A session over all warehouses of this world.
+struct Opened<K: Loaded> {
+    session: Session<4096>,
+    of: PhantomData<K>,
+    ghost own: { AreOfKit K.passes session } by { Prim.hlevel props },
+}
+
+fn opened<K: Loaded>(session: Session<4096>) -> Opened<K>
+    requires { AreOfKit K.passes session }
+{
+    Opened {
+        session,
+        of: PhantomData,
+    }
+}
+
+/// A session that this one forks, under the locks of the engine.
+fn forked<K: Loaded, R: Wait + Abort + AllocGlobal>(
+    rt: &R,
+    engine: &TestEngine<K>,
+    first: &Opened<K>,
+) -> Opened<K> {
+    let room = engine.room(rt.alloc()).expect(rt, "room");
+    let mut held = engine.hold(rt, room).expect(rt, "all partitions");
+    match first.session.fork(rt.alloc(), &mut held) {
+        Ok(again) => opened(again),
+        Err(_) => panic!(rt; "another session"),
+    }
+}
+
+/// The session has the load and meets the conditions. Then it is closed.
 fn look_and_close<K: Loaded, R: Wait + Abort + AllocGlobal>(
     rt: &R,
     engine: &TestEngine<K>,
-    all: SnapshotAll<4096>,
-)
-    requires { AreOfKit K.passes all }
-{
-    let session = Session::new(all);
+    opened: Opened<K>,
+) {
+    let Opened { session, of: _ } = opened;
     let broken = session.check_conditions(rt.alloc());
     let report = session.report(rt.alloc());
     let room = engine.room(rt.alloc()).expect(rt, "room");
@@ -41,42 +69,56 @@ fn look_and_close<K: Loaded, R: Wait + Abort + AllocGlobal>(
     }
 }
 
-/// A snapshot of the load is forked while a payment runs, and its fork lives on when it is closed.
-fn fork_and_look<K: Loaded + Send + Sync, R: Threads + Wait + Abort + AllocGlobal + Sync>(
+/// Looks at two sessions, one behind the other.
+fn look_twice<K: Loaded, R: Wait + Abort + AllocGlobal>(
+    rt: &R,
+    engine: &TestEngine<K>,
+    first: Opened<K>,
+    next: Opened<K>,
+) {
+    look_and_close(rt, engine, first);
+    look_and_close(rt, engine, next);
+}
+
+/// While a payment runs, the snapshot of the load is forked by the engine and by a session, which passes its fork on to
+/// another thread; all are looked at and closed, each by its thread.
+fn pass_on<K: Loaded + Send + Sync, R: Threads + Wait + Abort + AllocGlobal + Sync>(
     rt: &R,
     engine: &TestEngine<K>,
     mut pass: Pass<Commit, K>,
 ) {
     let client = pass.client();
-    let first = engine
+    let all = engine
         .fork_all(rt, rt.alloc(), &mut pass)
         .expect(rt, "a snapshot");
     hand_in(rt, engine, payment(1, 1, 100), pass);
-    let again = engine
-        .fork_all_from(rt, rt.alloc(), &first)
+    let other = engine
+        .fork_all_from(rt, rt.alloc(), &all)
         .expect(rt, "another one");
-    look_and_close(rt, engine, first);
+    let other = opened(Session::new(other));
+    let first = opened(Session::new(all));
+    let again = forked(rt, engine, &first);
+    join(
+        rt,
+        || look_and_close(rt, engine, again),
+        || look_twice(rt, engine, first, other),
+    );
     paid(rt, engine, client, -1100);
-    look_and_close(rt, engine, again);
     engine.close(rt);
 }
 
-/// A worker, and who forks a snapshot beside it.
-fn run_beside<K: Loaded + Send + Sync, R: Threads + Wait + Abort + AllocGlobal + Sync>(
+/// A worker, and who passes a session on.
+fn run_pass_on<K: Loaded + Send + Sync, R: Threads + Wait + Abort + AllocGlobal + Sync>(
     rt: &R,
     engine: &TestEngine<K>,
     pass: Pass<Commit, K>,
     ended: &AtomicBool,
 ) {
-    join(
-        rt,
-        || engine.work(rt, 1),
-        || fork_and_look(rt, engine, pass),
-    );
+    join(rt, || engine.work(rt, 1), || pass_on(rt, engine, pass));
     ended.store(true, Ordering::SeqCst);
 }
 
-fn forks_beside<K: Loaded + Send + Sync, R: Threads + Wait + Abort + AllocGlobal + Sync>(
+fn passes_on<K: Loaded + Send + Sync, R: Threads + Wait + Abort + AllocGlobal + Sync>(
     rt: &R,
     load: &Load,
     kit: Kit<Commit>,
@@ -99,7 +141,7 @@ fn forks_beside<K: Loaded + Send + Sync, R: Threads + Wait + Abort + AllocGlobal
     join(
         rt,
         || watch(rt, &ended),
-        || run_beside(rt, &engine, pass, &ended),
+        || run_pass_on(rt, &engine, pass, &ended),
     );
     assert!(rt; !engine.gate().too_long.load(Ordering::SeqCst));
     let (parts, _journal) = engine.finish();
@@ -109,9 +151,9 @@ fn forks_beside<K: Loaded + Send + Sync, R: Threads + Wait + Abort + AllocGlobal
 }
 
 #[test]
-fn a_snapshot_is_forked_beside_a_payment(rt: HostRuntime) {
+fn a_session_is_passed_on(rt: HostRuntime) {
     let load = generate(rt.alloc(), 2, 3, 20).expect(&rt, "a load");
     assert!(&rt; load.tables().warehouses.len() == 2);
     let kit = make::<Commit>(rt.alloc(), 2, 1, 1).expect(&rt, "a kit");
-    forks_beside::<Brand, HostRuntime>(&rt, &load, kit);
+    passes_on::<Brand, HostRuntime>(&rt, &load, kit);
 }

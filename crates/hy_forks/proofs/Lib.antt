@@ -14,3 +14,4 @@ pub mod ResultLaws
 pub mod LackLaws
 pub mod ForkedLaws
 pub mod DrainLaws
+pub mod SendLaws

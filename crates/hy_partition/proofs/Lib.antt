@@ -11,3 +11,4 @@ pub mod TieLaws
 pub mod MadeLaws
 pub mod ScheduleLaws
 pub mod SeatLaws
+pub mod SendLaws

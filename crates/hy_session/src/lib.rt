@@ -5,5 +5,5 @@ mod rows;
 mod scans;
 mod session;
 
-pub use scans::run;
+pub use scans::{run, run_counted};
 pub use session::{Session, WarehouseReport};

@@ -3,23 +3,24 @@ use Rattle.hy_rows.specs.Columns.{domain_of, value_at}
 use Rattle.hy_rows.specs.declared.column.Domain.{Domain}
 use Rattle.hy_rows.specs.declared.value.Value.{Value}
 use Rattle.hy_columns.specs.Columns.{values_of}
-use Rattle.hy_columns.specs.inside.Scans.{read_all}
+use Rattle.std.specs.List.{flat_map}
+use Rattle.hy_columns.specs.inside.Scans.{read_in}
 use Rattle.hy_columns.proofs.column.unspanned_values.Goals as goal
-use Rattle.hy_columns.proofs.column.unspanned_values.Goals.{in-Unsigned+in_ok-numbers-in-Unsigned, in-Signed+in_ok-read_all-in-Signed, in-Text+in_ok-read_all-in-Text, in-OneOf+in_ok-read_all-in-OneOf}
+use Rattle.hy_columns.proofs.column.unspanned_values.Goals.{in-Unsigned+in_ok-numbers-in-Unsigned, in-Signed+in_ok-read_blocks-in-Signed, in-Text+in_ok-read_blocks-in-Text, in-OneOf+in_ok-read_blocks-in-OneOf}
 
 -- the values are those that were read, as the column is
 pub returns : goal.returns
 returns g c =
     let offset : ℕ = c.args.field.offset in
     let read : Domain → List Value =
-    λ domain. read_all g.row.N c.args.segment (λ bytes. value_at (domain_of domain) bytes offset) c.args.scan.now.pages in
+    λ domain. flat_map (read_in g.row.N c.args.segment (λ bytes. value_at (domain_of domain) bytes offset) c.args.scan.now.pages) c.args.blocks.now in
     elim c.match-field.branch [
       | in-Unsigned+in_ok-numbers-in-Unsigned w ↦
           ap values_of w.values-is ∙ w.in_ok-numbers-in-Unsigned.ensures ∙ ap read (sym w.in-Unsigned.is)
-      | in-Signed+in_ok-read_all-in-Signed w ↦
-          ap values_of w.values-is ∙ w.in_ok-read_all-in-Signed.ensures ∙ ap read (sym w.in-Signed.is)
-      | in-Text+in_ok-read_all-in-Text w ↦
-          ap values_of w.values-is ∙ w.in_ok-read_all-in-Text.ensures ∙ ap read (sym w.in-Text.is)
-      | in-OneOf+in_ok-read_all-in-OneOf w ↦
-          ap values_of w.values-is ∙ w.in_ok-read_all-in-OneOf.ensures ∙ ap read (sym w.in-OneOf.is)
+      | in-Signed+in_ok-read_blocks-in-Signed w ↦
+          ap values_of w.values-is ∙ w.in_ok-read_blocks-in-Signed.ensures ∙ ap read (sym w.in-Signed.is)
+      | in-Text+in_ok-read_blocks-in-Text w ↦
+          ap values_of w.values-is ∙ w.in_ok-read_blocks-in-Text.ensures ∙ ap read (sym w.in-Text.is)
+      | in-OneOf+in_ok-read_blocks-in-OneOf w ↦
+          ap values_of w.values-is ∙ w.in_ok-read_blocks-in-OneOf.ensures ∙ ap read (sym w.in-OneOf.is)
     ]
