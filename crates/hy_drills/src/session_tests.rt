@@ -14,8 +14,8 @@ use hy_session::Session;
 use hy_tables::generate;
 use std::marker::{Brand, PhantomData};
 use std::process::Abort;
-use std::sync::Wait;
 use std::sync::atomic::{AtomicBool, Ordering};
+use std::sync::{Mutex, Wait};
 use std::thread::{Threads, join};
 
 /// A session over all warehouses of this world.
@@ -25,7 +25,7 @@ struct Opened<K: Loaded> {
     ghost own: { AreOfKit K.passes session } by { Prim.hlevel props },
 }
 
-fn opened<K: Loaded>(session: Session<4096>) -> Opened<K>
+fn session_with<K: Loaded>(session: Session<4096>) -> Opened<K>
     requires { AreOfKit K.passes session }
 {
     Opened {
@@ -43,18 +43,20 @@ fn forked<K: Loaded, R: Wait + Abort + AllocGlobal>(
     let room = engine.room(rt.alloc()).expect(rt, "room");
     let mut held = engine.hold(rt, room).expect(rt, "all partitions");
     match first.session.fork(rt.alloc(), &mut held) {
-        Ok(again) => opened(again),
+        Ok(again) => session_with(again),
         Err(_) => panic!(rt; "another session"),
     }
 }
 
-/// The session has the load and meets the conditions. Then it is closed.
+/// Takes one of the sessions: it has the load and meets the conditions. Then it is closed.
 fn look_and_close<K: Loaded, R: Wait + Abort + AllocGlobal>(
     rt: &R,
     engine: &TestEngine<K>,
-    opened: Opened<K>,
+    sessions: &Mutex<Vec<Opened<K>>>,
 ) {
-    let Opened { session, of: _ } = opened;
+    let Some(Opened { session, of: _ }) = sessions.lock(rt).pop() else {
+        panic!(rt; "a session")
+    };
     let broken = session.check_conditions(rt.alloc());
     let report = session.report(rt.alloc());
     let room = engine.room(rt.alloc()).expect(rt, "room");
@@ -69,15 +71,35 @@ fn look_and_close<K: Loaded, R: Wait + Abort + AllocGlobal>(
     }
 }
 
-/// Looks at two sessions, one behind the other.
+/// The same of two sessions.
 fn look_twice<K: Loaded, R: Wait + Abort + AllocGlobal>(
     rt: &R,
     engine: &TestEngine<K>,
-    first: Opened<K>,
-    next: Opened<K>,
+    sessions: &Mutex<Vec<Opened<K>>>,
 ) {
-    look_and_close(rt, engine, first);
-    look_and_close(rt, engine, next);
+    look_and_close(rt, engine, sessions);
+    look_and_close(rt, engine, sessions);
+}
+
+/// Another thread looks at the session that was passed on, and this one at its own two.
+fn look_beside<K: Loaded + Send + Sync, R: Threads + Wait + Abort + AllocGlobal + Sync>(
+    rt: &R,
+    engine: &TestEngine<K>,
+    passed: &Mutex<Vec<Opened<K>>>,
+    own: &Mutex<Vec<Opened<K>>>,
+) {
+    join(
+        rt,
+        || look_and_close(rt, engine, passed),
+        || look_twice(rt, engine, own),
+    );
+}
+
+/// Each of the sessions was taken.
+fn are_taken<K: Loaded, R: Abort>(rt: &R, sessions: Mutex<Vec<Opened<K>>>) {
+    let left = sessions.into_inner();
+    assert!(rt; left.is_empty());
+    left.destroy_empty();
 }
 
 /// While a payment runs, the snapshot of the load is forked by the engine and by a session, which passes its fork on to
@@ -95,14 +117,18 @@ fn pass_on<K: Loaded + Send + Sync, R: Threads + Wait + Abort + AllocGlobal + Sy
     let other = engine
         .fork_all_from(rt, rt.alloc(), &all)
         .expect(rt, "another one");
-    let other = opened(Session::new(other));
-    let first = opened(Session::new(all));
+    let first = session_with(Session::new(all));
     let again = forked(rt, engine, &first);
-    join(
-        rt,
-        || look_and_close(rt, engine, again),
-        || look_twice(rt, engine, first, other),
-    );
+    let mut own = Vec::with_capacity(rt.alloc(), 2).expect(rt, "places");
+    own.push_reserved(first);
+    own.push_reserved(session_with(Session::new(other)));
+    let mut passed = Vec::with_capacity(rt.alloc(), 1).expect(rt, "a place");
+    passed.push_reserved(again);
+    let own = Mutex::new(own);
+    let passed = Mutex::new(passed);
+    look_beside(rt, engine, &passed, &own);
+    are_taken(rt, own);
+    are_taken(rt, passed);
     paid(rt, engine, client, -1100);
     engine.close(rt);
 }
