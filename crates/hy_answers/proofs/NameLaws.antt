@@ -1,10 +1,13 @@
 -- The columns that a query names: each was read, once, and its values are those of the lists.
-use Rattle.std.proofs.Common.{◌≡◌, ◌==◌, ◌∙◌, ◌&&◌, ◌||◌, Bool, true, false, All, IsSome, Some, List, [], ◌∷◌, ◌++◌, fold, if◌then◌else◌, map, refl, sym, ap, subst}
+use Rattle.std.proofs.Common.{◌≡◌, ◌==◌, ◌∙◌, ◌&&◌, ◌||◌, Bool, true, false, All, IsSome, Some, List, [], ◌∷◌, ◌++◌, fold, if◌then◌else◌, length, map, refl, sym, ap, subst, arith}
 use Rattle.std.proofs.lemmas.Bool.{and_parts, false≢true}
 use Rattle.std.proofs.lemmas.List.Folds.{list_any-append}
 use borrow.Author.Tests.{eqb-true, eq-eqb}
 use Rattle.std.specs.List.{AllByRecursion, flat_map, list_all, list_any}
-use Rattle.hy_rows.specs.Tables.{Lists}
+use Rattle.hy_answers.specs.inside.Pieces.{AllRows, with_rows}
+use Rattle.hy_columns.specs.declared.values.ColumnValues.{ColumnValues}
+use Rattle.hy_rows.specs.declared.value.Value.{Value}
+use Rattle.hy_query.specs.Rows.{Row}
 use Rattle.hy_rows.specs.declared.catalogue.Table.{Table}
 use Rattle.hy_columns.specs.Columns.{column_at, values_of}
 use Rattle.hy_query.specs.declared.column.Column.{Column}
@@ -17,10 +20,9 @@ use Rattle.hy_query.specs.declared.query.SelectItem.TheVariants as items
 use Rattle.hy_query.specs.Columns.{kind_of}
 use Rattle.hy_query.specs.Language.{is_column, is_table}
 use Rattle.hy_query.specs.Queries.{IsCondition, IsItem, IsOneOf, IsOperand, IsQuery, QueryState}
-use Rattle.hy_query.specs.Rows.{rows_of}
 use Rattle.hy_answers.specs.declared.sources.SourceColumn.{SourceColumn}
 use Rattle.hy_answers.specs.inside.Names.{with_name}
-use Rattle.hy_answers.specs.inside.Reading.{IsSource, names_in_condition, names_in_item, names_in_operand, names_of}
+use Rattle.hy_answers.specs.inside.Reading.{AreHere, AreLater, chosen, names_in_condition, names_in_item, names_in_operand, names_of}
 use Rattle.hy_answers.specs.inside.Sources.{is_read, values_for}
 use Rattle.hy_answers.proofs.EachLaws.{each-append, each-at, each-joined, each-of, each-push}
 use Rattle.hy_answers.proofs.ListLaws.{list_any-map}
@@ -137,32 +139,85 @@ names-cover names (column ∷ later) =
 
 -- ---- what was read of them
 
-module _ (lists : Lists) where
-  source-found : (sources : List SourceColumn) (column : Column) → AllByRecursion (IsSource lists) sources
-      → is_read sources column ≡ true
-      → values_for sources column ≡ column_at column.place (rows_of lists column.table)
-  source-found [] column each read = absurd (false≢true read)
-  source-found (source ∷ later) column each read =
-      by (is_column source.column column) refl read (source-found later column each.1)
-    where
-      by : (b : Bool) → is_column source.column column ≡ b → (b || is_read later column) ≡ true
-          → (is_read later column ≡ true
-          → values_for later column ≡ column_at column.place (rows_of lists column.table))
-          → (if b then values_of source.values else values_for later column)
-          ≡ column_at column.place (rows_of lists column.table)
-      by true is read later_is =
-          each.0 ∙ ap (λ (this : Column). column_at this.place (rows_of lists this.table))
-          (is_column-same source.column column is)
-      by false is read later_is = later_is read
+-- the values of a column, by columns and their values
+abbrev pub look : List Column → List (List Value) → Column → List Value
+look (name ∷ names) (values ∷ later) column = if is_column name column then values else look names later column
+look names values column = []
 
-  all-found : (sources : List SourceColumn) (names : List Column) → AllByRecursion (IsSource lists) sources
-      → list_all (is_read sources) names ≡ true
-      → AllByRecursion
-      (λ column. values_for sources column ≡ column_at column.place (rows_of lists column.table)) names
-  all-found sources [] each read = tt
-  all-found sources (column ∷ later) each read =
-      let parts = and_parts (is_read sources column) (list_all (is_read sources) later) read in
-      (source-found sources column each parts.0, all-found sources later each parts.1)
+pub values_for-look : (sources : List SourceColumn) (column : Column)
+    → values_for sources column
+    ≡ look (map (λ (source : SourceColumn). source.column) sources)
+    (map (λ (source : SourceColumn). values_of source.values.now) sources) column
+values_for-look [] column = refl
+values_for-look (source ∷ later) column =
+    ap (λ values. if is_column source.column column then values_of source.values.now else values) (values_for-look later column)
+
+-- where each column has the values that some lists have, so has one that is among them
+look-known : (lists : AllRows) (names : List Column) (column : Column) → has names column ≡ true
+    → look names (map (λ (name : Column). column_at name.place (lists name.table)) names) column
+    ≡ column_at column.place (lists column.table)
+look-known lists [] column there = absurd (false≢true there)
+look-known lists (name ∷ names) column there =
+    by (is_column name column) refl there (look-known lists names column)
+  where
+    by : (b : Bool) → is_column name column ≡ b → (b || has names column) ≡ true
+        → (has names column ≡ true
+        → look names (map (λ (name : Column). column_at name.place (lists name.table)) names) column
+        ≡ column_at column.place (lists column.table))
+        → (if b then column_at name.place (lists name.table)
+        else look names (map (λ (name : Column). column_at name.place (lists name.table)) names) column)
+        ≡ column_at column.place (lists column.table)
+    by true is found later =
+        ap (λ (this : Column). column_at this.place (lists this.table)) (is_column-same name column is)
+    by false is found later = later found
+
+-- what was read here and before is what the lists have, with some rows of the first table
+pub chosen-known : (lists : AllRows) (first : Table) (rows : List Row) (names : List Column)
+    (later here : List ColumnValues) → AreLater lists first names later → AreHere rows first names here
+    → chosen first names later here
+    ≡ map (λ (name : Column). column_at name.place (with_rows lists first rows name.table)) names
+chosen-known lists first rows [] [] [] read these = refl
+chosen-known lists first rows [] (old ∷ later) here read these = absurd read
+chosen-known lists first rows [] [] (new ∷ here) read these = absurd these
+chosen-known lists first rows (name ∷ names) [] here read these = absurd read
+chosen-known lists first rows (name ∷ names) (old ∷ later) [] read these = absurd these
+chosen-known lists first rows (name ∷ names) (old ∷ later) (new ∷ here) read these =
+    λ i. by (is_table first name.table) refl i ∷ chosen-known lists first rows names later here read.1 these.1 i
+  where
+    by : (b : Bool) → is_table first name.table ≡ b
+        → (if b then values_of new else values_of old)
+        ≡ column_at name.place (if b then rows else lists name.table)
+    by true is = these.0 is
+    by false is = read.0 is
+
+-- a column that isn't of the first table has the values that it had before
+pub look-apart : (first : Table) (names : List Column) (later here : List ColumnValues) (column : Column)
+    → length later ≡ length names → length here ≡ length names → is_table first column.table ≡ false
+    → look names (chosen first names later here) column ≡ look names (chosen first names later later) column
+look-apart first [] later here column later_long here_long apart = refl
+look-apart first (name ∷ names) [] here column later_long here_long apart = absurd (omega (arith, later_long))
+look-apart first (name ∷ names) (old ∷ later) [] column later_long here_long apart = absurd (omega (arith, here_long))
+look-apart first (name ∷ names) (old ∷ later) (new ∷ here) column later_long here_long apart =
+    by (is_column name column) refl
+    (look-apart first names later here column (omega (arith, later_long)) (omega (arith, here_long)) apart)
+  where
+    away : is_column name column ≡ true → is_table first name.table ≡ false
+    away is =
+        ap (λ (this : Column). is_table first this.table) (is_column-same name column is) ∙ apart
+
+    chosen_alike : (b : Bool) → b ≡ false
+        → (if b then values_of new else values_of old) ≡ (if b then values_of old else values_of old)
+    chosen_alike true is = absurd (false≢true (sym is))
+    chosen_alike false is = refl
+
+    by : (b : Bool) → is_column name column ≡ b
+        → look names (chosen first names later here) column ≡ look names (chosen first names later later) column
+        → (if b then (if is_table first name.table then values_of new else values_of old)
+        else look names (chosen first names later here) column)
+        ≡ (if b then (if is_table first name.table then values_of old else values_of old)
+        else look names (chosen first names later later) column)
+    by true is same = chosen_alike (is_table first name.table) (away is)
+    by false is same = same
 
 -- all columns that a query names were read
 pub names-read : (query : QueryState) (names : List Column) (sources : List SourceColumn)
@@ -182,9 +237,28 @@ names-kinds query names sound names_are =
     subst (AllByRecursion HasKind) (sym names_are) (names-each HasKind [] (names_of query) tt (query-kinds query sound)) in
     λ k d within. each-at HasKind names k d each within
 
--- and the values that were read are those of the lists
-pub values-read : (lists : Lists) (query : QueryState) (sources : List SourceColumn)
-    → AllByRecursion (IsSource lists) sources → list_all (is_read sources) (names_of query) ≡ true
+-- what was read for a query: each column that it names has the values of the lists, with some rows of the first table
+pub values-read : (lists : AllRows) (first : Table) (rows : List Row) (query : QueryState) (names : List Column)
+    (later here : List ColumnValues) (sources : List SourceColumn) → names ≡ fold with_name [] (names_of query)
+    → AreLater lists first names later → AreHere rows first names here
+    → map (λ (source : SourceColumn). source.column) sources ≡ names
+    → map (λ (source : SourceColumn). values_of source.values.now) sources ≡ chosen first names later here
     → AllByRecursion
-    (λ column. values_for sources column ≡ column_at column.place (rows_of lists column.table)) (names_of query)
-values-read lists query sources each read = all-found lists sources (names_of query) each read
+    (λ column. values_for sources column ≡ column_at column.place (with_rows lists first rows column.table)) (names_of query)
+values-read lists first rows query names later here sources names_are read these columns_are values_are =
+    each (names_of query) (ap (λ list. list_all (has list) (names_of query)) names_are ∙ names-cover [] (names_of query))
+  where
+    one : (column : Column) → has names column ≡ true
+        → values_for sources column ≡ column_at column.place (with_rows lists first rows column.table)
+    one column there =
+        values_for-look sources column
+        ∙ (λ i. look (columns_are i) ((values_are ∙ chosen-known lists first rows names later here read these) i) column)
+        ∙ look-known (with_rows lists first rows) names column there
+
+    each : (columns : List Column) → list_all (has names) columns ≡ true
+        → AllByRecursion
+        (λ column. values_for sources column ≡ column_at column.place (with_rows lists first rows column.table)) columns
+    each [] there = tt
+    each (column ∷ columns) there =
+        let parts = and_parts (has names column) (list_all (has names) columns) there in
+        (one column parts.0, each columns parts.1)

@@ -1,10 +1,10 @@
 -- The order of values and of rows is a total one, and the tests of queries ask it.
 use Rattle.std.proofs.Common.{◌≡◌, ◌∙◌, ◌-◌, ◌&&◌, ◌||◌, ℕ, ℤ, Bool, true, false, cond, not, int_lt, pos, List, [], ◌∷◌, arith, refl, sym, ap, subst, if◌then◌else◌}
 use Rattle.std.proofs.lemmas.Bool.Decides.{nat_tests}
-use Rattle.std.proofs.lemmas.Cmp.{int_cmp_total, nat_cmp_total, nat_list_cmp_total, on_total, then_total, back_total, same_from_slice_cmp}
+use Rattle.std.proofs.lemmas.Cmp.{eq_by_cmp_equiv, int_cmp_total, nat_cmp_total, nat_list_cmp_total, on_total, then_total, back_total, same_from_slice_cmp}
 use Rattle.std.proofs.lemmas.Map.Text.{is_eq-slice_cmp}
 use Rattle.std.proofs.lemmas.List.MinMax.{ranks_by}
-use Rattle.std.specs.Cmp.{IsStrictWeakOrder, IsTotalOrder}
+use Rattle.std.specs.Cmp.{IsEquivalence, IsStrictWeakOrder, IsTotalOrder}
 use Rattle.std.specs.Cmp.Lexicographic.{slice_cmp}
 use Rattle.std.specs.declared.cmp.Ordering.{Ordering}
 use Rattle.std.specs.declared.cmp.Ordering.TheVariants.{Less, Equal, Greater}
@@ -168,3 +168,10 @@ pub comes_before-weak_by : {X : Type 0} (keys : List SortKey) (row : X → Row)
 comes_before-weak_by keys row =
     subst IsStrictWeakOrder (λ i one other. sym (comes_before-order keys (row one) (row other)) i)
     (ranks_by (rows_order-total keys) row)
+
+-- equality goes both ways
+pub is_equal-swap : (one other : Value) → is_equal one other ≡ is_equal other one
+is_equal-swap one other =
+    let laws : IsEquivalence is_equal =
+    subst IsEquivalence (λ i one other. sym (is_equal-order one other) i) (eq_by_cmp_equiv value_order-total) in
+    laws.symm one other

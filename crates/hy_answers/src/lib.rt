@@ -1,16 +1,20 @@
 //! Answers to queries over the rows of all warehouses. What whoever asks names of the crate below is passed on.
 #![tactic(auto)]
 
+mod alone;
 mod answer;
 mod checks;
 mod combinations;
 mod finding;
-mod groups;
-mod items;
+mod gathering;
 mod joins;
+mod kinds;
+mod lines;
 mod matches;
 mod names;
-mod owned;
+mod own;
+mod pieces;
+mod plan;
 mod reading;
 mod rows;
 mod sorting;
@@ -19,6 +23,6 @@ mod text;
 mod values;
 mod writing;
 
-pub use answer::{Answer, run, run_counted};
+pub use answer::{Answer, run, run_counted, run_in, run_par};
 pub use hy_columns::{Scan, WarehousePages};
 pub use text::text_of;

@@ -4,12 +4,13 @@ ghost use Rattle.std.specs.Prelude.{◌≡◌, ◌<◌, ◌∷◌, ◌++◌, ◌
 ghost use Rattle.std.specs.List.{flat_map};
 ghost use Rattle.csv.specs.Writing.{default_writer, row_text};
 ghost use Rattle.hy_answers.specs.Texts.{field_of, record_text};
-ghost use Rattle.hy_answers.specs.inside.Answers.{row_at, rows_in};
+ghost use Rattle.hy_answers.specs.inside.Answers.{rows_in};
+ghost use Rattle.hy_tallies.specs.Lines.{row_at};
 ghost use Rattle.hy_answers.specs.inside.Writers.{HasFields};
 
-use crate::owned::OwnedValues;
 use csv::{Writer, WriterBuilder};
 use hy_query::Value;
+use hy_tallies::OwnedValues;
 use itoa::Buffer;
 use std::alloc::{AllocError, Global};
 

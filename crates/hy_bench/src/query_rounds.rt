@@ -1,17 +1,19 @@
-//! Rounds of questions to a session over two warehouses with orders.
+//! Rounds of questions to a session over two warehouses with orders and deliveries.
 
 ghost use Rattle.std.specs.Prelude.{◌≡◌, length};
 
 use crate::payment_rounds::{SIZE, generated_load};
 use crate::shop::Shop;
-use hy_commands::{Command, Commit, Purchase, PurchaseLine, PurchaseLines};
+use hy_commands::{Command, Commit, Delivery, Purchase, PurchaseLine, PurchaseLines};
 use hy_loads::Load;
 use hy_partition::Loaded;
 use hy_passes::{Kit, Pass, make};
+use hy_query::parse_query;
 use hy_schema::Refusal;
-use hy_session::Session;
+use hy_session::{Session, text_of};
 use std::alloc::{AllocError, Global};
 use std::marker::Brand;
+use std::thread::Threads;
 
 /// How many warehouses there are.
 const WAREHOUSES: u8 = 2;
@@ -25,59 +27,70 @@ const ITEMS: u64 = 100_000;
 /// What the numbers of items are made from.
 const MIXING: u64 = 0x9e37_79b9_7f4a_7c15;
 
+/// What is done before a session is opened.
+#[derive(Clone, Copy)]
+pub(crate) struct Past {
+    /// How many orders.
+    pub orders: u64,
+    /// How many deliveries, behind all orders.
+    pub deliveries: u64,
+}
+
 /// What a session is asked.
 #[derive(Clone, Copy)]
-enum Question {
-    Query(&'static str),
+enum Question<'t> {
+    Query(&'t str),
+    /// The same by threads.
+    Threads(&'t str),
     Report,
     Conditions,
 }
 
-/// What a work asks, if it is one of these.
-fn question_of(work: &str) -> Option<Question> {
-    let question = match work {
-        "query-stock" => Question::Query("from stock where s_quantity < 20 select sum s_ytd"),
-        "query-items" => {
-            Question::Query("from orderline group ol_i_id select ol_i_id, count, sum ol_amount")
-        }
-        "query-districts" => Question::Query(
-            "from orderline group ol_w_id, ol_d_id select ol_w_id, ol_d_id, count, sum ol_amount",
-        ),
-        "query-credit" => {
-            Question::Query("from customer group c_credit select c_credit, count, sum c_balance")
-        }
-        "report" => Question::Report,
-        "conditions" => Question::Conditions,
-        _ => return None,
-    };
-    Some(question)
+/// What a work asks, if it is one of these. The text is that of a query.
+fn question_of<'t>(work: &str, text: &'t str) -> Option<Question<'t>> {
+    match work {
+        "query" => Some(Question::Query(text)),
+        "par" => Some(Question::Threads(text)),
+        "report" => Some(Question::Report),
+        "conditions" => Some(Question::Conditions),
+        _ => None,
+    }
 }
 
-/// Rounds of a work over the database behind so many orders.
-pub fn run(alloc: Global, work: &str, rounds: u64, orders: u64) -> Option<u64> {
-    let question = question_of(work)?;
+/// Rounds of a work over the database as it is then.
+pub fn run<R: Threads + Sync>(
+    rt: &R,
+    alloc: Global,
+    work: &str,
+    rounds: u64,
+    past: Past,
+    text: &str,
+) -> Option<u64> {
+    let question = question_of(work, text)?;
     let load = generated_load(alloc, WAREHOUSES, CUSTOMERS, ITEMS)?;
     let kit = make::<Commit>(alloc, WAREHOUSES, 1, 1).ok()?;
-    questions::<Brand>(alloc, &load, kit, question, rounds, orders).ok()
+    questions::<Brand, R>(rt, alloc, &load, kit, question, rounds, past).ok()
 }
 
 /// The same in the world of the load and the kit.
-fn questions<K: Loaded>(
+fn questions<K: Loaded, R: Threads + Sync>(
+    rt: &R,
     alloc: Global,
     load: &Load,
     kit: Kit<Commit>,
-    question: Question,
+    question: Question<'_>,
     rounds: u64,
-    orders: u64,
+    past: Past,
 ) -> Result<u64, Refusal>
     requires load { load.now ≡ K.load }
     requires kit { kit ≡ K.passes }
     requires partitions { kit.partitions ≡ length load.now.tables.warehouses }
 {
     let (mut shop, pass) = Shop::<K>::open(alloc, load, kit)?;
-    let mut pass = order(alloc, &mut shop, pass, orders)?;
+    let pass = order(alloc, &mut shop, pass, past.orders)?;
+    let mut pass = deliver(&mut shop, pass, past.deliveries)?;
     let session = shop.session(alloc, &mut pass)?;
-    let seen = asked(alloc, &session, question, rounds);
+    let seen = asked(rt, alloc, &session, question, rounds);
     shop.close(session);
     seen
 }
@@ -126,15 +139,38 @@ fn lines_of(alloc: Global, number: u64, warehouse: u64) -> Result<PurchaseLines,
     PurchaseLines::new(alloc, &lines)
 }
 
+/// So many deliveries, in the two warehouses in turn.
+fn deliver<K: Loaded>(
+    shop: &mut Shop<K>,
+    mut pass: Pass<Commit, K>,
+    deliveries: u64,
+) -> Result<Pass<Commit, K>, Refusal> {
+    for number in 0..deliveries {
+        pass = shop.run((number % 2) as usize, delivery_of(number), pass)?;
+    }
+    Ok(pass)
+}
+
+/// The delivery of a number. The carriers take turns, and each delivery of a warehouse is a moment behind the one before.
+fn delivery_of(number: u64) -> Command {
+    Command::Delivery(Delivery {
+        warehouse: number % 2 + 1,
+        carrier: number / 2 % 10 + 1,
+        at: number / 2 + 2,
+    })
+}
+
 /// What so many rounds of a question left to see.
-fn asked(
+fn asked<R: Threads + Sync>(
+    rt: &R,
     alloc: Global,
     session: &Session<SIZE>,
-    question: Question,
+    question: Question<'_>,
     rounds: u64,
 ) -> Result<u64, Refusal> {
     match question {
         Question::Query(text) => answers(alloc, session, text.as_bytes(), rounds),
+        Question::Threads(text) => thread_answers(rt, alloc, session, text.as_bytes(), rounds),
         Question::Report => reports(alloc, session, rounds),
         Question::Conditions => conditions(alloc, session, rounds),
     }
@@ -150,6 +186,23 @@ fn answers(
     let mut seen = digest(&session.ask(alloc, text)?);
     for _ in 0..rounds {
         seen = seen.wrapping_add(session.ask(alloc, text)?.len() as u64);
+    }
+    Ok(seen)
+}
+
+/// The same by threads.
+fn thread_answers<R: Threads + Sync>(
+    rt: &R,
+    alloc: Global,
+    session: &Session<SIZE>,
+    text: &[u8],
+    rounds: u64,
+) -> Result<u64, Refusal> {
+    let query = parse_query(alloc, text)?;
+    let mut seen = digest(&text_of(alloc, &session.query(rt, alloc, &query)?)?);
+    for _ in 0..rounds {
+        let answer = session.query(rt, alloc, &query)?;
+        seen = seen.wrapping_add(text_of(alloc, &answer)?.len() as u64);
     }
     Ok(seen)
 }

@@ -2,6 +2,7 @@
 #![tactic(auto)]
 
 mod block;
+mod by_place;
 mod column;
 mod count;
 mod decode;
@@ -18,6 +19,7 @@ mod thread_tests;
 mod values;
 
 pub use block::{Block, blocks_of};
+pub use by_place::{ByPlace, Copied, Numbers, Signed, Texts};
 pub use column::{column_of, read_block};
 pub use count::{count_block, count_of};
 pub use scan::{Scan, WarehousePages};

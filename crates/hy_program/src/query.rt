@@ -2,6 +2,8 @@
 
 ghost use Rattle.std.specs.Prelude.{◌≡◌, ◌+◌, IfErr, IfOk, IsOkAnd, OnOk, length};
 ghost use Rattle.hy_schema.specs.declared.refusal.Refusal.{Refusal};
+ghost use Rattle.hy_schema.specs.declared.refusal.Refusal.TheVariants.{NoMemory};
+ghost use Rattle.hy_session.specs.Snapshots.{lists_of_all};
 ghost use Rattle.hy_session.specs.Texts.{answer_text};
 ghost use Rattle.hy_query.specs.Language.{query_of};
 ghost use Rattle.hy_query.specs.Meaning.{answer_of};
@@ -20,9 +22,10 @@ use hy_partition::Loaded;
 use hy_passes::{Kit, make};
 use hy_query::{Query, parse_query};
 use hy_schema::Refusal;
-use hy_session::Session;
+use hy_session::{Session, text_of};
 use std::alloc::Global;
 use std::marker::Brand;
+use std::thread::Threads;
 
 /// How many frames each warehouse may have.
 const MAX_FRAMES: u64 = 100_000;
@@ -34,7 +37,8 @@ const MAX_KEPT: u64 = 1_000_000;
 const KIT: u64 = 1;
 
 /// Answers a query over the load in the files of a folder, and writes the answer.
-pub fn run_query<'a, F: FileSystem, O: Output>(
+pub fn run_query<'a, F: FileSystem, O: Output, R: Threads + Sync>(
+    rt: &R,
     alloc: Global,
     directory: &'a str,
     text: &'a str,
@@ -53,14 +57,19 @@ pub fn run_query<'a, F: FileSystem, O: Output>(
         Ok(load) => load,
         Err(found) => return Err(RunFault::of_files(directory, found)),
     };
-    let answer = answer(alloc, &load, text.as_bytes())?;
+    let answer = answer(rt, alloc, &load, text.as_bytes())?;
     out.write_all(&answer)?;
     Ok(())
 }
 
 /// The answer to a query over a load. E13 where the text says none, before all else; E2 or E1 where the load finds no
 /// place on pages, or the answer none in memory.
-fn answer(alloc: Global, load: &Load, text: &[u8]) -> Result<Vec<u8>, Refusal>
+fn answer<R: Threads + Sync>(
+    rt: &R,
+    alloc: Global,
+    load: &Load,
+    text: &[u8],
+) -> Result<Vec<u8>, Refusal>
     ensures answer { IfOk result (λ printed. IsOkAnd (query_of text.now)
         (λ query. printed.items ≡ answer_text (answer_of query (by_warehouse load.now)))) }
     ensures refused { IfErr result (IsWhyUnasked load.now text.now) }
@@ -69,11 +78,12 @@ fn answer(alloc: Global, load: &Load, text: &[u8]) -> Result<Vec<u8>, Refusal>
     load.sound();
     let count = load.tables().warehouses.len();
     let kit = make::<Commit>(alloc, count as u8, 1, KIT)?;
-    answer_in::<Brand>(alloc, load, kit, &query)
+    answer_in::<Brand, R>(rt, alloc, load, kit, &query)
 }
 
 /// The same for a query, in the world that names the load and a kit for its warehouses and one client.
-fn answer_in<K: Loaded>(
+fn answer_in<K: Loaded, R: Threads + Sync>(
+    rt: &R,
     alloc: Global,
     load: &Load,
     kit: Kit<Commit>,
@@ -93,9 +103,24 @@ fn answer_in<K: Loaded>(
     let mut parts = partitions_of::<PAGE_BYTES, K>(alloc, load, seats, MAX_FRAMES, MAX_KEPT)?;
     let session = Session::new(fork_all(alloc, &mut parts, &mut journal, &mut pass)?);
     session.shows();
-    let answer = session.answer(alloc, query);
+    let answer = answered(rt, alloc, &session, query);
     match session.close_all(&mut parts) {
         Ok(()) => answer,
         Err(_) => unreachable!(),
     }
+}
+
+/// The text of a session's answer. E1.
+fn answered<R: Threads + Sync>(
+    rt: &R,
+    alloc: Global,
+    session: &Session<PAGE_BYTES>,
+    query: &Query<'_>,
+) -> Result<Vec<u8>, Refusal>
+    ensures answer { IfOk result
+        (λ printed. printed.items ≡ answer_text (answer_of query.now (lists_of_all PAGE_BYTES session.now))) }
+    ensures refused { IfErr result (λ why. why ≡ NoMemory) }
+{
+    let answer = session.query(rt, alloc, query)?;
+    Ok(text_of(alloc, &answer)?)
 }

@@ -149,7 +149,7 @@ fn run_line<'a, F: FileSystem, O: Output + Take + Drop, R: Threads + Wait + Sync
             let limits = Limits { frames, kept };
             run_script_file(alloc, directory, file, limits, system, out)
         }
-        Line::Query { directory, text } => run_query(alloc, directory, text, system, out),
+        Line::Query { directory, text } => run_query(rt, alloc, directory, text, system, out),
         Line::Storm {
             directory,
             terminals,

@@ -61,7 +61,7 @@ read_of text = fold take_token (Ok (no_query, nexts.From)) (tokens text)
 -- at the begin nothing is wrong
 first_reached : IsReached no_query nexts.From
 first_reached = (
-  record { few_tables = lit≤ tt; no_conditions = refl; no_groups = refl; no_items = refl; no_keys = refl },
+  record { few_tables = lit≤ tt; different = tt; no_conditions = refl; no_groups = refl; no_items = refl; no_keys = refl },
   refl,
 )
 

@@ -1,13 +1,14 @@
 -- What was read of a query is right, whatever the text.
-use Rattle.std.specs.Prelude.{◌≡◌, ℕ, suc, ◌&&◌, ◌++◌, ◌<◌, ◌≤◌, Bool, true, false, not, if◌then◌else◌, nat_le, nat_lt, List, [], ◌∷◌, length, slice_get, fold, All, Option, None, Some, IfSome, IsSome, option_and_then, option_map, Ok, Err, bytes_eq, codes, refl}
+use Rattle.std.specs.Prelude.{◌≡◌, ℕ, suc, ◌==◌, ◌&&◌, ◌||◌, ◌++◌, ◌<◌, ◌≤◌, Bool, true, false, not, if◌then◌else◌, nat_le, nat_lt, List, [], ◌∷◌, length, slice_get, fold, All, Option, None, Some, IfSome, IsSome, option_and_then, option_map, Ok, Err, bytes_eq, codes, refl}
 use Rattle.std.specs.List.{list_any}
-use Rattle.std.proofs.Common.{arith, ap, sym, subst, ◌∙◌, length-append}
-use Rattle.std.proofs.lemmas.Bool.{and_parts, false≢true, leb-true, ltb-true}
+use Rattle.std.proofs.Common.{arith, ap, ap₂, sym, subst, ◌∙◌, length-append}
+use Rattle.std.proofs.lemmas.Bool.{and_parts, eq-eqb, eqb-false, eqb-true, false≢true, leb-true, ltb-true, ne_eqb, not-true, or_parts}
+use Rattle.std.proofs.lemmas.List.Folds.{list_any-append}
 use Rattle.std.proofs.lemmas.List.Elements.{All-nil, All-push}
 use Rattle.std.proofs.lemmas.List.Quantifiers.{position-Some}
 use Rattle.std.proofs.lemmas.Option.{IfSome_then, cond_some, option_and_then_some, slice_get-get_or}
 use Rattle.hy_decimal.specs.Numbers.{number_of}
-use Rattle.hy_rows.specs.Catalogue.{columns_of}
+use Rattle.hy_rows.specs.Catalogue.{columns_of, place_of}
 use Rattle.hy_rows.specs.Columns.{Column as ColumnDefinition, Text}
 use Rattle.hy_rows.specs.declared.catalogue.Table.{Table}
 use Rattle.hy_query.specs.declared.column.Column.{Column}
@@ -26,7 +27,7 @@ use Rattle.hy_rows.specs.declared.value.Value.{Value}
 use Rattle.hy_rows.specs.declared.value.Value.TheVariants as values
 use Rattle.hy_query.specs.Columns.{column_among, first_of, kind_in, kind_of, lowered, place_named, table_named}
 use Rattle.hy_query.specs.Language.{after, aggregate_after, aggregate_named, comparison_named, aggregate_of, behind_conditions, ended, fitting, has_kind, is_table, key_after, kind_of_operand, may_aggregate, may_be_plain, operand_of, or_fault, plain_after, table_after, take_token, value_of, with_condition, with_group, with_item, with_key, with_table}
-use Rattle.hy_query.specs.Queries.{IsCondition, IsItem, IsOneOf, IsOperand, IsQuery, QueryState}
+use Rattle.hy_query.specs.Queries.{AreDifferent, IsCondition, IsItem, IsOneOf, IsOperand, IsQuery, QueryState}
 use Rattle.hy_query.specs.Tokens.{Token}
 use Rattle.hy_query.specs.inside.Reached.{HasTables, IsReached, IsRight}
 
@@ -138,6 +139,28 @@ condition_fits tables word left comparison right is_left is_right same =
       operand_fits tables word right kind.0 is_right (same_kind _ _ kind.0 kind.1 same),
     )
 
+-- ---- tables, each once
+
+is_table-swap : (one other : Table) → is_table one other ≡ is_table other one
+is_table-swap one other = eqb-swap (place_of one) (place_of other)
+  where
+    eqb-swap : (m n : ℕ) → (m == n) ≡ (n == m)
+    eqb-swap m n = by_answer (m == n) refl
+      where
+        by_answer : (answer : Bool) → (m == n) ≡ answer → (m == n) ≡ (n == m)
+        by_answer true is = is ∙ sym (eq-eqb n m (sym (eqb-true m n is)))
+        by_answer false is = is ∙ sym (ne_eqb n m (λ same. eqb-false m n is (sym same)))
+
+pub different-more : (tables : List Table) (new : Table) → AreDifferent tables → list_any (is_table new) tables ≡ false
+    → AreDifferent (tables ++ new ∷ [])
+different-more [] new are none = (refl, tt)
+different-more (table ∷ later) new are none =
+    let parts = or_parts _ _ none in (
+      list_any-append (is_table table) later (new ∷ [])
+          ∙ ap₂ (λ a b. a || b) are.0 (ap (λ b. b || false) (is_table-swap table new ∙ parts.0)),
+      different-more later new are.1 parts.1,
+    )
+
 -- ---- queries that get longer
 
 module _ (query : QueryState) where
@@ -147,6 +170,7 @@ module _ (query : QueryState) where
     record {
       some_tables = some;
       few_tables = has.few_tables;
+      different = has.different;
       conditions = subst (All (IsCondition query.tables)) (sym has.no_conditions) (All-nil (IsCondition query.tables));
       groups = subst (All (IsOneOf query.tables)) (sym has.no_groups) (All-nil (IsOneOf query.tables));
       items = subst (All (IsItem query.tables)) (sym has.no_items) (All-nil (IsItem query.tables));
@@ -156,11 +180,12 @@ module _ (query : QueryState) where
     has.no_keys,
   )
 
-  more_tables : (table : Table) → HasTables query → length query.tables < 4
+  more_tables : (table : Table) → HasTables query → length query.tables < 4 → list_any (is_table table) query.tables ≡ false
       → HasTables (with_table query table) × (1 ≤ length (with_table query table).tables)
-  more_tables table has room = (
+  more_tables table has room new = (
     record {
       few_tables = omega (arith, room, length-append query.tables (table ∷ []));
+      different = different-more query.tables table has.different new;
       no_conditions = has.no_conditions;
       no_groups = has.no_groups;
       no_items = has.no_items;
@@ -175,6 +200,7 @@ module _ (query : QueryState) where
   more_conditions left comparison right new is = record {
     some_tables = is.some_tables;
     few_tables = is.few_tables;
+    different = is.different;
     conditions = All-push (IsCondition query.tables) query.conditions
         (record { left = left; comparison = comparison; right = right }) is.conditions new;
     groups = is.groups;
@@ -186,6 +212,7 @@ module _ (query : QueryState) where
   more_groups column new is = record {
     some_tables = is.some_tables;
     few_tables = is.few_tables;
+    different = is.different;
     conditions = is.conditions;
     groups = All-push (IsOneOf query.tables) query.groups column is.groups new;
     items = is.items;
@@ -198,6 +225,7 @@ module _ (query : QueryState) where
     record {
       some_tables = is.0.some_tables;
       few_tables = is.0.few_tables;
+      different = is.0.different;
       conditions = is.0.conditions;
       groups = is.0.groups;
       items = All-push (IsItem query.tables) query.items item is.0.items new;
@@ -212,6 +240,7 @@ module _ (query : QueryState) where
   all_read is some = record {
     some_tables = is.some_tables;
     few_tables = is.few_tables;
+    different = is.different;
     conditions = is.conditions;
     groups = is.groups;
     some_items = some;
@@ -224,6 +253,7 @@ module _ (query : QueryState) where
   more_keys place descending from_one within is = record {
     some_tables = is.some_tables;
     few_tables = is.few_tables;
+    different = is.different;
     conditions = is.conditions;
     groups = is.groups;
     some_items = is.some_items;
@@ -258,7 +288,7 @@ reached_behind query nexts.From word is =
     where_holds (bytes_eq word (codes "from")) (query, nexts.Table) IsBehind (λ _. (is.0, omega (arith, none)))
 reached_behind query nexts.Table word is = next_holds (table_named word) (table_after query) IsBehind
     (λ table _. where_holds (not (list_any (is_table table) query.tables)) (with_table query table, nexts.BehindTable)
-    IsBehind (λ _. more_tables query table is.0 is.1))
+    IsBehind (λ new. more_tables query table is.0 is.1 (not-true _ new)))
 reached_behind query nexts.BehindTable word is =
     let right = behind_tables query is.0 is.1 in
     either_holds (bytes_eq word (codes ",")) _ _ IsBehind

@@ -1,6 +1,7 @@
 -- Queries.
-use Rattle.std.specs.Prelude.{◌≡◌, ◌≤◌, List, [], length, Some, IsSome, All, ⊤}
-use Rattle.std.specs.List.{IsAmong}
+use Rattle.std.specs.Prelude.{◌≡◌, ◌≤◌, ◌==◌, false, List, [], ◌∷◌, length, Some, IsSome, All, ⊤}
+use Rattle.std.specs.List.{IsAmong, list_any}
+use Rattle.hy_rows.specs.Catalogue.{place_of}
 use Rattle.hy_rows.specs.declared.catalogue.Table.{Table}
 use Rattle.hy_query.specs.declared.column.Column.{Column}
 use Rattle.hy_query.specs.declared.column.Kind.{Kind}
@@ -52,10 +53,16 @@ IsItem tables (items.Sum column) = IsColumn tables Whole column
 IsItem tables (items.Min column) = IsOneOf tables column
 IsItem tables (items.Max column) = IsOneOf tables column
 
+-- no table stands twice among some
+abbrev pub AreDifferent : List Table → Type 0
+AreDifferent [] = ⊤
+AreDifferent (table ∷ later) = (list_any (λ other. place_of table == place_of other) later ≡ false) × AreDifferent later
+
 -- what holds of each query that a text says
 pub record IsQuery (query : QueryState) : Type 0 where
   pub some_tables : 1 ≤ length query.tables
   pub few_tables : length query.tables ≤ 4
+  pub different : AreDifferent query.tables
   pub conditions : All (IsCondition query.tables) query.conditions
   pub groups : All (IsOneOf query.tables) query.groups
   pub some_items : 1 ≤ length query.items

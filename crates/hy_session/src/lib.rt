@@ -1,9 +1,11 @@
-//! Sessions of analysts: what is asked of a snapshot of the whole database while payments run.
+//! Sessions of analysts: what is asked of a snapshot of the whole database while payments run. What whoever asks names of the
+//! crate below is passed on.
 #![tactic(auto)]
 
 mod rows;
 mod scans;
 mod session;
 
-pub use scans::{run, run_counted};
+pub use hy_answers::{Answer, text_of};
+pub use scans::{run, run_counted, run_in, run_par};
 pub use session::{Session, WarehouseReport};

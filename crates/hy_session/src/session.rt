@@ -14,8 +14,8 @@ ghost use Rattle.hy_session.specs.Databases.{lists_of};
 ghost use Rattle.hy_session.specs.Reports.{broken_condition, report_line, report_of};
 
 use crate::rows::{rows_of_all, tables_of_all};
-use crate::scans::run;
-use hy_answers::text_of;
+use crate::scans::{run, run_in, run_par};
+use hy_answers::{Answer, text_of};
 use hy_conditions::first_broken;
 use hy_forks::{Loaded, Partition, Parts, SnapshotAll, close_all, fork_all_from};
 use hy_query::{Query, parse_query};
@@ -23,6 +23,7 @@ use hy_rows::{NewOrder, Tables, Warehouse};
 use hy_schema::Refusal;
 use std::alloc::{AllocError, Global};
 use std::marker::Model;
+use std::thread::Threads;
 
 /// What a report says of one warehouse.
 #[derive(Clone, Copy, Debug, PartialEq, Eq)]
@@ -71,6 +72,33 @@ impl<const N: usize> Session<N> {
             → lists_of_all N self.now ≡ lists_of database }
     {
         let _all = &self.all;
+    }
+
+    /// The answer to a query. Threads go over the rows of the outermost table side by side, on all processors. E1.
+    pub fn query<R: Threads + Sync>(
+        &self,
+        rt: &R,
+        alloc: Global,
+        query: &Query<'_>,
+    ) -> Result<Answer, Refusal>
+        ensures answer { IfOk result (λ answer. answer ≡ answer_of query.now (lists_of_all N self.now)) }
+        ensures refused { IfErr result (λ why. why ≡ NoMemory) }
+    {
+        Ok(run_par(rt, alloc, query, &self.all)?)
+    }
+
+    /// The same in so many pieces. E1.
+    pub fn query_in<R: Threads + Sync>(
+        &self,
+        rt: &R,
+        alloc: Global,
+        query: &Query<'_>,
+        pieces: usize,
+    ) -> Result<Answer, Refusal>
+        ensures answer { IfOk result (λ answer. answer ≡ answer_of query.now (lists_of_all N self.now)) }
+        ensures refused { IfErr result (λ why. why ≡ NoMemory) }
+    {
+        Ok(run_in(rt, alloc, query, &self.all, pieces)?)
     }
 
     /// The text of the answer to a query: a record a row, then how many rows there are. E1.

@@ -3,7 +3,7 @@
 ghost use Rattle.std.specs.Prelude.{◌≡◌, ◌≤◌, length};
 
 use crate::commands::order_of;
-use crate::halls::{Hall, Request};
+use crate::halls::{Hall, MAX_FRAMES, Request};
 use crate::model::{Model, Rows, random_command};
 use hy_commands::{Command, Commit, Edition, Name, Payment, Reply, Who};
 use hy_loads::Load;
@@ -246,7 +246,7 @@ fn refused_afar<K: Loaded, R: Abort + AllocGlobal>(rt: &R, mut hall: Hall<K>) {
     let unknown = order_of(rt, 1, &[(1, 1), (2, 1), (3, 1), (4, 1), (21, 2)]);
     is_refused(rt, &mut hall, unknown, Refusal::NoSuchItem);
     let taken = hall.fork(rt, rt.alloc()).expect(rt, "a snapshot");
-    let used = 2000u64.saturating_sub(hall.part(rt, 2).free());
+    let used = MAX_FRAMES.saturating_sub(hall.part(rt, 2).free());
     assert!(rt; hall.ask(rt, 2, Request::Frames(used)).is_ok());
     let order = order_of(rt, 1, &[(1, 2), (2, 1), (3, 1), (4, 1), (5, 1)]);
     is_refused(rt, &mut hall, order, Refusal::NoFrame);

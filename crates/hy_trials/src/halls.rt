@@ -18,6 +18,9 @@ use std::alloc::Global;
 use std::marker::PhantomData;
 use std::process::Abort;
 
+/// So many frames may be in use in each partition that a test makes here.
+pub const MAX_FRAMES: u64 = 20_000;
+
 /// What a test asks of one partition.
 #[derive(Drop)]
 pub enum Request {
@@ -122,7 +125,10 @@ impl<K: Loaded> Hall<K> {
         requires partitions { kit.partitions ≡ length load.now.tables.warehouses }
     {
         let (_passes, journal, seats, clients) = kit.open::<K>().expect(rt, "passes");
-        let parts = partitions_of(rt.alloc(), load, seats, 2000, kept).expect(rt, "partitions");
+        let parts = partitions_of(rt.alloc(), load, seats, MAX_FRAMES, kept).expect(
+            rt,
+            "partitions",
+        );
         Hall {
             parts,
             journal,

@@ -8,11 +8,13 @@ use hy_commands::{Commit, Reply};
 use hy_loads::Load;
 use hy_partition::Loaded;
 use hy_passes::{Kit, make};
+use hy_query::parse_query;
 use hy_schema::Refusal;
-use hy_session::{Session, WarehouseReport};
+use hy_session::{Session, WarehouseReport, run_counted, text_of};
 use hy_tables::generate;
 use std::marker::Brand;
 use std::process::Abort;
+use std::thread::Threads;
 
 /// What a test does with the partitions of a generated load.
 #[derive(Clone, Copy)]
@@ -20,19 +22,26 @@ enum Case {
     AnswersTheSame,
     PassedOn,
     WithoutMemory,
+    InPieces,
+    Counted,
     BrokenTexts,
 }
 
-/// Makes partitions for two warehouses, three customers a district and twenty items, and runs a test on them.
-fn run<R: Abort + AllocGlobal>(rt: &R, case: Case) {
-    let load = generate(rt.alloc(), 2, 3, 20).expect(rt, "a load");
+/// Makes partitions for two warehouses, with as many customers a district and items as a test wants, and runs it on them.
+fn run<R: Threads + Abort + AllocGlobal + Sync>(rt: &R, case: Case) {
+    let (customers, items) = match case {
+        Case::InPieces => (3, 5_000),
+        Case::Counted => (300, 20),
+        _ => (3, 20),
+    };
+    let load = generate(rt.alloc(), 2, customers, items).expect(rt, "a load");
     assert!(rt; load.tables().warehouses.len() == 2);
     let kit = make::<Commit>(rt.alloc(), 2, 2, 1).expect(rt, "a kit");
     run_in_world::<Brand, R>(rt, &load, kit, case);
 }
 
 /// The same in the world of the load and the kit.
-fn run_in_world<K: Loaded, R: Abort + AllocGlobal>(
+fn run_in_world<K: Loaded, R: Threads + Abort + AllocGlobal + Sync>(
     rt: &R,
     load: &Load,
     kit: Kit<Commit>,
@@ -47,6 +56,8 @@ fn run_in_world<K: Loaded, R: Abort + AllocGlobal>(
         Case::AnswersTheSame => answers_the_same(rt, hall),
         Case::PassedOn => passed_on(rt, hall),
         Case::WithoutMemory => without_memory(rt, hall),
+        Case::InPieces => in_pieces(rt, hall),
+        Case::Counted => counted(rt, hall),
         Case::BrokenTexts => broken_texts(rt, hall),
     }
 }
@@ -236,6 +247,74 @@ fn without_memory<K: Loaded, R: Abort + AllocGlobal>(rt: &R, mut hall: Hall<K>) 
 #[test]
 fn a_query_without_memory(rt: HostRuntime) {
     run(&rt, Case::WithoutMemory);
+}
+
+/// A query has the same text in so many pieces as in one, and on all processors.
+fn same_in_pieces<R: Threads + Abort + AllocGlobal + Sync>(
+    rt: &R,
+    session: &Session<4096>,
+    text: &str,
+    pieces: usize,
+) {
+    let query = parse_query(rt.alloc(), text.as_bytes()).expect(rt, "a query");
+    let whole = session.answer(rt.alloc(), &query).expect(rt, "an answer");
+    let parts = session
+        .query_in(rt, rt.alloc(), &query, pieces)
+        .expect(rt, "an answer in pieces");
+    let beside = session
+        .query(rt, rt.alloc(), &query)
+        .expect(rt, "an answer by threads");
+    let parts = text_of(rt.alloc(), &parts).expect(rt, "a text");
+    let beside = text_of(rt.alloc(), &beside).expect(rt, "a text");
+    assert!(rt; parts == whole);
+    assert!(rt; beside == whole);
+}
+
+/// Tables of no row, of two, of sixty and of ten thousand are outermost, alone and joined, with groups and without, and with
+/// sums that wrap nowhere, in fewer pieces than blocks and in more than rows.
+fn in_pieces<K: Loaded, R: Threads + Abort + AllocGlobal + Sync>(rt: &R, mut hall: Hall<K>) {
+    place_first(rt, &mut hall);
+    let opened = hall.open_session(rt, rt.alloc());
+    for text in [
+        "from stock where s_quantity < 20 select sum s_ytd",
+        "from stock select s_i_id, s_w_id, s_quantity",
+        "from stock group s_quantity select s_quantity, count, min s_i_id, max s_w_id order 2 desc, 1",
+        "from stock, item where s_i_id = i_id and i_price > 9000 group i_name select i_name, sum s_quantity",
+        "from item, stock where i_id = s_i_id group i_im_id select i_im_id, count order 1",
+        "from warehouse select w_id, w_name",
+        "from customer, district where c_w_id = d_w_id and c_d_id = d_id select c_last, d_name, c_id",
+        "from neworder, item select count",
+        "from orderline, item, stock where ol_i_id = i_id and s_i_id = i_id and s_w_id = ol_supply_w_id select i_name, s_quantity",
+    ] {
+        for pieces in [0, 1, 2, 3, 4, 16, 20_000] {
+            same_in_pieces(rt, &opened.session, text, pieces);
+        }
+    }
+    hall.close_session(rt, opened);
+}
+
+#[test]
+fn queries_in_pieces(rt: HostRuntime) {
+    run(&rt, Case::InPieces);
+}
+
+/// 6,000 customers with as many payments, joined by three columns: each row is scanned once, and each customer tries the one
+/// payment that is theirs.
+fn counted<K: Loaded, R: Abort + AllocGlobal>(rt: &R, mut hall: Hall<K>) {
+    let taken = hall.fork(rt, rt.alloc()).expect(rt, "a snapshot");
+    let text =
+        "from customer, history where c_w_id = h_c_w_id and c_d_id = h_c_d_id and c_id = h_c_id group h_w_id select h_w_id, count";
+    let query = parse_query(rt.alloc(), text.as_bytes()).expect(rt, "a query");
+    let (answer, count) = run_counted(rt.alloc(), &query, &taken.all).expect(rt, "an answer");
+    let printed = text_of(rt.alloc(), &answer).expect(rt, "a text");
+    assert!(rt; printed.as_slice() == b"1,3000\n2,3000\n2 rows\n".as_slice());
+    assert!(rt; count == 18_000);
+    hall.close(rt, taken);
+}
+
+#[test]
+fn customers_with_their_payments(rt: HostRuntime) {
+    run(&rt, Case::Counted);
 }
 
 /// A text that says no query is refused where it fails, and the session answers the next one.

@@ -1,18 +1,21 @@
 -- What a query names of its tables, and what was read of them.
-use Rattle.std.specs.Prelude.{◌≡◌, List, [], ◌∷◌, ◌++◌, length, map}
+use Rattle.std.specs.Prelude.{◌≡◌, ⊤, false, if◌then◌else◌, List, [], ◌∷◌, ◌++◌, length, map, true}
 use Rattle.std.specs.List.{AllByRecursion, flat_map}
-use Rattle.hy_rows.specs.Tables.{Lists}
 use Rattle.hy_columns.specs.Columns.{column_at, values_of}
+use Rattle.hy_columns.specs.declared.values.ColumnValues.{ColumnValues}
 use Rattle.hy_query.specs.declared.column.Column.{Column}
 use Rattle.hy_query.specs.declared.query.Condition.{Condition}
 use Rattle.hy_query.specs.declared.query.Operand.{Operand}
 use Rattle.hy_query.specs.declared.query.Operand.TheVariants as operands
 use Rattle.hy_query.specs.declared.query.SelectItem.{SelectItem}
 use Rattle.hy_query.specs.declared.query.SelectItem.TheVariants as items
+use Rattle.hy_query.specs.Language.{is_table}
 use Rattle.hy_query.specs.Queries.{QueryState}
-use Rattle.hy_query.specs.Rows.{rows_of}
-use Rattle.hy_answers.specs.declared.sources.SourceColumn.{SourceColumn}
+use Rattle.hy_query.specs.Rows.{Row}
+use Rattle.hy_rows.specs.declared.catalogue.Table.{Table}
+use Rattle.hy_rows.specs.declared.value.Value.{Value}
 use Rattle.hy_answers.specs.declared.sources.Sources.{Sources}
+use Rattle.hy_answers.specs.inside.Pieces.{AllRows}
 use Rattle.hy_answers.specs.inside.Sources.{values_for}
 
 -- the columns that are named by what a column is compared with, by a condition, and by an item
@@ -35,15 +38,31 @@ abbrev pub names_of : QueryState → List Column
 names_of query =
     flat_map names_in_condition query.conditions ++ (query.groups ++ flat_map names_in_item query.items)
 
--- a column that was read has the values that it has in the lists
-abbrev pub IsSource : Lists → SourceColumn → Type 0
-IsSource lists source =
-    values_of source.values ≡ column_at source.column.place (rows_of lists source.column.table)
+-- each column that isn't of the first table has the values that the lists have
+abbrev pub AreLater : AllRows → Table → List Column → List ColumnValues → Type 0
+AreLater lists first [] [] = ⊤
+AreLater lists first (name ∷ names) (values ∷ later) =
+    (is_table first name.table ≡ false → values_of values ≡ column_at name.place (lists name.table))
+    × AreLater lists first names later
+AreLater lists first names later = ⊥
+
+-- and each that is has those of some rows
+abbrev pub AreHere : List Row → Table → List Column → List ColumnValues → Type 0
+AreHere rows first [] [] = ⊤
+AreHere rows first (name ∷ names) (values ∷ here) =
+    (is_table first name.table ≡ true → values_of values ≡ column_at name.place rows) × AreHere rows first names here
+AreHere rows first names here = ⊥
+
+-- the values of each column: of the first table those that were read here, and else those that were read before
+abbrev pub chosen : Table → List Column → List ColumnValues → List ColumnValues → List (List Value)
+chosen first (name ∷ names) (old ∷ later) (new ∷ here) =
+    (if is_table first name.table then values_of new else values_of old) ∷ chosen first names later here
+chosen first names later here = []
 
 -- what was read of a query's tables is what the lists have
-abbrev pub IsReadFrom : Lists → QueryState → Sources → Type 0
+abbrev pub IsReadFrom : AllRows → QueryState → Sources → Type 0
 IsReadFrom lists query sources =
-    (sources.counts.items ≡ map (λ table. length (rows_of lists table)) query.tables)
+    (sources.counts.items ≡ map (λ table. length (lists table)) query.tables)
     × AllByRecursion
-    (λ column. values_for sources.columns.items column ≡ column_at column.place (rows_of lists column.table))
+    (λ column. values_for sources.columns.items column ≡ column_at column.place (lists column.table))
     (names_of query)

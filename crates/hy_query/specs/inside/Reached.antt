@@ -2,11 +2,12 @@
 use Rattle.std.specs.Prelude.{◌≡◌, ◌<◌, ◌≤◌, [], length, All}
 use Rattle.hy_query.specs.declared.parse.Next.{Next}
 use Rattle.hy_query.specs.declared.parse.Next.TheVariants as nexts
-use Rattle.hy_query.specs.Queries.{IsCondition, IsItem, IsOneOf, IsQuery, QueryState}
+use Rattle.hy_query.specs.Queries.{AreDifferent, IsCondition, IsItem, IsOneOf, IsQuery, QueryState}
 
 -- no condition, group, item or key was read
 pub record HasTables (query : QueryState) : Type 0 where
   pub few_tables : length query.tables ≤ 4
+  pub different : AreDifferent query.tables
   pub no_conditions : query.conditions ≡ []
   pub no_groups : query.groups ≡ []
   pub no_items : query.items ≡ []
@@ -16,6 +17,7 @@ pub record HasTables (query : QueryState) : Type 0 where
 pub record IsRight (query : QueryState) : Type 0 where
   pub some_tables : 1 ≤ length query.tables
   pub few_tables : length query.tables ≤ 4
+  pub different : AreDifferent query.tables
   pub conditions : All (IsCondition query.tables) query.conditions
   pub groups : All (IsOneOf query.tables) query.groups
   pub items : All (IsItem query.tables) query.items

@@ -1,5 +1,5 @@
 use Rattle.std.proofs.Common.{◌≡◌, drop}
-use Rattle.hy_answers.specs.inside.Answers.{row_at}
+use Rattle.hy_tallies.specs.Lines.{row_at}
 use Rattle.hy_answers.specs.inside.Orders.{rows_order}
 use Rattle.hy_answers.proofs.sorting.order_by_keys.Given as goal
 

@@ -1,8 +1,8 @@
 use Rattle.std.proofs.Common.{◌∙◌, ap, rules, sym}
 use Rattle.hy_query.specs.Meaning.{comes_before}
 use Rattle.hy_query.specs.Sorting.{sorted}
-use Rattle.hy_answers.specs.inside.Answers.{row_at}
-use Rattle.hy_answers.specs.inside.Numbers.{upto}
+use Rattle.hy_tallies.specs.Lines.{row_at}
+use Rattle.hy_tallies.specs.Numbers.{upto}
 use Rattle.hy_answers.proofs.RankLaws.{sorted-by_closure}
 use Rattle.hy_answers.proofs.SortLaws.{sorted-none}
 use Rattle.hy_answers.proofs.sorting.order_rows.Goals as goal

@@ -1,6 +1,6 @@
 use Rattle.std.proofs.Common.{[], ℕ, List, map, take}
 use Rattle.hy_answers.specs.Texts.{field_of}
-use Rattle.hy_answers.specs.inside.Answers.{row_at}
+use Rattle.hy_tallies.specs.Lines.{row_at}
 use Rattle.hy_answers.specs.inside.Writers.{HasFields}
 use Rattle.hy_answers.proofs.writing.write_row.Given as goal
 

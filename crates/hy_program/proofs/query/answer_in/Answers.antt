@@ -61,5 +61,5 @@ returns-clause-answer g c =
     (subst (λ (lists : Lists). SpellsDatabase 4_096 (database_of lists) taken) (sym c.requires.load) load) in
     let rows : lists_of_all 4_096 c.new-session.result ≡ by_warehouse c.args.load.now =
     c.shows.ensures (database_of c.args.load.now) (some-warehouses c.args.load.now c.sound.ensures) spells in
-    subst (λ (lists : Lists). IfOk c.answer-answer.result (λ printed. printed.items
-    ≡ answer_text (answer_of c.args.query.now lists))) rows c.answer-answer.ensures.answer
+    subst (λ (lists : Lists). IfOk c.answered-answer.result (λ printed. printed.items
+    ≡ answer_text (answer_of c.args.query.now lists))) rows c.answered-answer.ensures.answer

@@ -1,0 +1,12 @@
+pub mod ListLaws
+pub mod KeyLaws
+pub mod GroupLaws
+pub mod StepLaws
+pub mod OwnedLaws
+pub mod OrderLaws
+pub mod FoundLaws
+pub mod NumberedLaws
+pub mod TallyLaws
+pub mod MergeLaws
+pub mod AppendLaws
+pub mod RepeatLaws

@@ -1,0 +1,4 @@
+pub mod Numbers
+pub mod Lines
+pub mod Tallies
+pub mod inside
