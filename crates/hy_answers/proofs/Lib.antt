@@ -25,5 +25,6 @@ pub mod AnswerLaws
 pub mod PieceLaws
 pub mod PlanLaws
 pub mod ChunkLaws
+pub mod BesideLaws
 pub mod ReadLaws
 pub mod TextLaws

@@ -16,10 +16,12 @@ mod own;
 mod pieces;
 mod plan;
 mod reading;
+mod results;
 mod rows;
 mod sorting;
 mod sources;
 mod text;
+mod threads;
 mod values;
 mod writing;
 

@@ -10,11 +10,14 @@ ghost use Rattle.hy_query.specs.Language.{is_table};
 ghost use Rattle.hy_query.specs.Rows.{rows_of};
 ghost use Rattle.hy_answers.specs.inside.Reading.{AreHere, AreLater, chosen};
 
+use crate::results::all_ok;
 use crate::sources::{SourceColumn, same_table};
 use hy_columns::{Block, ColumnValues, Scan, column_of, count_of, read_block};
 use hy_query::Column;
 use hy_schema::Table;
+use rayon::prelude::*;
 use std::alloc::{AllocError, Global};
+use std::thread::Threads;
 
 /// How many rows each table has.
 pub(crate) fn read_counts<const N: usize>(
@@ -64,6 +67,31 @@ pub(crate) fn read_later<'a, const N: usize>(
         later.push(later_column(alloc, scan, first, column)?)?;
     }
     Ok(later)
+}
+
+/// The values of the same columns, which threads read side by side.
+pub(crate) fn read_later_beside<'a, R: Threads + Sync, const N: usize>(
+    rt: &R,
+    alloc: Global,
+    scan: &'a Scan<'_, N>,
+    first: Table,
+    names: &[Column],
+) -> Result<Vec<ColumnValues<'a>>, AllocError>
+    requires { All (λ column. IsSome (kind_of column)) names.now }
+    ensures { IfOk result (λ later. AreLater (rows_of (lists_in_scan N scan.now)) first names.now later.items) }
+{
+    let read = names
+        .par_iter()
+        .with_min_len(1)
+        .map(
+            |column: &Column| -> Result<ColumnValues<'_>, AllocError>
+                requires { IsSome (kind_of column.now) }
+                ensures { IfOk result (λ values. is_table first column.now.table ≡ false
+                    → values_of values ≡ column_at column.now.place (rows_of (lists_in_scan N scan.entry.now) column.now.table)) }
+            { later_column(alloc, scan, first, column) },
+        )
+        .collect(rt, alloc)?;
+    all_ok(alloc, read)
 }
 
 /// As many buffers as there are columns.

@@ -3,3 +3,4 @@ pub mod Groups
 pub mod Keys
 pub mod Lines
 pub mod Numbers
+pub mod Runs

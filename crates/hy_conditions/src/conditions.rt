@@ -3,7 +3,7 @@
 ghost use Rattle.std.specs.Prelude.{◌≡◌, IfOk};
 ghost use Rattle.hy_schema.specs.Conditions.{first_broken};
 
-use crate::customers::{meets_condition_10, meets_condition_12};
+use crate::customers::{delivered_in, meets_condition_10, meets_condition_12};
 use crate::districts::{
     meets_condition_2, meets_condition_3, meets_condition_4, meets_condition_9,
 };
@@ -44,10 +44,11 @@ pub fn first_broken(alloc: Global, tables: &Tables) -> Result<Option<u8>, AllocE
     if !meets_condition_9(alloc, tables)? {
         return Ok(Some(9));
     }
-    if !meets_condition_10(alloc, tables)? {
+    let delivered = delivered_in(alloc, tables)?;
+    if !meets_condition_10(alloc, tables, &delivered)? {
         return Ok(Some(10));
     }
-    if !meets_condition_12(alloc, tables)? {
+    if !meets_condition_12(tables, &delivered) {
         return Ok(Some(12));
     }
     Ok(None)

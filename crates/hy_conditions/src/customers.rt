@@ -47,14 +47,27 @@ pub struct Delivered {
 /// The parts of a sum are the quotient and the remainder by this.
 const PART: i128 = 9_223_372_036_854_775_808;
 
-/// Whether the rows meet condition 10.
-pub fn meets_condition_10(alloc: Global, tables: &Tables) -> Result<bool, AllocError>
+/// For each customer what was delivered, by the rows of all tables.
+pub fn delivered_in(alloc: Global, tables: &Tables) -> Result<Delivered, AllocError>
+    ensures { IfOk result (λ delivered. (key : CustomerId)
+        → delivered_at delivered key ≡ delivered_with key tables.now.orders tables.now.order_lines) }
+{
+    delivered_by_customer(alloc, tables.list(), tables.list())
+}
+
+/// Whether the rows meet condition 10. What was delivered was found before.
+pub fn meets_condition_10(
+    alloc: Global,
+    tables: &Tables,
+    delivered: &Delivered,
+) -> Result<bool, AllocError>
+    requires { (key : CustomerId)
+        → delivered_at delivered.now key ≡ delivered_with key tables.now.orders tables.now.order_lines }
     ensures { IfOk result (λ meets. meets ≡ condition_10 tables.now) }
 {
     let customers: &[Customer] = tables.list();
-    let delivered = delivered_by_customer(alloc, tables.list(), tables.list())?;
     let paid = paid_by_customer(alloc, tables.list())?;
-    Ok(are_delivered_less_paid(customers, &delivered, &paid))
+    Ok(are_delivered_less_paid(customers, delivered, &paid))
 }
 
 /// Whether C_BALANCE of each customer and what was paid for the customer come to what was delivered.
@@ -96,13 +109,14 @@ fn balance_and_paid(row: &Customer, paid: &IndexMap<CustomerId, i128>) -> i128
     i128::from(balance) + sum
 }
 
-/// Whether the rows meet condition 12.
-pub fn meets_condition_12(alloc: Global, tables: &Tables) -> Result<bool, AllocError>
-    ensures { IfOk result (λ meets. meets ≡ condition_12 tables.now) }
+/// Whether the rows meet condition 12. What was delivered was found before.
+pub fn meets_condition_12(tables: &Tables, delivered: &Delivered) -> bool
+    requires { (key : CustomerId)
+        → delivered_at delivered.now key ≡ delivered_with key tables.now.orders tables.now.order_lines }
+    ensures { result ≡ condition_12 tables.now }
 {
     let customers: &[Customer] = tables.list();
-    let delivered = delivered_by_customer(alloc, tables.list(), tables.list())?;
-    Ok(are_balanced(customers, &delivered))
+    are_balanced(customers, delivered)
 }
 
 /// Whether C_BALANCE + C_YTD_PAYMENT of each customer is what was delivered.

@@ -63,10 +63,13 @@ fn note_sum<V: ByPlace>(
         (column.new ≡ noted aggregates.Sum column.old number (value_at (V.values values.now) line)) }
 {
     let added = number_of(&values.value(line));
-    if number < column.len() {
-        return column.add(number, added);
+    if number >= column.len() {
+        return column.push_number(added);
     }
-    column.push_number(added)
+    if column.add_small(number, added) {
+        return Ok(());
+    }
+    column.add(number, added)
 }
 
 /// Puts a value in the place of a group's best, where it is better.

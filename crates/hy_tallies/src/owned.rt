@@ -1,6 +1,6 @@
 //! Values that are owned.
 
-ghost use Rattle.std.specs.Prelude.{◌≡◌, ◌==◌, ◌<◌, ◌∷◌, ◌++◌, ◌+ℤ◌, [], IfOk, IfSome, OnOk, length, pos, replicate, slice_index_or, slice_set};
+ghost use Rattle.std.specs.Prelude.{◌≡◌, ◌==◌, ◌<◌, ◌∷◌, ◌++◌, ◌+ℤ◌, [], IfOk, IfSome, OnOk, false, length, pos, replicate, slice_index_or, slice_set, true};
 ghost use Rattle.hy_query.specs.Meaning.{number_in, wrapped};
 ghost use Rattle.hy_rows.specs.Rows.{value_at};
 ghost use Rattle.hy_rows.specs.declared.value.Value.TheVariants.{Text, Whole};
@@ -139,27 +139,38 @@ impl OwnedValues {
         self.others.set_text(place, text)
     }
 
+    /// Adds to the number at a place, where both have 64 bits and their sum has, and says whether it did.
+    pub(crate) fn add_small(&mut self, place: usize, number: i128) -> bool
+        ensures added { result ≡ true → self.new ≡ slice_set self.old place
+            (Whole (wrapped (number_in (value_at self.old place) +ℤ number))) }
+        ensures same { result ≡ false → self.new ≡ self.old }
+    {
+        match small_sum(&self.numbers, place, number) {
+            Some(sum) => {
+                self.numbers[place] = sum;
+                true
+            }
+            None => false,
+        }
+    }
+
     /// Adds to the number at a place, modulo 2^128.
     pub fn add(&mut self, place: usize, number: i128) -> Result<(), AllocError>
         ensures { OnOk result (self.new ≡ slice_set self.old place
             (Whole (wrapped (number_in (value_at self.old place) +ℤ number)))) }
     {
-        if let Some(sum) = small_sum(&self.numbers, place, number) {
-            self.numbers[place] = sum;
-            return Ok(());
-        }
         let so_far = number_of(&self.value(place));
         self.set_number(place, so_far.wrapping_add(number))
     }
 }
 
-/// The sum of one of some numbers and another one, where it has 64 bits.
+/// The sum of one of some numbers and another one, where both have 64 bits and their sum has.
 fn small_sum(numbers: &[i64], place: usize, number: i128) -> Option<i64>
     ensures within { IfSome result (λ sum. place < length numbers.now) }
     ensures sum { IfSome result (λ sum. sum ≡ slice_index_or numbers.now place (pos 0) +ℤ number) }
 {
-    let so_far = i128::from(*numbers.get(place)?);
-    i64::try_from(so_far.checked_add(number)?).ok()
+    let added = i64::try_from(number).ok()?;
+    numbers.get(place)?.checked_add(added)
 }
 
 /// The number that a value is, 0 for a text.

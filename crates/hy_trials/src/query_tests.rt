@@ -30,8 +30,8 @@ enum Case {
 /// Makes partitions for two warehouses, with as many customers a district and items as a test wants, and runs it on them.
 fn run<R: Threads + Abort + AllocGlobal + Sync>(rt: &R, case: Case) {
     let (customers, items) = match case {
-        Case::InPieces => (3, 5_000),
-        Case::Counted => (300, 20),
+        Case::InPieces => (3, 4_097),
+        Case::Counted => (3_000, 20),
         _ => (3, 20),
     };
     let load = generate(rt.alloc(), 2, customers, items).expect(rt, "a load");
@@ -51,7 +51,11 @@ fn run_in_world<K: Loaded, R: Threads + Abort + AllocGlobal + Sync>(
     requires kit { kit ≡ K.passes }
     requires partitions { kit.partitions ≡ length load.now.tables.warehouses }
 {
-    let hall = Hall::<K>::new(rt, load, kit, 200);
+    let frames = match case {
+        Case::Counted => 10_000,
+        _ => 200,
+    };
+    let hall = Hall::<K>::new(rt, load, kit, frames);
     match case {
         Case::AnswersTheSame => answers_the_same(rt, hall),
         Case::PassedOn => passed_on(rt, hall),
@@ -154,6 +158,14 @@ fn place_first<K: Loaded, R: Abort + AllocGlobal>(rt: &R, hall: &mut Hall<K>) {
             }
         )
     );
+}
+
+/// Two orders more.
+fn place_two<K: Loaded, R: Abort + AllocGlobal>(rt: &R, hall: &mut Hall<K>) {
+    for warehouse in [2, 1] {
+        let order = order_of(rt, warehouse, &[(3, 1), (1, 1), (2, 2), (11, 2), (7, 1)]);
+        assert!(rt; matches!(hall.run(rt, order), Reply::NewOrder { .. }));
+    }
 }
 
 /// Pays a hundred times in both warehouses, each fifth time over both, and then places an order of warehouse 2.
@@ -270,26 +282,52 @@ fn same_in_pieces<R: Threads + Abort + AllocGlobal + Sync>(
     assert!(rt; beside == whole);
 }
 
-/// Tables of no row, of two, of sixty and of ten thousand are outermost, alone and joined, with groups and without, and with
-/// sums that wrap nowhere, in fewer pieces than blocks and in more than rows.
+/// Queries whose outermost table has one row, two, sixty, 4,097 or 8,194, alone and joined, with groups and without.
+const BEHIND_ONE_ORDER: [&str; 12] = [
+    "from stock where s_quantity < 20 select sum s_ytd",
+    "from stock select s_i_id, s_w_id, s_quantity",
+    "from stock group s_quantity select s_quantity, count, min s_i_id, max s_w_id order 2 desc, 1",
+    "from stock, item where s_i_id = i_id and i_price > 9000 group i_name select i_name, sum s_quantity",
+    "from item, stock where i_id = s_i_id group i_im_id select i_im_id, count order 1",
+    "from warehouse select w_id, w_name",
+    "from customer, district where c_w_id = d_w_id and c_d_id = d_id select c_last, d_name, c_id",
+    "from neworder, item select count",
+    "from orderline, item, stock where ol_i_id = i_id and s_i_id = i_id and s_w_id = ol_supply_w_id select i_name, s_quantity",
+    "from item where i_price > 1000 select count, sum i_price, min i_name",
+    "from item, stock, warehouse where i_id = s_i_id and s_w_id = w_id and i_im_id < 3 select w_name, i_im_id, s_quantity, i_id order 3, 1, 2 desc",
+    "from orders, orderline where o_w_id = ol_w_id and o_d_id = ol_d_id and o_id = ol_o_id group o_d_id select o_d_id, count, sum ol_amount",
+];
+
+/// Queries whose outermost table has three rows or fifteen.
+const BEHIND_THREE_ORDERS: [&str; 4] = [
+    "from orders select o_w_id, o_d_id, o_id, o_entry_d",
+    "from orders, orderline where o_w_id = ol_w_id and o_d_id = ol_d_id and o_id = ol_o_id group ol_i_id select ol_i_id, count, sum ol_amount",
+    "from orderline, orders where o_w_id = ol_w_id and o_d_id = ol_d_id and o_id = ol_o_id select o_id, ol_number order 2, 1",
+    "from neworder, warehouse, district where no_w_id = w_id and no_d_id = d_id and w_id = d_w_id select w_name, d_name, no_o_id",
+];
+
+/// Queries have the same text in fewer pieces than blocks and in more than rows.
+fn all_same_in_pieces<R: Threads + Abort + AllocGlobal + Sync>(
+    rt: &R,
+    session: &Session<4096>,
+    texts: &[&str],
+) {
+    for text in texts {
+        for pieces in [0, 1, 2, 3, 4, 16, 20_000] {
+            same_in_pieces(rt, session, text, pieces);
+        }
+    }
+}
+
+/// Each query has the same text in any number of pieces.
 fn in_pieces<K: Loaded, R: Threads + Abort + AllocGlobal + Sync>(rt: &R, mut hall: Hall<K>) {
     place_first(rt, &mut hall);
     let opened = hall.open_session(rt, rt.alloc());
-    for text in [
-        "from stock where s_quantity < 20 select sum s_ytd",
-        "from stock select s_i_id, s_w_id, s_quantity",
-        "from stock group s_quantity select s_quantity, count, min s_i_id, max s_w_id order 2 desc, 1",
-        "from stock, item where s_i_id = i_id and i_price > 9000 group i_name select i_name, sum s_quantity",
-        "from item, stock where i_id = s_i_id group i_im_id select i_im_id, count order 1",
-        "from warehouse select w_id, w_name",
-        "from customer, district where c_w_id = d_w_id and c_d_id = d_id select c_last, d_name, c_id",
-        "from neworder, item select count",
-        "from orderline, item, stock where ol_i_id = i_id and s_i_id = i_id and s_w_id = ol_supply_w_id select i_name, s_quantity",
-    ] {
-        for pieces in [0, 1, 2, 3, 4, 16, 20_000] {
-            same_in_pieces(rt, &opened.session, text, pieces);
-        }
-    }
+    all_same_in_pieces(rt, &opened.session, &BEHIND_ONE_ORDER);
+    hall.close_session(rt, opened);
+    place_two(rt, &mut hall);
+    let opened = hall.open_session(rt, rt.alloc());
+    all_same_in_pieces(rt, &opened.session, &BEHIND_THREE_ORDERS);
     hall.close_session(rt, opened);
 }
 
@@ -298,7 +336,7 @@ fn queries_in_pieces(rt: HostRuntime) {
     run(&rt, Case::InPieces);
 }
 
-/// 6,000 customers with as many payments, joined by three columns: each row is scanned once, and each customer tries the one
+/// 60,000 customers with as many payments, joined by three columns: each row is scanned once, and each customer tries the one
 /// payment that is theirs.
 fn counted<K: Loaded, R: Abort + AllocGlobal>(rt: &R, mut hall: Hall<K>) {
     let taken = hall.fork(rt, rt.alloc()).expect(rt, "a snapshot");
@@ -307,8 +345,8 @@ fn counted<K: Loaded, R: Abort + AllocGlobal>(rt: &R, mut hall: Hall<K>) {
     let query = parse_query(rt.alloc(), text.as_bytes()).expect(rt, "a query");
     let (answer, count) = run_counted(rt.alloc(), &query, &taken.all).expect(rt, "an answer");
     let printed = text_of(rt.alloc(), &answer).expect(rt, "a text");
-    assert!(rt; printed.as_slice() == b"1,3000\n2,3000\n2 rows\n".as_slice());
-    assert!(rt; count == 18_000);
+    assert!(rt; printed.as_slice() == b"1,30000\n2,30000\n2 rows\n".as_slice());
+    assert!(rt; count == 180_000);
     hall.close(rt, taken);
 }
 
