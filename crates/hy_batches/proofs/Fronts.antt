@@ -3,7 +3,7 @@ use Rattle.std.proofs.Common.{◌≡◌, ℕ, suc, ◌-◌, ◌+◌, ◌≤◌, 
 use Rattle.std.proofs.lemmas.List.{append-nil}
 use Rattle.hy_batches.specs.declared.fault.ReadFault.{ReadFault}
 use Rattle.hy_batches.specs.declared.fault.ReadFault.TheVariants as faults
-use Rattle.hy_batches.specs.inside.Reading.{◌>>=◌, Fails}
+use Rattle.hy_batches.specs.inside.Reading.{◌>>=◌, Fails, left}
 
 -- what was read before, and what is read then
 abbrev pub with_front : {Row : Type 0} → List Row → Option (List Row × List ℕ) → Option (List Row × List ℕ)
@@ -20,7 +20,7 @@ module _ {Row : Type 0} (row_at : ℕ → List ℕ → Option (Row × List ℕ))
   regroup front row None = refl
 
   -- the rest of reading, once it is known what the next row is
-  next : (number count done : ℕ) (bytes : List ℕ) (read : Option (Row × List ℕ)) → done < count
+  pub next : (number count done : ℕ) (bytes : List ℕ) (read : Option (Row × List ℕ)) → done < count
       → row_at number bytes ≡ read → rows_at number (count - done) bytes
       ≡ (read >>= λ row. rows_at (number + 1) (count - (done + 1)) row.1 >>= λ others. Some (row.0 ∷ others.0, others.1))
   next number count done bytes read within is =
@@ -49,3 +49,26 @@ module _ {Row : Type 0} (row_at : ℕ → List ℕ → Option (Row × List ℕ))
       let ended : count - done ≡ 0 = omega arith in
       sym left ∙ (ap (λ n. with_front front (rows_at number n bytes)) ended ∙ (ap (with_front front) (none number bytes)
       ∙ ap (λ (rows : List Row). Some (rows, bytes)) (append-nil front)))
+
+  -- the same of what is left behind the rows, where they aren't kept
+  left_regroup : (row : Row) (read : Option (List Row × List ℕ)) → left (read >>= λ x. Some (row ∷ x.0, x.1)) ≡ left read
+  left_regroup row (Some x) = refl
+  left_regroup row None = refl
+
+  pub left_more : (number count done : ℕ) (bytes : List ℕ) (row : Row) (after : List ℕ) (whole : Option (List ℕ)) → done < count
+      → row_at number bytes ≡ Some (row, after) → left (rows_at number (count - done) bytes) ≡ whole
+      → left (rows_at (number + 1) (count - (done + 1)) after) ≡ whole
+  left_more number count done bytes row after whole within read rest =
+      sym (ap left (next number count done bytes (Some (row, after)) within read)
+      ∙ left_regroup row (rows_at (number + 1) (count - (done + 1)) after)) ∙ rest
+
+  pub left_fails : (number count done : ℕ) (bytes : List ℕ) (whole : Option (List ℕ)) → done < count
+      → row_at number bytes ≡ None → left (rows_at number (count - done) bytes) ≡ whole → whole ≡ None
+  left_fails number count done bytes whole within read rest =
+      sym rest ∙ ap left (next number count done bytes None within read)
+
+  pub left_done : (number count done : ℕ) (bytes : List ℕ) (whole : Option (List ℕ)) → count ≤ done
+      → left (rows_at number (count - done) bytes) ≡ whole → whole ≡ Some bytes
+  left_done number count done bytes whole past rest =
+      let ended : count - done ≡ 0 = omega arith in
+      sym rest ∙ (ap (λ n. left (rows_at number n bytes)) ended ∙ ap left (none number bytes))

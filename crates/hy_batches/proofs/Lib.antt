@@ -7,6 +7,9 @@ pub mod LengthLaws
 pub mod LogLaws
 pub mod ListLaws
 pub mod NumberLaws
+pub mod NumberedLaws
 pub mod RowForms
 pub mod RowReading
+pub mod SeenLaws
+pub mod SkipLaws
 pub mod WorkedLogs

@@ -70,10 +70,10 @@ BeginsLog batches size =
 
 -- ---- reading
 
--- bytes are read as their batches exactly where they are a log; else the place of what is no batch is told, unless memory
--- ran out before
+-- bytes are read as their batches where they are a log, unless memory lacks; where they are none, the place of what is no
+-- batch is told, whatever memory there is
 abbrev pub Reads : List ℕ → Result (List Batch) Refusal → Type 0
 Reads bytes (Ok batches) = (rest : List ℕ) × IsLog bytes batches rest
 Reads bytes (Err (refusals.LogMalformed place)) = IsFaultyAt bytes place
-Reads bytes (Err refusals.NoMemory) = Unit {0}
+Reads bytes (Err refusals.NoMemory) = (batches : List Batch) × (rest : List ℕ) × IsLog bytes batches rest
 Reads bytes (Err refusal) = ⊥

@@ -2,4 +2,5 @@
 pub mod Logs
 pub mod Nexts
 pub mod Reading
+pub mod Seen
 pub mod Sinks

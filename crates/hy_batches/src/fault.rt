@@ -2,6 +2,10 @@
 
 use std::alloc::{AllocError, AllocFailed};
 
+/// No batch can stand there.
+#[derive(Clone, Copy, Debug, PartialEq, Eq)]
+pub(crate) struct Malformed;
+
 /// Why bytes give no value.
 #[derive(Clone, Copy, Debug, PartialEq, Eq)]
 pub(crate) enum ReadFault {
@@ -30,5 +34,16 @@ impl<T: Drop> From<AllocFailed<T>> for ReadFault {
 
     fn from(_refused: AllocFailed<T>) -> ReadFault {
         ReadFault::NoMemory
+    }
+}
+
+impl From<Malformed> for ReadFault {
+    ghost use Rattle.std.specs.Prelude.{◌≡◌};
+    ghost use Rattle.hy_batches.specs.declared.fault.ReadFault.TheVariants as faults;
+
+    ghost from_gives = { λ _ fault. fault ≡ faults.Malformed };
+
+    fn from(_malformed: Malformed) -> ReadFault {
+        ReadFault::Malformed
     }
 }

@@ -6,6 +6,7 @@ mod fault;
 mod laws;
 mod log;
 mod reading;
+mod seen;
 mod sink;
 mod values;
 mod writing;

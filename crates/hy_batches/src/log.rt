@@ -3,11 +3,11 @@
 ghost use Rattle.std.specs.Prelude.{◌≡◌, ◌++◌, ◌∷◌, [], OnOk};
 ghost use Rattle.hy_batches.specs.Batches.{may_follow};
 ghost use Rattle.hy_batches.specs.Logs.{Reads, has_mark, is_beginning, is_end, is_short};
-ghost use Rattle.hy_batches.specs.inside.Nexts.{IsNext};
+ghost use Rattle.hy_batches.specs.inside.Nexts.{Faults, IsNext, IsWhyUnread, Passes, ReadsSoFar};
 
 use crate::batch::Batch;
-use crate::fault::ReadFault;
-use crate::reading::batch_at;
+use crate::fault::{Malformed, ReadFault};
+use crate::reading::{batch_at, skip_batch};
 use crate::writing::mark;
 use hy_commands::Edition;
 use hy_page::number;
@@ -143,11 +143,54 @@ fn add(batches: &mut Vec<Batch>, batch: Batch) -> Result<(), AllocError>
     Ok(())
 }
 
-/// The batches of a log: those of the first edition, and behind them those of the second. `LogMalformed` where the bytes
-/// are none, with the place of the first byte of what is neither a batch that may stand there nor the begin of one;
-/// `NoMemory` where the batches before it, or its own commits, find none.
-pub fn read_log(alloc: Global, bytes: &[u8]) -> Result<Batches, Refusal>
-    ensures { Reads bytes.now result }
+/// The edition of the batch that bytes begin with, which stand behind a batch of an edition, and what is left. Takes no
+/// memory.
+fn next_edition(edition: Edition, rest: &[u8]) -> Option<(Edition, &[u8])>
+    ensures { Passes (λ read. (read.0, read.1.now)) edition rest.now result }
+{
+    match skip_batch(rest) {
+        Ok((found, after)) => {
+            if may_follow(edition, found) {
+                Some((found, after))
+            } else {
+                None
+            }
+        }
+        Err(Malformed) => None,
+    }
+}
+
+/// The place of the first byte of what is no batch, where bytes are no log. Takes no memory.
+fn fault_in(bytes: &[u8]) -> Option<usize>
+    ensures { Faults bytes.now result }
+{
+    let mut edition = Edition::First;
+    let mut rest = bytes;
+    'batches: while !is_end(rest) {
+        match next_edition(edition, rest) {
+            Some((found, after)) => {
+                edition = found;
+                rest = after;
+            }
+            None => return Some(bytes.len() - rest.len()),
+        }
+    }
+    None
+}
+
+/// Why bytes aren't read for which memory lacks: they are no log, or memory lacks.
+fn why_unread(bytes: &[u8]) -> Refusal
+    ensures { IsWhyUnread bytes.now result }
+{
+    match fault_in(bytes) {
+        Some(place) => Refusal::LogMalformed(place as u64),
+        None => Refusal::NoMemory,
+    }
+}
+
+/// The batches of a log, or the place where bytes fail, as far as memory lasts.
+fn read_batches(alloc: Global, bytes: &[u8]) -> Result<Batches, Refusal>
+    ensures { ReadsSoFar bytes.now result }
 {
     let mut batches = Vec::new(alloc);
     let mut edition = Edition::First;
@@ -162,4 +205,17 @@ pub fn read_log(alloc: Global, bytes: &[u8]) -> Result<Batches, Refusal>
         batches,
         bytes: bytes.len() - rest.len(),
     })
+}
+
+/// The batches of a log: those of the first edition, and behind them those of the second. `LogMalformed` where the bytes
+/// are none, with the place of the first byte of what is neither a batch that may stand there nor the begin of one,
+/// whatever memory there is; `NoMemory` where they are a log and it lacks.
+pub fn read_log(alloc: Global, bytes: &[u8]) -> Result<Batches, Refusal>
+    ensures { Reads bytes.now result }
+{
+    match read_batches(alloc, bytes) {
+        Ok(batches) => Ok(batches),
+        Err(Refusal::NoMemory) => Err(why_unread(bytes)),
+        Err(refusal) => Err(refusal),
+    }
 }

@@ -1,6 +1,6 @@
 //! Commits as bytes.
 
-ghost use Rattle.std.specs.Prelude.{◌≡◌, ◌≤◌, length};
+ghost use Rattle.std.specs.Prelude.{◌≡◌, ◌≤◌, [], ◌∷◌, length};
 ghost use Rattle.std.specs.List.{flat_map};
 ghost use Rattle.hy_batches.specs.Encoding.{batch_bytes, command_bytes, commit_bytes, content_bytes, delivery_bytes, line_bytes, list_bytes, mark, number_bytes, payment_bytes, purchase_bytes, who_bytes};
 
@@ -37,19 +37,49 @@ fn write_number<S: Sink>(sink: &mut S, width: usize, number: u64)
     sink.put(&number.to_le_bytes()[..width]);
 }
 
+/// The lowest byte of a number.
+fn low(number: u64) -> u8
+    ensures { result ∷ [] ≡ number_bytes 1 number }
+{
+    let [first, _, _, _, _, _, _, _] = number.to_le_bytes();
+    first
+}
+
+/// The two lowest bytes of a number, the lowest first.
+fn low_two(number: u64) -> [u8; 2]
+    ensures { result ≡ number_bytes 2 number }
+{
+    let [first, second, _, _, _, _, _, _] = number.to_le_bytes();
+    [first, second]
+}
+
+/// The four lowest bytes of a number, the lowest first.
+fn low_four(number: u64) -> [u8; 4]
+    ensures { result ≡ number_bytes 4 number }
+{
+    let [first, second, third, fourth, _, _, _, _] = number.to_le_bytes();
+    [first, second, third, fourth]
+}
+
+/// All bytes of a number, the lowest first.
+fn all_eight(number: u64) -> [u8; 8]
+    ensures { result ≡ number_bytes 8 number }
+{
+    number.to_le_bytes()
+}
+
 /// Writes which customer is meant.
 fn write_who<S: Sink>(sink: &mut S, who: &Who)
     ensures { S.takes sink.old sink.new (who_bytes who.now) }
 {
     match who {
         Who::Number(number) => {
-            sink.put(&[0]);
-            write_number(sink, 2, *number);
+            let [first, second] = low_two(*number);
+            sink.put(&[0, first, second]);
         }
         Who::Last(name) => {
             let name = name.as_bytes();
-            sink.put(&[1]);
-            write_number(sink, 1, name.len() as u64);
+            sink.put(&[1, low(name.len() as u64)]);
             sink.put(name);
         }
     }
@@ -59,9 +89,10 @@ fn write_who<S: Sink>(sink: &mut S, who: &Who)
 fn write_line<S: Sink>(sink: &mut S, line: &PurchaseLine)
     ensures { S.takes sink.old sink.new (line_bytes line.now) }
 {
-    write_number(sink, 4, line.item);
-    write_number(sink, 1, line.supply_warehouse);
-    write_number(sink, 1, line.quantity);
+    let [first, second, third, fourth] = low_four(line.item);
+    let supplier = low(line.supply_warehouse);
+    let quantity = low(line.quantity);
+    sink.put(&[first, second, third, fourth, supplier, quantity]);
 }
 
 /// Writes the lines of a purchase.
@@ -73,38 +104,63 @@ fn write_lines<S: Sink>(sink: &mut S, lines: &PurchaseLines)
     }
 }
 
-/// Writes a purchase.
+/// Writes a purchase, behind the tag of one.
 fn write_purchase<S: Sink>(sink: &mut S, order: &Purchase)
-    ensures { S.takes sink.old sink.new (purchase_bytes order.now) }
+    ensures { S.takes sink.old sink.new (1 ∷ purchase_bytes order.now) }
 {
-    write_number(sink, 1, order.warehouse);
-    write_number(sink, 1, order.district);
-    write_number(sink, 2, order.customer);
-    write_number(sink, 8, order.at);
-    write_number(sink, 1, order.lines.len() as u64);
+    let warehouse = low(order.warehouse);
+    let district = low(order.district);
+    let [low_customer, high_customer] = low_two(order.customer);
+    let [a, b, c, d, e, f, g, h] = all_eight(order.at);
+    let count = low(order.lines.len() as u64);
+    sink.put(&[
+        1,
+        warehouse,
+        district,
+        low_customer,
+        high_customer,
+        a,
+        b,
+        c,
+        d,
+        e,
+        f,
+        g,
+        h,
+        count,
+    ]);
     write_lines(sink, &order.lines);
 }
 
-/// Writes a payment.
+/// Writes a payment, behind the tag of one.
 fn write_payment<S: Sink>(sink: &mut S, payment: &Payment)
-    ensures { S.takes sink.old sink.new (payment_bytes payment.now) }
+    ensures { S.takes sink.old sink.new (2 ∷ payment_bytes payment.now) }
 {
-    write_number(sink, 1, payment.warehouse);
-    write_number(sink, 1, payment.district);
-    write_number(sink, 1, payment.customer_warehouse);
-    write_number(sink, 1, payment.customer_district);
+    let warehouse = low(payment.warehouse);
+    let district = low(payment.district);
+    let customer_warehouse = low(payment.customer_warehouse);
+    let customer_district = low(payment.customer_district);
+    sink.put(&[
+        2,
+        warehouse,
+        district,
+        customer_warehouse,
+        customer_district,
+    ]);
     write_who(sink, &payment.who);
-    write_number(sink, 4, payment.amount);
-    write_number(sink, 8, payment.at);
+    let [first, second, third, fourth] = low_four(payment.amount);
+    let [a, b, c, d, e, f, g, h] = all_eight(payment.at);
+    sink.put(&[first, second, third, fourth, a, b, c, d, e, f, g, h]);
 }
 
-/// Writes a delivery.
+/// Writes a delivery, behind the tag of one.
 fn write_delivery<S: Sink>(sink: &mut S, delivery: &Delivery)
-    ensures { S.takes sink.old sink.new (delivery_bytes delivery.now) }
+    ensures { S.takes sink.old sink.new (3 ∷ delivery_bytes delivery.now) }
 {
-    write_number(sink, 1, delivery.warehouse);
-    write_number(sink, 1, delivery.carrier);
-    write_number(sink, 8, delivery.at);
+    let warehouse = low(delivery.warehouse);
+    let carrier = low(delivery.carrier);
+    let [a, b, c, d, e, f, g, h] = all_eight(delivery.at);
+    sink.put(&[3, warehouse, carrier, a, b, c, d, e, f, g, h]);
 }
 
 /// Writes a command. One that only reads has no bytes.
@@ -112,18 +168,9 @@ fn write_command<S: Sink>(sink: &mut S, command: &Command)
     ensures { S.takes sink.old sink.new (command_bytes command.now) }
 {
     match command {
-        Command::NewOrder(order) => {
-            sink.put(&[1]);
-            write_purchase(sink, order);
-        }
-        Command::Payment(payment) => {
-            sink.put(&[2]);
-            write_payment(sink, payment);
-        }
-        Command::Delivery(delivery) => {
-            sink.put(&[3]);
-            write_delivery(sink, delivery);
-        }
+        Command::NewOrder(order) => write_purchase(sink, order),
+        Command::Payment(payment) => write_payment(sink, payment),
+        Command::Delivery(delivery) => write_delivery(sink, delivery),
         Command::OrderStatus(_) | Command::StockLevel(_) => {}
     }
 }

@@ -1,7 +1,7 @@
 //! Rounds over the batches of a log in a file.
 
 use hy_batches::{Batches, Sink, Text, read_log, write_batch};
-use hy_files::{FileSystem, MemoryFiles, SystemFiles};
+use hy_files::{FileSystem, MemoryFiles, SystemFiles, new_log};
 use hy_redo::{Log, LogOut};
 use std::alloc::Global;
 
@@ -77,7 +77,7 @@ fn log_rounds<F: FileSystem>(
     files: &mut F,
 ) -> Option<u64> {
     for _ in 0..rounds {
-        let mut log = Log::new(alloc, files.begin_log(alloc, WRITTEN).ok()?);
+        let mut log = Log::new(alloc, new_log(alloc, files, WRITTEN).ok()?);
         write_each(&mut log, batches)?;
         files.end_log(WRITTEN, log.into_out()).ok()?;
     }

@@ -4,7 +4,7 @@ ghost use Rattle.std.specs.Prelude.{◌≡◌, ◌+◌};
 
 use hy_batches::read_log;
 use hy_engine::Open;
-use hy_files::{FileSystem, MemoryFiles};
+use hy_files::{FileSystem, MemoryFiles, new_log};
 use hy_redo::{Failed, Log, LogOut};
 use hy_schema::Refusal;
 use hy_storm::{Figures, Size, storm};
@@ -76,7 +76,7 @@ fn logged<W: LogOut + Drop + Send, R: Threads + Wait + Abort + AllocGlobal + Syn
 #[test]
 fn each_round_of_a_session_leaves_a_batch(rt: HostRuntime) {
     let mut files = MemoryFiles::new(rt.alloc());
-    let out = files.begin_log(rt.alloc(), "log").expect(&rt, "a log");
+    let out = new_log(rt.alloc(), &mut files, "log").expect(&rt, "a log");
     let (figures, out) = logged(&rt, out);
     assert!(&rt; figures.refusal == None);
     assert!(&rt; files.end_log("log", out).is_ok());

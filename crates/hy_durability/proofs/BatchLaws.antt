@@ -154,7 +154,7 @@ projection-behind warehouse front rest =
     ap (filter (names warehouses_of_commit warehouse)) (map-append (λ (e : Entry Commit). e.commit) front rest)
     ∙ filter-append (names warehouses_of_commit warehouse) (commits_in front) (commits_in rest)
 
-one-of : (count : ℕ) (named : List ℕ) → are_warehouses count named ≡ true → list_any (is_between 1 count) named ≡ true
+pub one-of : (count : ℕ) (named : List ℕ) → are_warehouses count named ≡ true → list_any (is_between 1 count) named ≡ true
 one-of count [] are = absurd (false≢true are)
 one-of count (name ∷ named) are =
     let all = (and_parts (nat_lt 0 (length (name ∷ named))) (list_all (is_between 1 count) (name ∷ named)) are).1 in

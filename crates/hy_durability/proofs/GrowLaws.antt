@@ -11,7 +11,6 @@ use Rattle.hy_passes.specs.SerialList.{names}
 use Rattle.hy_rows.specs.Tables.{Lists}
 use Rattle.hy_commands.specs.declared.command.Command.{Command}
 use Rattle.hy_commands.specs.declared.command.Commit.{Commit}
-use Rattle.hy_commands.specs.declared.edition.Edition.{Edition}
 use Rattle.hy_commands.specs.declared.edition.Edition.TheVariants as editions
 use Rattle.hy_commands.specs.Commands.{warehouses_of_commit}
 use Rattle.hy_commands.specs.Replay.{HasWarehouse}

@@ -3,6 +3,10 @@ pub mod VerdictLaws
 pub mod TellLaws
 pub mod GrowLaws
 pub mod BatchLaws
+pub mod FewLaws
 pub mod RunLaws
 pub mod StopLaws
 pub mod TieLaws
+pub mod AgainLaws
+pub mod AcknowledgedLaws
+pub mod LifeLaws

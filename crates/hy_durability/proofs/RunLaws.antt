@@ -1,10 +1,9 @@
 -- A run of events with the batches that its drains give.
-use Rattle.std.proofs.Common.{◌≡◌, ℕ, zero, suc, ◌^◌, ◌<◌, true, false, List, [], ◌∷◌, ◌++◌, take, length, map, inl, inr, refl, sym, ap, ◌∙◌, subst, arith, append_assoc, length-append}
+use Rattle.std.proofs.Common.{◌≡◌, ℕ, zero, suc, ◌+◌, ◌^◌, ◌<◌, ◌≤◌, true, false, List, [], ◌∷◌, ◌++◌, take, length, inl, inr, refl, sym, ap, ◌∙◌, subst, arith, append_assoc, length-append}
 use Rattle.std.specs.Prelude.{IfSome, slice_get}
 use Rattle.std.specs.Option.{option_map, unwrap_or}
-use Rattle.std.proofs.Math.Seq.{drop-append_seam}
 use Rattle.std.proofs.lemmas.List.{append-nil}
-use Rattle.std.proofs.lemmas.List.Elements.{All-append, All-drop, All-nil}
+use Rattle.std.proofs.lemmas.List.Elements.{All-append, All-nil}
 use Rattle.std.proofs.lemmas.Grind.{flat_map-append}
 use Rattle.hy_rows.specs.Tables.{Lists}
 use Rattle.hy_schema.specs.Loads.{IsLoad}
@@ -21,24 +20,30 @@ use Rattle.hy_batches.specs.Grammar.{are_batches, last_edition}
 use Rattle.hy_batches.proofs.LogLaws.{batches-more}
 use Rattle.hy_sound.specs.Sound.{AreSound, IsSoundBatch, list_at}
 use Rattle.hy_sound.proofs.SoundLaws.{sound-more}
-use Rattle.hy_schedules.specs.Schedules.{DoesAll, EventOfAll, HappensAll, KeepsEverything, KeepsPlace, Place, RunsAll, Whole, fresh_place, fresh_whole, place_at, with_drained, with_places}
+use Rattle.hy_schedules.specs.Schedules.{DoesAll, EventOfAll, HappensAll, KeepsEverything, KeepsPlace, Place, RunsAll, Whole, place_at, rested_places, rested_whole, with_drained, with_places}
 use Rattle.hy_schedules.specs.Schedules as all
 use Rattle.hy_schedules.proofs.PlaceLaws.{length-each}
 use Rattle.hy_recovery.specs.Recovering.{joined}
 use Rattle.hy_recovery.specs.inside.Ways.{crossings_in}
 use Rattle.hy_recovery.proofs.PlaceLaws.{at-place, each-from, get-some, get-within}
-use Rattle.hy_durability.specs.Durability.{AreDurable, RunsGiving, batch_of, given}
+use Rattle.hy_durability.specs.Durability.{AreDurable, BeginsLife, RunsGiving, batch_of, given}
 use Rattle.hy_durability.proofs.BatchLaws.{batch-told, lists-are, projection-behind, sound-batch}
+use Rattle.hy_durability.proofs.FewLaws.{few-entries}
 use Rattle.hy_durability.proofs.FitLaws.{AreFit, IsFit}
-use Rattle.hy_durability.proofs.GrowLaws.{AllRunNew, drained-all, drained_at, grows, is_drain, new-each}
+use Rattle.hy_durability.proofs.GrowLaws.{AllRunNew, RunsNew, drained-all, drained_at, grows, is_drain, new-each}
 
 abbrev Batches : Type 0
 Batches = List Batch
 
--- what every schedule keeps
-abbrev pub EveryScheduleKeeps : Type 0
-EveryScheduleKeeps = (lists : Lists) (events : List EventOfAll) (whole : Whole) → IsLoad lists
-    → RunsAll events (fresh_whole lists) whole → KeepsEverything lists whole
+-- what every database at rest keeps, and every schedule that goes on
+abbrev pub EveryRestKeeps : Type 0
+EveryRestKeeps = (lists : Lists) (log : Log) (known : ℕ → ℕ) → IsLoad lists
+    → IsSerial warehouses_of_commit number_of (length lists.tables.warehouses) log
+    → ((client : ℕ) → known client ≤ length log) → KeepsEverything lists (rested_whole lists log known)
+
+abbrev pub EveryScheduleGoesOn : Type 0
+EveryScheduleGoesOn = (lists : Lists) (events : List EventOfAll) (old new : Whole) → IsLoad lists
+    → KeepsEverything lists old → RunsAll events old new → KeepsEverything lists new
 
 -- the batches so far have what stands in a front of the serial list, which was drained, and what runs is of the second
 -- edition
@@ -52,30 +57,40 @@ record IsDrained (lists : Lists) (whole : Whole) (batches : List Batch) : Type 0
       → drained_at whole.places (suc place) ≡ length (projection_of (suc place) front)
   sound : AreSound lists 0 (crossings_in front) batches
   joined_are : (place : ℕ) → place < length whole.places → joined batches place ≡ projection_of (suc place) front
-  fit : AreFit lists whole.log
+  fit : AreFit lists rest
   new_run : AllRunNew whole.places
   told : length whole.log < 2 ^ 32 → are_batches batches ≡ true
 
--- nothing was drained of a fresh database
-drained-fresh : {Row : Type 0} (rows : List Row) (place : ℕ) → drained_at (map (λ row. fresh_place) rows) (suc place) ≡ 0
-drained-fresh [] place = refl
-drained-fresh (row ∷ rows) zero = refl
-drained-fresh (row ∷ rows) (suc place) = drained-fresh rows place
+-- all that a database at rest has kept was drained
+drained-rested : {Row : Type 0} (log : Log) (number : ℕ) (rows : List Row) (place : ℕ) → place < length rows
+    → drained_at (rested_places log number rows) (suc place) ≡ length (projection_of (number + place) log)
+drained-rested log number [] place within = absurd (omega (arith, within))
+drained-rested log number (row ∷ rows) zero within =
+    let same : number ≡ number + 0 = omega arith in ap (λ n. length (projection_of n log)) same
+drained-rested log number (row ∷ rows) (suc place) within =
+    let next : suc number + place ≡ number + suc place = omega arith in
+    drained-rested log (suc number) rows place (omega (arith, within)) ∙ ap (λ n. length (projection_of n log)) next
 
-new-fresh : {Row : Type 0} (rows : List Row) → AllRunNew (map (λ row. fresh_place) rows)
-new-fresh rows zero = tt
-new-fresh [] (suc place) = tt
-new-fresh (row ∷ rows) (suc zero) = tt
-new-fresh (row ∷ rows) (suc (suc place)) = new-fresh rows (suc place)
+-- and nothing runs in it
+rests-from : {Row : Type 0} (log : Log) (number : ℕ) (rows : List Row) (place : ℕ)
+    → IfSome (slice_get (rested_places log number rows) place) (λ p. RunsNew p.running)
+rests-from log number [] place = tt
+rests-from log number (row ∷ rows) zero = tt
+rests-from log number (row ∷ rows) (suc place) = rests-from log (suc number) rows place
+
+new-rested : {Row : Type 0} (log : Log) (rows : List Row) → AllRunNew (rested_places log 1 rows)
+new-rested log rows zero = tt
+new-rested log rows (suc place) = rests-from log 1 rows place
 
 -- one of the second edition may stand behind any
 second-follows : (edition : Edition) → may_follow edition editions.Second ≡ true
 second-follows editions.First = refl
 second-follows editions.Second = refl
 
-length-fresh : {Row : Type 0} (rows : List Row) → length (map (λ row. fresh_place) rows) ≡ length rows
-length-fresh [] = refl
-length-fresh (row ∷ rows) = ap suc (length-fresh rows)
+length-rested : {Row : Type 0} (log : Log) (number : ℕ) (rows : List Row)
+    → length (rested_places log number rows) ≡ length rows
+length-rested log number [] = refl
+length-rested log number (row ∷ rows) = ap suc (length-rested log (suc number) rows)
 
 take-front : {Row : Type 0} (front rest : List Row) → take (length front) (front ++ rest) ≡ front
 take-front [] rest = refl
@@ -94,15 +109,7 @@ module _ (lists : Lists) where
       flat_map-append (λ (batch : Batch). list_at batch.lists place) batches (batch ∷ [])
       ∙ ap (λ rows. joined batches place ++ rows) (append-nil (list_at batch.lists place))
 
-  module _ (keeps : EveryScheduleKeeps) (is_load : IsLoad lists) where
-    -- a run may go on by an event
-    runs-more : (events : List EventOfAll) (event : EventOfAll) (old mid new : Whole) → RunsAll events old mid
-        → HappensAll event mid new → RunsAll (events ++ event ∷ []) old new
-    runs-more [] event old mid new run happens =
-        (new, subst (λ (w : Whole). HappensAll event w new) run happens, refl)
-    runs-more (first ∷ events) event old mid new run happens =
-        (run.0, run.1, runs-more events event run.0 mid new run.2 happens)
-
+  module _ (goes_on : EveryScheduleGoesOn) (is_load : IsLoad lists) where
     -- no batch more
     still : (whole : Whole) (batches : Batches) → IsDrained lists whole batches → IsDrained lists whole (batches ++ [])
     still whole batches is = subst (IsDrained lists whole) (sym (append-nil batches)) is
@@ -121,8 +128,7 @@ module _ (lists : Lists) where
           drained = λ place within. more.drained (suc place) ∙ is.drained place (omega (arith, within, more.count));
           sound = is.sound;
           joined_are = λ place within. is.joined_are place (omega (arith, within, more.count));
-          fit = subst (AreFit lists) (sym more.log_is)
-              (All-append (λ (e : Entry Commit). IsFit lists e.commit) old.log more.more is.fit more.fit);
+          fit = All-append (λ (e : Entry Commit). IsFit lists e.commit) is.rest more.more is.fit more.fit;
           new_run = more.new_run;
           told = λ small. is.told (omega (arith, small, ap length more.log_is, length-append old.log more.more));
         }
@@ -140,15 +146,11 @@ module _ (lists : Lists) where
     drained-drain old new batches everything is does =
         let batch = batch_of old.places in
         let kept = kept-is old everything (is.front ++ is.rest) is.log_is in
-        let fit_rest : AreFit lists is.rest =
-        subst (AreFit lists) (drop-append_seam is.front is.rest)
-        (All-drop (λ (e : Entry Commit). IsFit lists e.commit) (length is.front) (is.front ++ is.rest)
-        (subst (AreFit lists) is.log_is is.fit)) in
         let serial = subst (IsSerial warehouses_of_commit number_of (length lists.tables.warehouses)) is.log_is
         everything.serial in
         let one : IsSoundBatch lists (crossings_in is.front) (crossings_in old.log) batch =
         subst (λ n. IsSoundBatch lists (crossings_in is.front) n batch) (ap crossings_in (sym is.log_is))
-        (sound-batch lists old.places is.front is.rest is.count kept is.drained fit_rest serial) in
+        (sound-batch lists old.places is.front is.rest is.count kept is.drained is.fit serial) in
         let same : length new.places ≡ length old.places =
         ap (λ (w : Whole). length w.places) does ∙ length-each with_drained 1 old.places in
         record {
@@ -171,14 +173,14 @@ module _ (lists : Lists) where
               ∙ ap (λ rows. projection_of (suc place) is.front ++ rows)
               (lists-are lists old.places is.front is.rest is.count kept is.drained place inside)
               ∙ sym (projection-behind (suc place) is.front is.rest) ∙ ap (projection_of (suc place)) (sym is.log_is);
-          fit = subst (AreFit lists) (sym (ap (λ (w : Whole). w.log) does)) is.fit;
+          fit = All-nil (λ (e : Entry Commit). IsFit lists e.commit);
           new_run = subst (λ (w : Whole). AllRunNew w.places) (sym does)
               (new-each with_drained (λ n place. refl) old.places is.new_run);
           told = λ small.
               let within : length (is.front ++ is.rest) < 2 ^ 32 =
               omega (arith, small, ap (λ (w : Whole). length w.log) does, ap length is.log_is) in
               let first = is.told (omega (arith, within, ap length is.log_is)) in
-              let later = batch-told lists old.places is.front is.rest is.count kept is.drained fit_rest serial is_load within in
+              let later = batch-told lists old.places is.front is.rest is.count kept is.drained is.fit serial is_load within in
               batches-more editions.First batches batch first later (second-follows (last_edition editions.First batches));
         }
 
@@ -200,53 +202,72 @@ module _ (lists : Lists) where
     drained-event (all.looks client) old new batches everything is does =
         still new batches (drained-other (all.looks client) old new batches refl is does)
 
-    drained-run : (events done : List EventOfAll) (old new : Whole) (before batches : Batches)
-        → RunsAll done (fresh_whole lists) old → IsDrained lists old before → RunsGiving events old new batches
-        → IsDrained lists new (before ++ batches)
-    drained-run [] done old new before batches ran is run =
+    drained-run : (events : List EventOfAll) (old new : Whole) (before batches : Batches) → KeepsEverything lists old
+        → IsDrained lists old before → RunsGiving events old new batches → IsDrained lists new (before ++ batches)
+    drained-run [] old new before batches everything is run =
         subst (λ rows. IsDrained lists new (before ++ rows)) (sym run.1)
         (still new before (subst (λ (w : Whole). IsDrained lists w before) (sym run.0) is))
-    drained-run (event ∷ events) done old new before batches ran is run =
+    drained-run (event ∷ events) old new before batches everything is run =
         let mid = run.0 in
         let here : IsDrained lists mid (before ++ run.1) = elim run.3 [
           | inl same ↦ subst (λ rows. IsDrained lists mid (before ++ rows)) (sym same.1)
               (still mid before (subst (λ (w : Whole). IsDrained lists w before) (sym same.0) is))
           | inr does ↦ subst (λ rows. IsDrained lists mid (before ++ rows)) (sym does.1)
-              (drained-event event old mid before (keeps lists done old is_load ran) is does.0)
+              (drained-event event old mid before everything is does.0)
         ] in
-        let on : RunsAll (done ++ event ∷ []) (fresh_whole lists) mid =
-        runs-more done event (fresh_whole lists) old mid ran (elim run.3 [ inl same ↦ inl same.0 | inr does ↦ inr does.0 ]) in
+        let happens : HappensAll event old mid = elim run.3 [ inl same ↦ inl same.0 | inr does ↦ inr does.0 ] in
+        let keeps : KeepsEverything lists mid = goes_on lists (event ∷ []) old mid is_load everything (mid, happens, refl) in
         let all : IsDrained lists new ((before ++ run.1) ++ run.2) =
-        drained-run events (done ++ event ∷ []) mid new (before ++ run.1) run.2 on here run.4 in
+        drained-run events mid new (before ++ run.1) run.2 keeps here run.4 in
         subst (IsDrained lists new) (append_assoc before run.1 run.2 ∙ ap (λ rows. before ++ rows) (sym run.5)) all
 
-    fresh : IsDrained lists (fresh_whole lists) []
-    fresh = record {
-      front = [];
-      rest = [];
-      log_is = refl;
-      load = refl;
-      count = length-fresh lists.tables.warehouses;
-      drained = λ place within. drained-fresh lists.tables.warehouses place;
-      sound = refl;
-      joined_are = λ place within. refl;
-      fit = All-nil (λ (e : Entry Commit). IsFit lists e.commit);
-      new_run = new-fresh lists.tables.warehouses;
-      told = λ small. refl;
-    }
+    module _ (rests : EveryRestKeeps) (front : Batches) (old : Whole) (begins : BeginsLife lists front old) where
+      abbrev rested : Whole
+      rested = rested_whole lists begins.log begins.known
 
-    pub are-durable : (events : List EventOfAll) (whole : Whole) (batches : Batches)
-        → RunsGiving events (fresh_whole lists) whole batches → AreDurable lists whole batches
-    are-durable events whole batches run =
-        let is = drained-run events [] (fresh_whole lists) whole [] batches refl fresh run in
-        let everything = keeps lists events whole is_load (runs-of events (fresh_whole lists) whole batches run) in
-        record {
-          sound = (crossings_in is.front, is.sound);
-          told = is.told;
+      begin-keeps : KeepsEverything lists old
+      begin-keeps = subst (KeepsEverything lists) (sym begins.rests)
+          (rests lists begins.log begins.known is_load begins.same.serial begins.within)
+
+      begin-drained : IsDrained lists old front
+      begin-drained = subst (λ (w : Whole). IsDrained lists w front) (sym begins.rests) (record {
+        front = begins.log;
+        rest = [];
+        log_is = sym (append-nil begins.log);
+        load = refl;
+        count = length-rested begins.log 1 lists.tables.warehouses;
+        drained = λ place within.
+            drained-rested begins.log 1 lists.tables.warehouses place
+            (omega (arith, within, length-rested begins.log 1 lists.tables.warehouses))
+            ∙ (let same : 1 + place ≡ suc place = omega arith in ap (λ n. length (projection_of n begins.log)) same);
+        sound = subst (λ n. AreSound lists 0 n front) last-is begins.same.numbers.1;
+        joined_are = λ place within.
+            begins.same.joined_are place (omega (arith, within, length-rested begins.log 1 lists.tables.warehouses));
+        fit = All-nil (λ (e : Entry Commit). IsFit lists e.commit);
+        new_run = new-rested begins.log lists.tables.warehouses;
+        told = λ small. begins.same.told;
+      })
+        where
+          last-is : begins.same.numbers.0 ≡ crossings_in begins.log
+          last-is = omega (arith, begins.same.numbers.2)
+
+      module _ (events : List EventOfAll) (whole : Whole) (batches : Batches)
+          (run : RunsGiving events old whole batches) where
+        pub run-keeps : KeepsEverything lists whole
+        run-keeps = goes_on lists events old whole is_load begin-keeps (runs-of events old whole batches run)
+
+        run-drained : IsDrained lists whole (front ++ batches)
+        run-drained = drained-run events old whole front batches begin-keeps begin-drained run
+
+        pub are-durable : AreDurable lists whole (front ++ batches)
+        are-durable = record {
+          sound = (crossings_in run-drained.front, run-drained.sound);
+          told = λ room. run-drained.told (few-entries lists is_load whole run-keeps room);
           joined_are = λ place. each-from _ (slice_get whole.places place) (λ p at.
+              let is = run-drained in
               let within = get-within whole.places place p at in
               let here = at-place (λ (p : Place). p.kept ≡ projection_of (suc place) (is.front ++ is.rest)) whole.places place p at
-              (kept-is whole everything (is.front ++ is.rest) is.log_is place) in
+              (kept-is whole run-keeps (is.front ++ is.rest) is.log_is place) in
               let so_far : p.drained ≡ length (projection_of (suc place) is.front) =
               sym (ap (λ found. unwrap_or (option_map (λ (place : Place). place.drained) found) 0) at)
               ∙ is.drained place within in

@@ -1,6 +1,6 @@
 -- What a stop leaves of a log of drains.
-use Rattle.std.proofs.Common.{◌≡◌, ◌⊎◌, ℕ, zero, suc, ◌+◌, ◌^◌, ◌<◌, ◌≤◌, List, [], ◌∷◌, ◌++◌, drop, length, take, Some, inl, inr, refl, sym, ap, ◌∙◌, subst, arith, append_assoc, length-append}
-use Rattle.std.specs.Prelude.{IfSome, slice_get}
+use Rattle.std.proofs.Common.{◌≡◌, ◌⊎◌, ℕ, zero, suc, ◌+◌, ◌≤◌, List, [], ◌∷◌, ◌++◌, drop, length, take, Some, inl, inr, refl, sym, ap, ◌∙◌, subst, arith, append_assoc, length-append}
+use Rattle.std.specs.Prelude.{IfSome, Result, Ok, slice_get}
 use mathlib.Core.List.{IsPrefix}
 use Rattle.std.proofs.lemmas.List.{take-append-drop}
 use Rattle.std.proofs.lemmas.List.Concat.{flat_map-cons}
@@ -14,11 +14,11 @@ use Rattle.hy_batches.specs.Batches.{Batch}
 use Rattle.hy_sound.specs.Sound.{IsSoundLog, list_at}
 use Rattle.hy_redo.specs.Calls.{AreCalls, Call, LogState, acknowledged, handed, log_behind}
 use Rattle.hy_redo.specs.Disk.{BeginsBehind, LeaveBatches, MayLeave}
-use Rattle.hy_schedules.specs.Schedules.{EventOfAll, KeepsEverything, Place, Whole, fresh_whole, place_at}
+use Rattle.hy_schedules.specs.Schedules.{EventOfAll, KeepsEverything, Place, Whole, place_at}
 use Rattle.hy_recovery.specs.Recovering.{IsWhyUnrecovered, SomeAreTooMany, joined}
 use Rattle.hy_recovery.proofs.PlaceLaws.{at-place, each-from, get-some}
-use Rattle.hy_durability.specs.Durability.{AreDurable, IsRecoverable, RunsGiving}
-use Rattle.hy_durability.proofs.RunLaws.{EveryScheduleKeeps, are-durable, runs-of}
+use Rattle.hy_durability.specs.Durability.{AreDurable, BeginsLife, HasRoom, IsRecoverable, RunsGiving}
+use Rattle.hy_durability.proofs.RunLaws.{EveryRestKeeps, EveryScheduleGoesOn, are-durable, run-keeps}
 use Rattle.hy_durability.proofs.VerdictLaws.{one-verdict, sound-beginning}
 
 abbrev Batches : Type 0
@@ -44,7 +44,7 @@ rest-joined (suc count) (batch ∷ batches) place =
     )
 
 -- and the first of them more than fewer
-fewer-joined : (fewer count : ℕ) (batches : Batches) (place : ℕ) → fewer ≤ count
+pub fewer-joined : (fewer count : ℕ) (batches : Batches) (place : ℕ) → fewer ≤ count
     → (more : List Commit) × (joined (take count batches) place ≡ joined (take fewer batches) place ++ more)
 fewer-joined zero count batches place within = (joined (take count batches) place, refl)
 fewer-joined (suc fewer) zero batches place within = absurd (omega (arith, within))
@@ -57,14 +57,19 @@ fewer-joined (suc fewer) (suc count) (batch ∷ batches) place within =
           ∙ ap (λ rows. rows ++ later.0) (sym (joined-cons batch (take fewer batches) place)),
     )
 
-begins-with : {Row : Type 0} (front more rows : List Row) → rows ≡ front ++ more → IsPrefix front rows
+pub begins-with : {Row : Type 0} (front more rows : List Row) → rows ≡ front ++ more → IsPrefix front rows
 begins-with front more rows is = subst (IsPrefix front) (sym is) (begins_longer front front more (begins_itself front))
+
+-- an answer has one list of batches
+pub same-batches : (answer : Result Batches Refusal) (one other : Batches) → answer ≡ Ok one → answer ≡ Ok other
+    → one ≡ other
+same-batches answer one other is same = let both = sym is ∙ same in cc
 
 -- ---- what is refused
 
-module _ (lists : Lists) (batches : Batches) (sound : IsSoundLog lists batches) (most : ℕ)
+module _ (n : ℕ) (lists : Lists) (frames : ℕ) (batches : Batches) (sound : IsSoundLog lists batches) (most : ℕ)
     (few : SomeAreTooMany lists batches most → ⊥) where
-  only-shortages : (why : Refusal) → IsWhyUnrecovered lists batches most why
+  only-shortages : (why : Refusal) → IsWhyUnrecovered n lists frames batches most why
       → (why ≡ refusals.NoFrame) ⊎ (why ≡ refusals.NoMemory)
   only-shortages (refusals.LogMalformed place) is = absurd (one-verdict lists batches place sound is)
   only-shortages refusals.HistoryFull is = absurd (few is.1)
@@ -86,19 +91,20 @@ module _ (lists : Lists) (batches : Batches) (sound : IsSoundLog lists batches) 
 
 -- ---- the whole
 
-module _ (lists : Lists) (events : List EventOfAll) (whole : Whole) (log : LogState) (calls more : List Call)
-    (left : List ℕ) (keeps : EveryScheduleKeeps) (leaves : LeaveBatches) (is_load : IsLoad lists)
-    (run : RunsGiving events (fresh_whole lists) whole (handed (calls ++ more))) (small : length whole.log < 2 ^ 32)
-    (begins : BeginsBehind [] log) (are : AreCalls log (calls ++ more))
+module _ (lists : Lists) (front : Batches) (events : List EventOfAll) (old whole : Whole) (log : LogState)
+    (calls more : List Call) (left : List ℕ) (rests : EveryRestKeeps) (goes_on : EveryScheduleGoesOn)
+    (leaves : LeaveBatches) (is_load : IsLoad lists) (begin : BeginsLife lists front old)
+    (run : RunsGiving events old whole (handed (calls ++ more))) (room : HasRoom whole)
+    (behind : BeginsBehind front log) (are : AreCalls log (calls ++ more))
     (stop : MayLeave (log_behind log calls).told (log_behind log (calls ++ more)).told left) where
   abbrev batches : Batches
-  batches = handed (calls ++ more)
+  batches = front ++ handed (calls ++ more)
 
-  durable : AreDurable lists whole batches
-  durable = are-durable lists keeps is_load events whole batches run
+  pub durable : AreDurable lists whole batches
+  durable = are-durable lists goes_on is_load rests front old begin events whole (handed (calls ++ more)) run
 
   everything : KeepsEverything lists whole
-  everything = keeps lists events whole is_load (runs-of events (fresh_whole lists) whole batches run)
+  everything = run-keeps lists goes_on is_load rests front old begin events whole (handed (calls ++ more)) run
 
   -- what a warehouse has kept has more than the first batches
   kept-more : (count place : ℕ) (p : Place) → slice_get whole.places place ≡ Some p
@@ -125,11 +131,11 @@ module _ (lists : Lists) (events : List EventOfAll) (whole : Whole) (log : LogSt
       ap length has.1 ∙ length-append (joined (take count batches) place) has.0 in
       omega (arith, many.2, more_than, kept)
 
-  pub are-recoverable : IsRecoverable lists whole batches (acknowledged calls) left
+  pub are-recoverable : IsRecoverable lists whole batches (length front + acknowledged calls) left
   are-recoverable =
-      let found = leaves [] log calls more left begins are (durable.told small) stop in
+      let found = leaves front log calls more left behind are (durable.told room) stop in
       let count = found.0 in
-      let enough : acknowledged calls ≤ count = omega (arith, found.2) in
+      let enough : length front + acknowledged calls ≤ count = found.2 in
       let beginning = sound-beginning lists 0 durable.sound.0 batches count durable.sound.1 in
       record {
         count = count;
@@ -138,11 +144,11 @@ module _ (lists : Lists) (events : List EventOfAll) (whole : Whole) (log : LogSt
         whole_batches = found.3;
         read = found.4;
         sound = beginning;
-        refused = λ most why within is.
-            only-shortages lists (take count batches) beginning most (are-few count most within) why is;
+        refused = λ n frames most why within is.
+            only-shortages n lists frames (take count batches) beginning most (are-few count most within) why is;
         kept = λ place. each-from _ (slice_get whole.places place) (λ p at.
             let has = kept-more count place p at in begins-with (joined (take count batches) place) has.0 p.kept has.1);
         acknowledged = λ place.
-            let has = fewer-joined (acknowledged calls) count batches place enough in
-            begins-with (joined (take (acknowledged calls) batches) place) has.0 (joined (take count batches) place) has.1;
+            let has = fewer-joined (length front + acknowledged calls) count batches place enough in
+            begins-with (joined (take (length front + acknowledged calls) batches) place) has.0 (joined (take count batches) place) has.1;
       }

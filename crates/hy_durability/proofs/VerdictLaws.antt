@@ -83,7 +83,7 @@ range-most low (suc count) most few =
 -- ---- two accounts of one batch
 
 -- a commit that names one of so many warehouses names one at a place
-named-place : (count : ℕ) (named : List ℕ) → list_any (is_between 1 count) named ≡ true
+pub named-place : (count : ℕ) (named : List ℕ) → list_any (is_between 1 count) named ≡ true
     → (place : ℕ) × (place < count) × (list_any (λ name. name == suc place) named ≡ true)
 named-place count [] there = absurd (false≢true there)
 named-place count (name ∷ named) there =

@@ -3,4 +3,7 @@
 
 mod theorem;
 
-pub use theorem::{drained_logs_are_sound, drains_give_batches, stops_are_recovered};
+pub use theorem::{
+    acknowledged_commits_are_recovered, drained_logs_are_sound, drains_give_batches,
+    lives_are_recovered, lives_begin, stops_are_recovered,
+};

@@ -1,5 +1,6 @@
 -- Files by their paths, as far as they are known.
 use Rattle.std.specs.Prelude.{◌≡◌, ◌≢◌, ⊤, ℕ, List, [], ◌∷◌, ◌++◌, Option, None, Some}
+use Rattle.std.specs.Option.{unwrap_or}
 use Rattle.std.specs.IoError.{error_kind}
 use Rattle.std.specs.declared.io.Error.{Error}
 use Rattle.std.specs.declared.io.ErrorKind.TheVariants.{OutOfMemory}
@@ -28,6 +29,20 @@ KeepsOthers None None path = ⊤
 KeepsOthers None (Some new) path = ⊥
 KeepsOthers (Some old) None path = ⊥
 KeepsOthers (Some old) (Some new) path = (other : List ℕ) → other ≢ path → new other ≡ old other
+
+-- the known file at the path stays as it was, or there still is none; others stay unknown
+abbrev pub KeepsFile : Option FilesByPath → Option FilesByPath → List ℕ → Type 0
+KeepsFile None None path = ⊤
+KeepsFile None (Some new) path = ⊥
+KeepsFile (Some old) None path = ⊥
+KeepsFile (Some old) (Some new) path = new path ≡ old path
+
+-- the known file at the path is the one that was there, or an empty one where there was none; others stay unknown
+abbrev pub IsThere : Option FilesByPath → Option FilesByPath → List ℕ → Type 0
+IsThere None None path = ⊤
+IsThere None (Some new) path = ⊥
+IsThere (Some old) None path = ⊥
+IsThere (Some old) (Some new) path = new path ≡ Some (unwrap_or (old path) [])
 
 -- paths at which something was done, in order, as far as they are known
 abbrev pub KnownPaths : Type 0

@@ -1,16 +1,20 @@
 //! A file system.
 
-ghost use Rattle.std.specs.Prelude.{◌≡◌, ◌⊎◌, [], Option, None, IfErr, IfOk, OnOk};
-ghost use Rattle.hy_files.specs.Files.{AddsPath, FilesByPath, HasFile, IsMissing, IsOutOfMemory, KeepsOthers, KnownPaths};
-ghost use Rattle.hy_files.specs.LogFiles.{nothing_told};
+ghost use Rattle.std.specs.Prelude.{◌≡◌, ◌≤◌, ◌⊎◌, [], Option, None, IfErr, IfOk, OnErr, OnOk, length, take};
+ghost use Rattle.hy_files.specs.Files.{AddsPath, FilesByPath, HasFile, IsMissing, IsOutOfMemory, IsThere, KeepsFile, KeepsOthers, KnownPaths};
+ghost use Rattle.hy_files.specs.LogFiles.{all_synced, nothing_told};
 
-use crate::log_file::{LogFile, make_log_file};
+use crate::held_file::{HeldFile, HeldLog, Lockable, hold};
+use crate::log_file::{LogFile, go_on};
 use hy_redo::LogOut;
 use std::alloc::Global;
 use std::{fs, io, rt};
 
 /// Files that are named by their paths.
 pub trait FileSystem {
+    /// A file that is held for a log.
+    type Held: HeldLog + Drop;
+
     /// What a log is written to.
     type Log: LogOut + Drop + Send;
 
@@ -49,16 +53,50 @@ pub trait FileSystem {
         ensures folders { AddsPath (folders self.old) (folders self.new) path.now }
         ensures unwritten { unwritten self.new ≡ unwritten self.old };
 
-    /// Makes an empty file, in place of one that is at the path, for a log that is written to it until `end_log`. An `Err`
-    /// where it can't be made: the file may then have other bytes, or be gone.
-    fn begin_log(&mut self, alloc: Global, path: &str) -> io::Result<Self::Log>
-        ensures log { IfOk result (λ log. Self.Log.told log ≡ nothing_told) }
-        ensures bytes { OnOk result (HasFile (files self.new) path.now []) }
+    /// Takes the lock on a file for a log, and reads and changes no byte of it; a new empty one is made where there is none at
+    /// the path. An `Err` of the kind `WouldBlock` where another one has the lock, and of another kind where the file can't be
+    /// opened for reading and writing, or locked: then it is as it was, but for a new empty one.
+    fn hold_log(&mut self, alloc: Global, path: &str) -> io::Result<Self::Held>
+        ensures held { IfOk result (λ held. (Self.Held.path held ≡ path.now) × (Self.Held.seen held ≡ [])) }
+        ensures there { OnOk result (IsThere (files self.old) (files self.new) path.now) }
+        ensures unheld { OnErr result
+            (KeepsFile (files self.old) (files self.new) path.now ⊎ IsThere (files self.old) (files self.new) path.now) }
         ensures others { KeepsOthers (files self.old) (files self.new) path.now }
         ensures folders { folders self.new ≡ folders self.old }
         ensures written { OnOk result (unwritten self.new ≡ unwritten self.old) }
         ensures unwritten { IfErr result
             (λ error. (¬ IsOutOfMemory error) → AddsPath (unwritten self.old) (unwritten self.new) path.now) };
+
+    /// Reads all bytes of a file that is held, which then has them. An `Err` as that of `read`.
+    fn read_held(&mut self, alloc: Global, held: &mut Self::Held) -> io::Result<()>
+        ensures path { Self.Held.path held.new ≡ Self.Held.path held.old }
+        ensures bytes { OnOk result
+            (HasFile (files self.old) (Self.Held.path held.old) (Self.Held.seen held.new)) }
+        ensures unread { OnErr result (Self.Held.seen held.new ≡ Self.Held.seen held.old) }
+        ensures missing { IfErr result
+            (λ error. IsOutOfMemory error ⊎ IsMissing (files self.old) (Self.Held.path held.old)) }
+        ensures files { files self.new ≡ files self.old }
+        ensures folders { folders self.new ≡ folders self.old }
+        ensures unwritten { unwritten self.new ≡ unwritten self.old };
+
+    /// Cuts a file that is held behind so many of the bytes that were read of it, and syncs it and the folder that it stands
+    /// in, also where nothing is cut: it may be that nobody synced what is there. What is given is a log that goes on behind
+    /// those bytes, and ends with `end_log`; the lock is held until then. An `Err` where the file can't be cut or synced, or
+    /// its folder can't be opened or synced.
+    fn go_on_log(&mut self, held: Self::Held, size: u64) -> io::Result<Self::Log>
+        requires { size ≤ length (Self.Held.seen held) }
+        ensures log { IfOk result (λ log. Self.Log.told log ≡ all_synced (take size (Self.Held.seen held))) }
+        ensures bytes { OnOk result
+            (HasFile (files self.new) (Self.Held.path held) (take size (Self.Held.seen held))) }
+        ensures uncut { OnErr result
+            (KeepsFile (files self.old) (files self.new) (Self.Held.path held)
+            ⊎ HasFile (files self.new) (Self.Held.path held) (take size (Self.Held.seen held))) }
+        ensures others { KeepsOthers (files self.old) (files self.new) (Self.Held.path held) }
+        ensures folders { folders self.new ≡ folders self.old }
+        ensures written { OnOk result (unwritten self.new ≡ unwritten self.old) }
+        ensures unwritten { IfErr result
+            (λ error. (¬ IsOutOfMemory error)
+            → AddsPath (unwritten self.old) (unwritten self.new) (Self.Held.path held)) };
 
     /// Ends a log, of which the file at the path has the bytes that were written. An `Err` as that of `write`.
     fn end_log(&mut self, path: &str, log: Self::Log) -> io::Result<()>
@@ -68,6 +106,23 @@ pub trait FileSystem {
         ensures written { OnOk result (unwritten self.new ≡ unwritten self.old) }
         ensures unwritten { IfErr result
             (λ error. (¬ IsOutOfMemory error) → AddsPath (unwritten self.old) (unwritten self.new) path.now) };
+}
+
+/// A log in a file of its own, which is made empty once the lock on it is taken: where somebody else has that, the file stays
+/// as it is. An `Err` as those of `hold_log` and `go_on_log`; then the file is as it was, or empty.
+pub fn new_log<F: FileSystem>(alloc: Global, system: &mut F, path: &str) -> io::Result<F::Log>
+    ensures log { IfOk result (λ log. F.Log.told log ≡ nothing_told) }
+    ensures bytes { OnOk result (HasFile (F.files system.new) path.now []) }
+    ensures unmade { OnErr result
+        (KeepsFile (F.files system.old) (F.files system.new) path.now ⊎ HasFile (F.files system.new) path.now []) }
+    ensures others { KeepsOthers (F.files system.old) (F.files system.new) path.now }
+    ensures folders { F.folders system.new ≡ F.folders system.old }
+    ensures written { OnOk result (F.unwritten system.new ≡ F.unwritten system.old) }
+    ensures unwritten { IfErr result
+        (λ error. (¬ IsOutOfMemory error) → AddsPath (F.unwritten system.old) (F.unwritten system.new) path.now) }
+{
+    let held = system.hold_log(alloc, path)?;
+    system.go_on_log(held, 0)
 }
 
 /// The files of the system. No clause knows what they have.
@@ -83,7 +138,9 @@ impl<'a, R: rt::Files + AllocGlobal> SystemFiles<'a, R> {
     }
 }
 
-impl<R: rt::Files<File: Send> + AllocGlobal> FileSystem for SystemFiles<'_, R> {
+impl<R: rt::Files<File: Lockable + Send> + AllocGlobal> FileSystem for SystemFiles<'_, R> {
+    type Held = HeldFile<R::File>;
+
     type Log = LogFile<R::File>;
 
     ghost files = { λ _. None };
@@ -100,8 +157,16 @@ impl<R: rt::Files<File: Send> + AllocGlobal> FileSystem for SystemFiles<'_, R> {
         fs::create_dir(self.runtime, path)
     }
 
-    fn begin_log(&mut self, _alloc: Global, path: &str) -> io::Result<LogFile<R::File>> {
-        make_log_file(self.runtime, path)
+    fn hold_log(&mut self, alloc: Global, path: &str) -> io::Result<HeldFile<R::File>> {
+        hold(self.runtime, alloc, path)
+    }
+
+    fn read_held(&mut self, alloc: Global, held: &mut HeldFile<R::File>) -> io::Result<()> {
+        held.read_file(alloc)
+    }
+
+    fn go_on_log(&mut self, held: HeldFile<R::File>, size: u64) -> io::Result<LogFile<R::File>> {
+        go_on(self.runtime, held, size)
     }
 
     fn end_log(&mut self, _path: &str, _log: LogFile<R::File>) -> io::Result<()> {

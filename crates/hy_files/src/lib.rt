@@ -3,6 +3,7 @@
 
 mod directory;
 mod file_system;
+mod held_file;
 mod load;
 mod log_file;
 mod memory;
@@ -10,8 +11,14 @@ mod memory_log;
 mod noted;
 
 pub use directory::{FileFault, FileName};
-pub use file_system::{FileSystem, SystemFiles};
+pub use file_system::{FileSystem, SystemFiles, new_log};
+pub use held_file::{HeldFile, HeldLog, Lockable};
 pub use load::{read_load, write_load};
 pub use log_file::LogFile;
 pub use memory::MemoryFiles;
 pub use memory_log::MemoryLog;
+
+#[cfg(test)]
+mod log_tests;
+#[cfg(test)]
+mod noting;

@@ -1,16 +1,20 @@
 //! A log in a file of the system.
 
-ghost use Rattle.std.specs.Prelude.{◌≡◌, ◌<◌, ◌≤◌, IfOk, IfSome, length};
-ghost use Rattle.hy_files.specs.LogFiles.{nothing_told};
+ghost use Rattle.std.specs.Prelude.{◌≡◌, ◌<◌, ◌≤◌, IfOk, IfSome, length, take};
+ghost use Rattle.hy_files.specs.LogFiles.{all_synced};
 
+use crate::held_file::HeldFile;
 use crate::noted::Noted;
 use hy_redo::{Failed, LogOut};
 use std::fs::OpenFile;
-use std::io::Write;
+use std::io::{Seek, SeekFrom, Write};
 use std::path::Path;
 use std::{fs, io, rt};
 
-/// A new file of the system, which stays open as long as a log is written to it.
+/// A file of the system, which stays open and locked as long as a log is written to it. What it notes for clauses are the
+/// answers of its own calls. That each of them is made, that a file is synced and then its folder before a log begins, and
+/// that a batch is synced before the next is written, no clause can see: a test notes every call over files of its own, and
+/// `tools/try_sync` those of the program.
 #[derive(Drop)]
 pub struct LogFile<F> {
     file: F,
@@ -18,24 +22,32 @@ pub struct LogFile<F> {
 }
 
 impl<F> LogFile<F> {
-    /// This file, of which nothing is written yet.
-    fn new(file: F) -> LogFile<F>
-        ensures { result.noted.told ≡ nothing_told }
+    /// This file, which has these bytes, all of them synced.
+    fn behind(file: F, bytes: &[u8]) -> LogFile<F>
+        ensures { result.noted.told ≡ all_synced bytes.now }
     {
         LogFile {
             file,
-            noted: Noted::new(),
+            noted: Noted::behind(bytes),
         }
     }
 }
 
-/// Makes a file for a log, in place of one that is at the path, and syncs the folder that it stands in.
-pub(crate) fn make_log_file<R: rt::Files>(rt: &R, path: &str) -> io::Result<LogFile<R::File>>
-    ensures { IfOk result (λ log. log.noted.told ≡ nothing_told) }
+/// Cuts a file that is held behind so many bytes, goes on at its end, and syncs it and the folder that it stands in.
+pub(crate) fn go_on<R: rt::Files>(
+    rt: &R,
+    held: HeldFile<R::File>,
+    size: u64,
+) -> io::Result<LogFile<R::File>>
+    requires { size ≤ length held.seen }
+    ensures { IfOk result (λ log. log.noted.told ≡ all_synced (take size held.seen)) }
 {
-    let file = fs::create(rt, path)?;
-    fs::open(rt, folder_of(path))?.sync_all()?;
-    Ok(LogFile::new(file))
+    let (mut file, path, bytes) = held.into_parts();
+    file.set_len(size)?;
+    file.seek(SeekFrom::Start(size))?;
+    file.sync_all()?;
+    fs::open(rt, folder_of(path.as_str()))?.sync_all()?;
+    Ok(LogFile::behind(file, &bytes[..size as usize]))
 }
 
 /// The folder that a path's file stands in.

@@ -1,11 +1,10 @@
 //! A log in memory.
 
 ghost use Rattle.std.specs.Prelude.{◌≡◌};
-ghost use Rattle.hy_files.specs.LogFiles.{nothing_told};
+ghost use Rattle.hy_files.specs.LogFiles.{all_synced};
 
 use crate::noted::Noted;
 use hy_redo::{Failed, LogOut};
-use std::alloc::Global;
 
 /// The bytes of a log in memory.
 #[derive(Drop)]
@@ -16,14 +15,12 @@ pub struct MemoryLog {
 }
 
 impl MemoryLog {
-    /// No bytes.
-    pub(crate) fn new(alloc: Global) -> MemoryLog
-        ensures { result.noted.told ≡ nothing_told }
+    /// A log that goes on behind these bytes.
+    pub(crate) fn behind(bytes: Vec<u8>) -> MemoryLog
+        ensures { result.noted.told ≡ all_synced bytes.items }
     {
-        MemoryLog {
-            bytes: Vec::new(alloc),
-            noted: Noted::new(),
-        }
+        let noted = Noted::behind(&bytes);
+        MemoryLog { bytes, noted }
     }
 
     /// All bytes.

@@ -3,7 +3,7 @@
 ghost use Rattle.std.specs.Prelude.{◌≡◌};
 ghost use Rattle.std.specs.Borrow.{ftrue};
 ghost use Rattle.hy_redo.specs.Writers.{Told, with_more, with_sync};
-ghost use Rattle.hy_files.specs.LogFiles.{failed_once, nothing_told};
+ghost use Rattle.hy_files.specs.LogFiles.{all_synced, failed_once, nothing_told};
 
 use std::marker::{Model, PhantomData};
 
@@ -29,6 +29,16 @@ impl Noted {
         Noted {
             marker: PhantomData,
         }
+    }
+
+    /// A file has these bytes, all of them synced.
+    pub(crate) fn behind(bytes: &[u8]) -> Noted
+        ensures { result.told ≡ all_synced bytes.now }
+    {
+        let mut noted = Noted::new();
+        noted.take(bytes);
+        noted.sync();
+        noted
     }
 
     /// These bytes were taken.

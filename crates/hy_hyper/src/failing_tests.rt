@@ -4,7 +4,7 @@ ghost use Rattle.std.specs.Prelude.{None};
 
 use hy_commands::Reply;
 use hy_events::write_reply;
-use hy_files::{FileFault, FileSystem, MemoryFiles, MemoryLog, read_load, write_load};
+use hy_files::{FileFault, FileSystem, HeldFile, MemoryFiles, MemoryLog, read_load, write_load};
 use hy_output::{Spare, Stream};
 use hy_program::{Ending, run_words};
 use hy_schema::{Refusal, Table};
@@ -61,6 +61,8 @@ struct Locked {
 }
 
 impl FileSystem for Locked {
+    type Held = HeldFile<()>;
+
     type Log = MemoryLog;
 
     ghost files = { λ _. None };
@@ -80,7 +82,15 @@ impl FileSystem for Locked {
         Err(io::Error::from(io::ErrorKind::AlreadyExists))
     }
 
-    fn begin_log(&mut self, _alloc: Global, _path: &str) -> io::Result<MemoryLog> {
+    fn hold_log(&mut self, _alloc: Global, _path: &str) -> io::Result<HeldFile<()>> {
+        Err(io::Error::from(io::ErrorKind::PermissionDenied))
+    }
+
+    fn read_held(&mut self, _alloc: Global, _held: &mut HeldFile<()>) -> io::Result<()> {
+        Err(io::Error::from(io::ErrorKind::PermissionDenied))
+    }
+
+    fn go_on_log(&mut self, _held: HeldFile<()>, _size: u64) -> io::Result<MemoryLog> {
         Err(io::Error::from(io::ErrorKind::PermissionDenied))
     }
 

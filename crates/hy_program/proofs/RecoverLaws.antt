@@ -6,6 +6,7 @@ use Rattle.hy_rows.specs.Tables.{Lists, Tables}
 use Rattle.hy_schema.specs.Conditions.{first_broken}
 use Rattle.hy_schema.specs.Loads.{IsLoad}
 use Rattle.hy_schema.specs.declared.refusal.Refusal.{Refusal}
+use Rattle.hy_schema.specs.declared.refusal.Refusal.TheVariants as refusals
 use Rattle.hy_rows.specs.declared.catalogue.Table.{Table}
 use Rattle.hy_tables.specs.Files.{texts_of}
 use Rattle.hy_files.specs.declared.directory.FileFault.{FileFault}
@@ -23,7 +24,8 @@ use Rattle.hy_database.proofs.EachLaws.{count-after}
 use Rattle.hy_database.specs.Database.{all_rows}
 use Rattle.hy_forks.specs.Forks.{IsWhyUnforked}
 use Rattle.hy_forks.specs.Histories.{IsOneHistory}
-use Rattle.hy_recovery.specs.Recovering.{AreRecovered, GoesOn, IsRecovered, joined}
+use Rattle.hy_sound.specs.Sound.{IsSoundLog}
+use Rattle.hy_recovery.specs.Recovering.{AreRecovered, GoesOn, IsRecovered, NoneAreTooMany, joined}
 use Rattle.hy_program.specs.declared.fault.RunFault.{RunFault}
 use Rattle.hy_program.specs.declared.fault.RunFault.TheVariants as fault
 use Rattle.hy_program.specs.Faults.{IsAboutFiles}
@@ -77,11 +79,18 @@ replayed_by lists batches log all history spelled consistent (Ok rows) is =
     replayed lists batches log all rows history spelled consistent is
 replayed_by lists batches log all history spelled consistent (Err why) is = tt
 
+-- memory lacks for what is sound and has room
+pub without_memory : (lists : Lists) (batches : List Batch) → IsSoundLog lists batches
+    → NoneAreTooMany lists batches 1_000_000 → IsWhyUnreplayed lists batches refusals.NoMemory
+without_memory lists batches sound few = inl (sound, few)
+
 -- why there is no snapshot of what was recovered
 pub unforked : (lists : Lists) (batches : List Batch) (log : Log) (parts : List PartitionState) (why : Refusal)
-    → GoesOn lists batches log → IsWhyUnforked parts why → IsWhyUnreplayed lists batches why
-unforked lists batches log parts why on (inl frame) = inr (frame.0, (on.0, on.1))
-unforked lists batches log parts why on (inr memory) = subst (λ it. IsWhyUnreplayed lists batches it) (sym memory) (inl tt)
+    → GoesOn lists batches log → NoneAreTooMany lists batches 1_000_000 → IsWhyUnforked parts why
+    → IsWhyUnreplayed lists batches why
+unforked lists batches log parts why on few (inl frame) = inr (frame.0, (on.0, on.1), few)
+unforked lists batches log parts why on few (inr memory) =
+    subst (λ it. IsWhyUnreplayed lists batches it) (sym memory) (without_memory lists batches (on.0, on.1) few)
 
 module _ (directory log : List ℕ) (files : Option FilesByPath × Option FilesByPath) (unwritten : KnownPaths × KnownPaths)
     (bytes : Option (List ℕ) × Option (List ℕ)) (Unprinted : Type 0) where

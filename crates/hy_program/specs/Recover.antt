@@ -23,7 +23,7 @@ use Rattle.hy_partition.specs.Partition.{projection_of}
 use Rattle.hy_crossing.specs.Crossings.{database_behind}
 use Rattle.hy_database.specs.Database.{all_rows}
 use Rattle.hy_sound.specs.Sound.{IsSoundLog}
-use Rattle.hy_recovery.specs.Recovering.{IsWhyUnrecovered, joined}
+use Rattle.hy_recovery.specs.Recovering.{IsWhyUnrecovered, NoneAreTooMany, joined}
 use Rattle.hy_program.specs.declared.fault.RunFault.{RunFault}
 use Rattle.hy_program.specs.declared.fault.RunFault.TheVariants as fault
 use Rattle.hy_program.specs.Check.{report}
@@ -52,10 +52,12 @@ pub record IsBehind (lists : Lists) (bytes : List ℕ) (count : ℕ) (rows : Tab
   pub counted : count ≡ length batches
   pub replayed : IsReplayed lists batches rows
 
--- why batches can't be run again on a load, or there is no snapshot of what comes of them, for which a frame may lack
+-- why batches can't be run again on a load, with 100,000 frames and 1,000,000 commits for each warehouse, or there is no
+-- snapshot of what comes of them, for which a frame may lack
 abbrev pub IsWhyUnreplayed : Lists → List Batch → Refusal → Type 0
 IsWhyUnreplayed lists batches why =
-    IsWhyUnrecovered lists batches 1_000_000 why ⊎ ((why ≡ refusals.NoFrame) × IsSoundLog lists batches)
+    IsWhyUnrecovered 4_096 lists 100_000 batches 1_000_000 why
+    ⊎ ((why ≡ refusals.NoFrame) × IsSoundLog lists batches × NoneAreTooMany lists batches 1_000_000)
 
 -- why nothing is recovered: the bytes aren't read as batches, or these can't be run again
 abbrev pub IsWhyLost : Lists → List ℕ → Refusal → Type 0

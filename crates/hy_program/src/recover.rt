@@ -22,7 +22,7 @@ use hy_loads::Load;
 use hy_output::Output;
 use hy_partition::Loaded;
 use hy_passes::{Kit, make};
-use hy_recovery::recover;
+use hy_recovery::{check_batches, recover};
 use hy_rows::{Lists, Tables};
 use hy_schema::Refusal;
 use hy_session::Session;
@@ -75,6 +75,16 @@ pub fn run_recover<'a, F: FileSystem, O: Output>(
     save(alloc, into, &load, recovered.tables, system)
 }
 
+/// Why nothing comes of batches where memory lacks: E15 and E3 come before E1.
+fn shortage_on(alloc: Global, load: &Load, batches: &Batches) -> Refusal
+    ensures { IsWhyUnreplayed load.now batches.now result }
+{
+    match check_batches(alloc, load, batches, MAX_KEPT) {
+        Ok(()) => Refusal::NoMemory,
+        Err(refusal) => refusal,
+    }
+}
+
 /// What comes of a log on a load. E15 where its bytes are none, or none of this load; else E3, E2 or E1.
 fn recovered_from(alloc: Global, load: &Load, bytes: &[u8]) -> Result<Recovered, Refusal>
     ensures behind { IfOk result
@@ -84,7 +94,9 @@ fn recovered_from(alloc: Global, load: &Load, bytes: &[u8]) -> Result<Recovered,
     let batches = read_log(alloc, bytes)?;
     load.sound();
     let count = load.tables().warehouses.len();
-    let kit = make::<Commit>(alloc, count as u8, 1, KIT)?;
+    let Ok(kit) = make::<Commit>(alloc, count as u8, 1, KIT) else {
+        return Err(shortage_on(alloc, load, &batches));
+    };
     let tables = tables_behind::<Brand>(alloc, load, kit, &batches)?;
     Ok(Recovered {
         batches: batches.count(),
@@ -107,7 +119,9 @@ fn tables_behind<K: Loaded>(
     ensures refused { IfErr result (IsWhyUnreplayed load.now batches.now) }
 {
     load.sound();
-    let (_passes, journal, seats, mut clients) = kit.open::<K>()?;
+    let Ok((_passes, journal, seats, mut clients)) = kit.open::<K>() else {
+        return Err(shortage_on(alloc, load, batches));
+    };
     let pass = clients.take_last();
     let (mut parts, mut journal, mut pass) = recover::<PAGE_BYTES, K>(
         alloc, load, batches, journal, seats, pass, MAX_FRAMES, MAX_KEPT,

@@ -8,7 +8,7 @@ ghost use Rattle.hy_program.specs.Faults.{IsBlamedRightly};
 ghost use Rattle.hy_program.specs.Storm.{IsNoStorm, IsStormDone, IsStormFault, IsWhyUnwritten, KeepsAllBut, rounds_text, storm_text, sums_text};
 
 use crate::fault::RunFault;
-use hy_files::{FileSystem, MemoryLog, read_load};
+use hy_files::{FileSystem, MemoryLog, new_log, read_load};
 use hy_loads::Load;
 use hy_output::Output;
 use hy_redo::Log;
@@ -117,7 +117,7 @@ fn run_logged<'a, F: FileSystem, R: Threads + Wait + Sync>(
         (IsNoStorm (Some path.entry.now) (F.unwritten system.old, F.unwritten system.new)) }
     ensures unblamed { IfErr result (λ why. (has_failed : Bool) → IsBlamedRightly has_failed why) }
 {
-    let out = match system.begin_log(alloc, path) {
+    let out = match new_log(alloc, system, path) {
         Ok(out) => out,
         Err(error) => return Err(why_unwritten(path, error)),
     };

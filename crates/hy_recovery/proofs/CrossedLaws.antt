@@ -1,43 +1,42 @@
 -- A command of several warehouses that is run again: each warehouse that it names keeps it, under its number.
-use Rattle.std.proofs.Common.{◌≡◌, ◌⊎◌, ◌<◌, ◌==◌, ◌&&◌, ◌||◌, ℕ, zero, suc, ◌+◌, Bool, true, false, cond, List, [], ◌∷◌, ◌++◌, length, Option, Some, None, is_some, inl, inr, refl, sym, ap, ◌∙◌, subst, arith}
-use Rattle.std.specs.Prelude.{IfSome, MatchOption, nat_lt, slice_get, unwrap_or}
-use Rattle.std.specs.List.{list_any}
+use Rattle.std.proofs.Common.{◌≡◌, ◌⊎◌, ◌<◌, ◌&&◌, ◌||◌, ℕ, suc, ◌+◌, Bool, true, false, List, [], ◌∷◌, ◌++◌, length, Option, Some, None, is_some, inl, inr, refl, sym, ap, ◌∙◌, subst, arith}
+use Rattle.std.specs.Prelude.{IfSome, IsSomeAnd, MatchOption, slice_get, unwrap_or}
 use Rattle.std.proofs.lemmas.Bool.{false≢true, ne_eqb, true≢false}
 use Rattle.hy_rows.specs.Tables.{Lists, Tables}
 use Rattle.hy_rows.specs.Rows.{customer_of}
 use Rattle.hy_rows.specs.declared.customer.Customer.{Customer}
 use Rattle.hy_schema.specs.declared.refusal.Refusal.{Refusal}
-use Rattle.hy_schema.specs.declared.refusal.Refusal.TheVariants as refusals
 use Rattle.hy_passes.specs.Worlds.{PassState}
 use Rattle.hy_commands.specs.declared.command.Command.{Command}
 use Rattle.hy_commands.specs.declared.command.Command.TheVariants as commands
 use Rattle.hy_commands.specs.declared.command.Commit.{Commit}
 use Rattle.hy_commands.specs.declared.command.Commit.TheVariants as commits
-use Rattle.hy_commands.specs.declared.command.Payment.{Payment}
 use Rattle.hy_commands.specs.declared.command.Who.{Who}
 use Rattle.hy_commands.specs.declared.command.Who.TheVariants as who
-use Rattle.hy_commands.specs.declared.reply.Reply.{Reply}
 use Rattle.hy_commands.specs.declared.reply.Reply.TheVariants as replies
 use Rattle.hy_commands.specs.declared.edition.Edition.{Edition}
 use Rattle.hy_commands.specs.declared.edition.Edition.TheVariants as editions
 use Rattle.hy_commands.specs.Customers.{customer_meant}
-use Rattle.hy_commands.specs.Parts.{Database, by_number, customer_home_of, database_of, is_by_number, refusal_in}
-use Rattle.hy_commands.specs.Transactions.{accepted, has_customer}
+use Rattle.hy_commands.specs.Parts.{Database, customer_home_of, database_of, is_by_number, refusal_in}
+use Rattle.hy_commands.specs.Transactions.{has_customer}
 use Rattle.hy_commands.proofs.AcceptedLaws.{accepted-in}
 use Rattle.hy_database.specs.Database.{act_on_all, customer_rows, kept_in, whole_outcome}
 use Rattle.hy_database.proofs.PartLaws.{number-chosen}
 use Rattle.hy_batches.specs.Grammar.{names}
+use Rattle.hy_space.specs.Space.{SpaceState}
+use Rattle.hy_partition.specs.Headline.{Headline}
 use Rattle.hy_partition.specs.Jobs.{DoneState, JobState, Log, RunningJob, told}
+use Rattle.hy_partition.specs.Parts.{PartLacksFrame}
 use Rattle.hy_partition.specs.Partition.{PartitionState, terms_of}
 use Rattle.hy_partition.specs.Steps.{is_full}
-use Rattle.hy_crossing.specs.Crossings.{AcceptsAll, AllMayRun, Crosses, EndsIfNamed, KeepsIfNamed, RefusesAll, TellsIfNamed, crossing_entry, crossing_refusal, database_behind, entry_of, is_named, next_number, some_is_full, with_full}
+use Rattle.hy_crossing.specs.Crossings.{AcceptsAll, AllMayRun, Crosses, EndsIfNamed, KeepsIfNamed, RefusesAll, SomeLacksFrame, TellsIfNamed, crossing_refusal, database_behind, entry_of, is_named, next_number, some_is_full, with_full}
 use Rattle.hy_crossing.specs.Lists.{InTurn, Pairwise}
 use Rattle.hy_crossing.proofs.AcceptLaws.{same-refusal}
 use Rattle.hy_crossing.proofs.PairLaws.{pairs-then}
-use Rattle.hy_sound.specs.Sound.{is_known}
-use Rattle.hy_recovery.specs.inside.Ways.{CanRunCrossing, Enters, IsAtRest, IsShortage, KeepsOne, KeepsSeen, KeepsWhereNamed, crossings_in}
+use Rattle.hy_recovery.specs.inside.Ways.{CanRunCrossing, Enters, IsAlone, IsAtRest, IsShortage, KeepsWhereNamed, SomeHasNoFrame}
+use Rattle.hy_recovery.proofs.FrameLaws.{part-no-frame, some-lacks}
 use Rattle.hy_recovery.proofs.LocalLaws.{accepted-reply, none-is}
-use Rattle.hy_recovery.proofs.PlaceLaws.{pairs-each, pairs-weaker}
+use Rattle.hy_recovery.proofs.PlaceLaws.{at-place, pairs-at, pairs-each, pairs-weaker}
 
 -- ---- nothing runs, so nothing ends
 
@@ -188,17 +187,49 @@ module _ (lists : Lists) (edition : Edition) (number : ℕ) (command : Command) 
   same-why : (one other : Refusal) → replies.Refused one ≡ replies.Refused other → one ≡ other
   same-why one other is = cc
 
-  -- where it is refused, a frame or memory lacked
-  pub lacked : (why : Refusal) → answer.reply ≡ replies.Refused why → IsShortage why
-  lacked why refused = elim does [
+  -- a partition that lacked a frame had none left before
+  some-full : (n : ℕ) → ((place : ℕ) → IfSome (slice_get olds place) (Headline n)) → SomeLacksFrame middle news
+      → SomeHasNoFrame n olds
+  some-full n heads lacks =
+      let found = some-lacks middle news lacks in
+      by found.0 found.1 found.3 found.2 found.4 (slice_get olds found.0) refl
+      (at-place (λ new. IsSomeAnd (slice_get olds found.0) (λ old. TellsIfNamed command before (1 + found.0) old new)) middle
+      found.0 found.1 found.3 (pairs-at (TellsIfNamed command before) 1 olds middle tells found.0))
+    where
+      same-space : (number : ℕ) (old new : PartitionState) → TellsIfNamed command before number old new
+          → new.space ≡ old.space
+      same-space number old new tells = elim tells [
+        | inl named ↦ ap (λ (p : PartitionState). p.space) named.1.0
+        | inr other ↦ ap (λ (p : PartitionState). p.space) other.1
+      ]
+
+      by : (place : ℕ) (told : PartitionState) → slice_get middle place ≡ Some told → (new : PartitionState)
+          → PartLacksFrame told.space new.space → (found : Option PartitionState) → slice_get olds place ≡ found
+          → IsSomeAnd found (λ old. TellsIfNamed command before (1 + place) old told) → SomeHasNoFrame n olds
+      by place told here new lacks None at has = absurd has
+      by place told here new lacks (Some old) at has =
+          let rest = at-place IsAtRest olds place old at (can.rest place) in (
+            place,
+            old,
+            at,
+            part-no-frame n old (at-place (Headline n) olds place old at (heads place))
+                (at-place IsAlone olds place old at (can.alone place)) rest.running rest.part new.space
+                (subst (λ (space : SpaceState). PartLacksFrame space new.space) (same-space (1 + place) old told has) lacks),
+          )
+
+  -- where it is refused, a warehouse has no frame left, or memory lacked
+  pub lacked : (n : ℕ) → ((place : ℕ) → IfSome (slice_get olds place) (Headline n)) → (why : Refusal)
+      → answer.reply ≡ replies.Refused why → IsShortage (SomeHasNoFrame n olds) why
+  lacked n heads why refused = elim does [
     | inl accepts ↦
         absurd (replies-not why (sym (ap (λ (d : DoneState). d.reply) accepts.answer_is) ∙ refused))
     | inr refuses ↦
         let same : refuses.why ≡ why =
         same-why refuses.why why (sym (ap (λ (d : DoneState). d.reply) refuses.answer_is) ∙ refused) in
-        subst IsShortage same (elim refuses.reason [
+        subst (IsShortage (SomeHasNoFrame n olds)) same (elim refuses.reason [
           | inl reason ↦ let some : None ≡ Some refuses.why = sym no-reason ∙ reason in absurd (cc)
-          | inr lacks ↦ elim lacks.1 [ inl frame ↦ inl frame.0 | inr memory ↦ inr memory ]
+          | inr lacks ↦
+              elim lacks.1 [ inl frame ↦ inl (frame.0, some-full n heads frame.1) | inr memory ↦ inr memory ]
         ])
   ]
 

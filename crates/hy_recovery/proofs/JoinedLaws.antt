@@ -1,13 +1,15 @@
 -- The batches of a log one behind another.
 use Rattle.std.proofs.Common.{◌≡◌, ◌<◌, ◌≤◌, ◌+◌, ◌&&◌, ℕ, zero, suc, true, false, List, [], ◌∷◌, ◌++◌, take, drop, length, Option, Some, None, refl, sym, ap, ◌∙◌, subst, arith, length-append}
-use Rattle.std.specs.Prelude.{IfSome, IsSomeAnd, nat_le, slice_get, slice_index_or}
-use Rattle.std.specs.List.{flat_map, list_all}
+use Rattle.std.specs.Prelude.{IsSomeAnd, slice_get, slice_index_or}
+use Rattle.std.specs.List.{list_all}
 use Rattle.std.proofs.lemmas.Bool.{and_parts}
 use Rattle.std.proofs.lemmas.List.{append-nil}
 use Rattle.std.proofs.lemmas.List.Concat.{flat_map-cons}
 use Rattle.hy_rows.specs.Limits.{max_warehouses}
 use Rattle.hy_rows.specs.Ranges.{is_between}
+use Rattle.hy_rows.proofs.BetweenLaws.{bounds}
 use Rattle.hy_rows.specs.Tables.{Lists}
+use Rattle.hy_schema.specs.declared.refusal.Refusal.{Refusal}
 use Rattle.hy_commands.specs.declared.command.Commit.{Commit}
 use Rattle.hy_commands.specs.declared.edition.Edition.{Edition}
 use Rattle.hy_commands.specs.declared.edition.Edition.TheVariants as editions
@@ -18,19 +20,20 @@ use Rattle.hy_batches.proofs.ListLaws.{flat_map-taken}
 use Rattle.hy_partition.specs.Jobs.{Log}
 use Rattle.hy_partition.specs.Partition.{PartitionState, Terms, terms_of}
 use Rattle.hy_partition.specs.Steps.{Begins}
-use Rattle.hy_crossing.specs.Crossings.{next_number}
 use Rattle.hy_crossing.specs.Lists.{Pairwise}
 use Rattle.hy_crossing.specs.Making.{AllBegin}
 use Rattle.hy_forks.specs.Drains.{TellsHere}
-use Rattle.hy_sound.specs.Sound.{AreSound, IsSoundBatch, list_at}
-use Rattle.hy_sound.specs.Merges.{count_of, left_of}
+use Rattle.hy_sound.specs.Sound.{AreSound, list_at}
+use Rattle.hy_sound.specs.Merges.{left_of}
 use Rattle.hy_sound.specs.inside.Steps.{IsSoundFrom}
 use Rattle.hy_sound.proofs.ListLaws.{take-all}
 use Rattle.hy_sound.proofs.LogLaws.{sound-next}
 use Rattle.hy_sound.proofs.MergeLaws.{left-first}
 use Rattle.hy_sound.proofs.SoundLaws.{sound-from}
-use Rattle.hy_recovery.specs.Recovering.{AreRecovered, GoesOn, IsRecovered, NoneAreTooMany, joined}
-use Rattle.hy_recovery.specs.inside.Ways.{Aim, AreOnWay, AreThere, IsBound, Becomes, crossings_in, may_stand, replayed, replaying, untouched}
+use Rattle.hy_recovery.specs.Recovering.{AreRecovered, GoesOn, IsRecovered, LacksFrame, NoneAreTooMany, StopsAtCommit, joined}
+use Rattle.hy_recovery.proofs.EndLaws.{stops-more}
+use Rattle.hy_recovery.proofs.FrameLaws.{shortage-then}
+use Rattle.hy_recovery.specs.inside.Ways.{Aim, AreOnWay, AreThere, IsBound, IsShortage, Becomes, crossings_in, may_stand, replayed, replaying, untouched}
 use Rattle.hy_recovery.proofs.PlaceLaws.{at-place, each-from, get-some, get-within, pairs-at}
 
 -- ---- lists
@@ -65,7 +68,7 @@ drop-at {Row = Row} rows place row at =
     from (first ∷ rows) (suc place) at = from rows place at
 
 -- each batch of a log is one
-batch-at : (edition : Edition) (batches : List Batch) (place : ℕ) (batch : Batch)
+pub batch-at : (edition : Edition) (batches : List Batch) (place : ℕ) (batch : Batch)
     → are_batches_behind edition batches ≡ true → slice_get batches place ≡ Some batch → is_batch batch ≡ true
 batch-at edition [] place batch all at = absurd (cc)
 batch-at edition (first ∷ batches) zero batch all at =
@@ -112,6 +115,14 @@ batch-allowed batch place is within =
     subst (λ n. list_all (may_stand n) (list_at batch.lists place) ≡ true) first
     (lists-allowed batch.edition 1 batch.lists place
     (and_parts (is_between 1 max_warehouses (length batch.lists)) (are_lists batch.edition 1 batch.lists) is).1 within)
+
+-- and has few lists
+pub few-lists : (batches : List Batch) (place : ℕ) (batch : Batch) → are_batches batches ≡ true
+    → slice_get batches place ≡ Some batch → length batch.lists ≤ max_warehouses
+few-lists batches place batch are at =
+    (bounds 1 max_warehouses (length batch.lists)
+    (and_parts (is_between 1 max_warehouses (length batch.lists)) (are_lists batch.edition 1 batch.lists)
+    (batch-at editions.First batches place batch are at)).0).1
 
 -- ---- on the way through a log
 
@@ -206,6 +217,14 @@ module _ (lists : Lists) (batches : List Batch) (frames most place : ℕ) (log :
         subst (λ n. IsSoundFrom lists n split.0 (untouched batch)) (sym run.there.last)
         (sound-from lists run.last split.0 batch (untouched batch) refl left-is split.1);
   }
+
+  -- a commit of the batch that lacked a frame
+  pub next-stops : (n : ℕ) (why : Refusal) → IsShortage (StopsAtCommit n lists next_aim.frames next_aim.goal) why
+      → IsShortage (LacksFrame n lists frames batches) why
+  unfolding next_aim
+  next-stops n why =
+      shortage-then (StopsAtCommit n lists frames (joined (take (place + 1) batches))) (LacksFrame n lists frames batches) why
+      (stops-more n lists frames batches (place + 1))
 
   pub run-more : (later : Log) (news : List PartitionState) → AreThere lists next_aim later news
       → AreRun lists batches frames most (place + 1) later news

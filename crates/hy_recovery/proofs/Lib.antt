@@ -1,4 +1,5 @@
 pub mod PlaceLaws
+pub mod FrameLaws
 pub mod LocalLaws
 pub mod CrossedLaws
 pub mod WayLaws

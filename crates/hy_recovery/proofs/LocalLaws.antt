@@ -1,10 +1,9 @@
 -- A command of one warehouse that is run again: it begins, it ends accepted or for want of frames or memory, and is kept.
-use Rattle.std.proofs.Common.{◌≡◌, ◌⊎◌, ◌<◌, ◌==◌, ◌&&◌, ◌||◌, ℕ, suc, ◌+◌, Bool, true, false, cond, not, List, [], ◌∷◌, ◌++◌, length, map, Option, Some, None, is_none, is_some, inl, inr, refl, sym, ap, ◌∙◌, subst, arith}
+use Rattle.std.proofs.Common.{◌≡◌, ◌⊎◌, ◌==◌, ◌&&◌, ◌||◌, ℕ, Bool, true, false, cond, not, List, [], ◌∷◌, ◌++◌, length, map, Option, Some, None, is_none, inl, inr, refl, sym, ap, ◌∙◌, subst, arith}
 use Rattle.std.specs.Prelude.{MatchOption, nat_lt}
 use Rattle.std.specs.List.{list_all, list_any}
-use Rattle.std.specs.Option.{option_or}
 use Rattle.std.proofs.lemmas.Bool.{and_parts, eqb-true, ltb-false, ne_eqb, false≢true}
-use Rattle.hy_rows.specs.Tables.{Lists, Tables, of_warehouse}
+use Rattle.hy_rows.specs.Tables.{Tables, of_warehouse}
 use Rattle.hy_rows.specs.declared.item.Item.{Item}
 use Rattle.hy_schema.specs.declared.refusal.Refusal.{Refusal}
 use Rattle.hy_schema.specs.declared.refusal.Refusal.TheVariants as refusals
@@ -13,24 +12,24 @@ use Rattle.hy_commands.specs.declared.command.Command.{Command}
 use Rattle.hy_commands.specs.declared.command.Command.TheVariants as commands
 use Rattle.hy_commands.specs.declared.command.Commit.{Commit}
 use Rattle.hy_commands.specs.declared.command.Commit.TheVariants as commits
-use Rattle.hy_commands.specs.declared.reply.Reply.{Reply}
 use Rattle.hy_commands.specs.declared.reply.Reply.TheVariants as replies
 use Rattle.hy_commands.specs.declared.edition.Edition.{Edition}
 use Rattle.hy_commands.specs.declared.edition.Edition.TheVariants as editions
 use Rattle.hy_commands.specs.Commands.{is_in_range, is_reader, kept_of, warehouses_of}
 use Rattle.hy_commands.specs.Customers.{identity_of}
 use Rattle.hy_commands.specs.Parts.{customer_home_of, database_of, is_there, refusal_in, rows_of}
-use Rattle.hy_commands.specs.Transactions.{accepted, begin_refusal_of, has_customer, has_districts, has_items, outcome_of, refusal_of}
+use Rattle.hy_commands.specs.Transactions.{accepted, begin_refusal_of, has_customer, has_items, outcome_of}
 use Rattle.hy_commands.proofs.AcceptedLaws.{IsAcceptedIn, accepted-in}
 use Rattle.hy_commands.proofs.DatabaseLaws.{rows-load, there-load}
 use Rattle.hy_commands.proofs.SameCustomers.{has_customer-same, same-customers}
 use Rattle.hy_database.proofs.PartLaws.{named-customer_home}
 use Rattle.hy_batches.specs.Grammar.{command_fits, is_allowed, names, names_several}
-use Rattle.hy_partition.specs.Jobs.{DoneState, JobState, Log, RunningJob, accepted_answer, begun, entered_by, refused_answer, told}
+use Rattle.hy_partition.specs.Headline.{Headline}
+use Rattle.hy_partition.specs.Jobs.{DoneState, JobState, Log, begun, entered_by}
 use Rattle.hy_partition.specs.Partition.{PartitionState, may_run, outcome_now, refusal_now, rows_now, terms_of}
-use Rattle.hy_partition.specs.Steps.{Accepts, Ends, IsUnbegun, Refuses, begin_refusal, is_busy, is_full, with_job}
-use Rattle.hy_sound.specs.Sound.{is_known}
-use Rattle.hy_recovery.specs.inside.Ways.{CanRunLocal, Enters, IsAtRest, IsShortage, KeepsOne}
+use Rattle.hy_partition.specs.Steps.{Accepts, IsUnbegun, Refuses, begin_refusal, is_full, with_job}
+use Rattle.hy_recovery.specs.inside.Ways.{CanRunLocal, Enters, HasNoFrameFor, IsShortage, KeepsOne}
+use Rattle.hy_recovery.proofs.FrameLaws.{no-frame-for}
 
 -- ---- what such a command has passed
 
@@ -130,8 +129,8 @@ module _ (edition : Edition) (command : Command) (p : PartitionState) (can : Can
       rw (running, part, finished, begins-of, writes, has-room) refl
 
   -- a begin that is refused lacks memory
-  pub unbegun : (why : Refusal) → IsUnbegun p command why → IsShortage why
-  unbegun why refused = elim refused [
+  pub unbegun : (Lacks : Type 0) (why : Refusal) → IsUnbegun p command why → IsShortage Lacks why
+  unbegun Lacks why refused = elim refused [
     | inl reason ↦ let some : None ≡ Some why = sym begins ∙ reason in absurd (cc)
     | inr lacks ↦ inr lacks.2
   ]
@@ -147,6 +146,18 @@ accepted-reply items warehouse edition (commands.Delivery delivery) tables why i
 accepted-reply items warehouse edition (commands.StockLevel level) tables why is = absurd (cc)
 
 -- ---- how it ends
+
+-- what ran to its end is the job that was begun
+pub has-ended : (p began ended : PartitionState) (job this : JobState) (before after : Log) → began ≡ with_job p job → job ≡ this
+    → MatchOption began.running ((ended ≡ began) × (after ≡ before)) (λ running.
+    Accepts running (Some before) (Some after) began ended ⊎ Refuses running (Some before) (Some after) began ended)
+    → Accepts (begun this) (Some before) (Some after) (with_job p this) ended
+    ⊎ Refuses (begun this) (Some before) (Some after) (with_job p this) ended
+has-ended p began ended job this before after is same ends =
+    subst (λ (job : JobState). Accepts (begun job) (Some before) (Some after) (with_job p job) ended
+    ⊎ Refuses (begun job) (Some before) (Some after) (with_job p job) ended) same
+    (subst (λ (q : PartitionState). MatchOption q.running ((ended ≡ q) × (after ≡ before)) (λ running.
+    Accepts running (Some before) (Some after) q ended ⊎ Refuses running (Some before) (Some after) q ended)) is ends)
 
 module _ (edition : Edition) (command : Command) (pass : PassState Commit) (p ended new : PartitionState) (before after : Log)
     (can : CanRunLocal edition command p) where
@@ -178,9 +189,10 @@ module _ (edition : Edition) (command : Command) (pass : PassState Commit) (p en
       answer-is : (answer : DoneState) → ended.finished ≡ Some answer → done ≡ answer
       answer-is answer some = let same : Some done ≡ Some answer = sym found ∙ some in cc (same)
 
-      -- where it is refused, a frame or memory lacked
-      pub lacked : (why : Refusal) → done.reply ≡ replies.Refused why → IsShortage why
-      lacked why refused = elim how [
+      -- where it is refused, no frame is left for it, or memory lacked
+      pub lacked : (n : ℕ) → Headline n p → (why : Refusal) → done.reply ≡ replies.Refused why
+          → IsShortage (HasNoFrameFor n command p) why
+      lacked n head why refused = elim how [
         | inl accepts ↦
             let none = unrefused edition command p can in
             let answer = answer-is _ accepts.does.ends.finished in
@@ -196,7 +208,7 @@ module _ (edition : Edition) (command : Command) (pass : PassState Commit) (p en
             | inl frame ↦
                 let reply : replies.Refused refusals.NoFrame ≡ replies.Refused why =
                 sym (ap (λ (d : DoneState). d.reply) (answer-is _ frame.2.finished)) ∙ refused in
-                inl (same-why reply)
+                inl (same-why reply, no-frame-for n p head can.alone command job refuses.done ended frame.1)
             | inr memory ↦
                 let reply : replies.Refused refusals.NoMemory ≡ replies.Refused why =
                 sym (ap (λ (d : DoneState). d.reply) (answer-is _ memory.1.finished)) ∙ refused in

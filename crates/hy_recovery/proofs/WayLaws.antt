@@ -1,9 +1,9 @@
 -- The partitions go on their way through a batch.
-use Rattle.std.proofs.Common.{◌≡◌, ◌≢◌, ◌⊎◌, ◌<◌, ◌≤◌, ◌==◌, ◌&&◌, ℕ, zero, suc, ◌+◌, Bool, true, false, not, List, [], ◌∷◌, ◌++◌, drop, length, Option, Some, None, is_some, inl, inr, refl, sym, ap, ◌∙◌, subst, arith, length-append, append_assoc}
-use Rattle.std.specs.Prelude.{IfSome, nat_le, nat_lt, slice_get, slice_index_or, slice_set}
+use Rattle.std.proofs.Common.{◌≡◌, ◌≢◌, ◌<◌, ◌==◌, ◌&&◌, ℕ, suc, ◌+◌, Bool, true, false, List, [], ◌∷◌, ◌++◌, drop, length, Some, None, inl, inr, refl, sym, ap, ◌∙◌, subst, arith, length-append, append_assoc}
+use Rattle.std.specs.Prelude.{IfSome, nat_le, slice_get, slice_index_or, slice_set}
 use Rattle.std.specs.List.{filter_map, list_all}
-use Rattle.std.proofs.lemmas.Bool.{and_parts, eqb-false, eqb-true, true≢false}
-use Rattle.std.proofs.lemmas.List.{append-nil}
+use mathlib.Core.List.{IsPrefix}
+use Rattle.std.proofs.lemmas.Bool.{and_parts, eqb-false, eqb-true}
 use Rattle.std.proofs.lemmas.List.Elements.{filter_map-append}
 use Rattle.hy_rows.specs.Tables.{Lists}
 use Rattle.hy_passes.specs.declared.entry.Entry.{Entry}
@@ -11,11 +11,11 @@ use Rattle.hy_commands.specs.declared.command.Command.{Command}
 use Rattle.hy_commands.specs.declared.command.Commit.{Commit}
 use Rattle.hy_commands.specs.declared.command.Commit.TheVariants as commits
 use Rattle.hy_commands.specs.declared.edition.Edition.{Edition}
-use Rattle.hy_commands.specs.Commands.{is_in_range, number_of, warehouses_of}
+use Rattle.hy_commands.specs.Commands.{is_in_range, number_of}
 use Rattle.hy_commands.specs.Parts.{is_by_number}
-use Rattle.hy_batches.specs.Grammar.{command_fits, commit_fits, is_allowed, names, names_several}
+use Rattle.hy_batches.specs.Grammar.{commit_fits, is_allowed, names, names_several}
 use Rattle.hy_partition.specs.Jobs.{Log}
-use Rattle.hy_partition.specs.Partition.{PartitionState, commits_of, terms_of}
+use Rattle.hy_partition.specs.Partition.{PartitionState}
 use Rattle.hy_crossing.specs.Crossings.{ArePartitions, HaveNoPart}
 use Rattle.hy_crossing.specs.Lists.{Pairwise}
 use Rattle.hy_crossing.proofs.InformLaws.{pairs-count}
@@ -24,7 +24,9 @@ use Rattle.hy_sound.specs.Merges.{FindsCrossing, FindsNone, LacksCrossing, Merge
 use Rattle.hy_sound.specs.inside.Steps.{IsAtCrossing, IsSoundFrom}
 use Rattle.hy_sound.proofs.ListLaws.{next-first}
 use Rattle.hy_sound.proofs.SoundLaws.{known-crossing, leads-crossing, next-named, none-left, sound-local, unsound-lacking}
-use Rattle.hy_recovery.specs.inside.Ways.{Aim, AreOnWay, AreThere, CanRunCrossing, CanRunLocal, Enters, IsAtRest, IsBound, KeepsOne, KeepsSeen, KeepsWhereNamed, crossings_in, may_stand}
+use Rattle.hy_recovery.specs.Recovering.{HasNoFrameLeft, StopsAtCommit}
+use Rattle.hy_recovery.specs.inside.Ways.{Aim, AreOnWay, AreThere, CanRunCrossing, CanRunLocal, Enters, HasNoFrame, HasNoFrameFor, IsAlone, IsAtRest, IsBound, KeepsOne, KeepsWhereNamed, SomeHasNoFrame, crossings_in, may_stand}
+use Rattle.hy_recovery.proofs.FrameLaws.{begins-with, kept-there, kept_at, named-no-frame, several-add}
 use Rattle.hy_recovery.proofs.PlaceLaws.{at-place, each-from, each-set, get-some, get-there, get-within, length-set, pairs-each}
 
 -- ---- numbers
@@ -71,6 +73,37 @@ module _ (lists : Lists) (aim : Aim) (merge : MergeState) (log : Log) (parts : L
   way-replays place = each-from (λ p. p.replays ≡ true) (slice_get parts place) (λ p at.
       ap (λ t. t.replays)
       (at-place (IsBound lists aim (left_of merge place) place) parts place p at (way.each place)).terms)
+
+  way-alone : (place : ℕ) → IfSome (slice_get parts place) IsAlone
+  way-alone place = each-from IsAlone (slice_get parts place) (λ p at.
+      (at-place (IsBound lists aim (left_of merge place) place) parts place p at (way.each place)).snapshots)
+
+  -- each has kept the first of what it is to keep, and where a commit is left it is the next
+  begun : (place : ℕ) → place < length lists.tables.warehouses → IsPrefix (kept_at parts place) (aim.goal place)
+  begun place within =
+      let found = get-some parts place (omega (arith, within, way.count)) in
+      let bound = at-place (IsBound lists aim (left_of merge place) place) parts place found.0 found.1 (way.each place) in
+      subst (λ (rows : List Commit). IsPrefix rows (aim.goal place)) (sym (kept-there parts place found.0 found.1))
+      (begins-with found.0.kept (left_of merge place) (aim.goal place) bound.kept)
+
+  next-kept : (place : ℕ) (commit : Commit) → place < count_of merge → next_of (left_of merge place) ≡ Some commit
+      → IsPrefix (kept_at parts place ++ commit ∷ []) (aim.goal place)
+  next-kept place commit within next =
+      let found = get-some parts place (omega (arith, within, way.lists_are)) in
+      let kept : List Commit = found.0.kept in
+      let rest : List Commit = drop 1 (left_of merge place) in
+      let bound = at-place (IsBound lists aim (left_of merge place) place) parts place found.0 found.1 (way.each place) in
+      subst (λ (rows : List Commit). IsPrefix (rows ++ commit ∷ []) (aim.goal place)) (sym (kept-there parts place found.0 found.1))
+      (begins-with (kept ++ commit ∷ []) rest (aim.goal place)
+      (append_assoc kept (commit ∷ []) rest ∙ ap (λ (rows : List Commit). kept ++ rows) (sym (next-first (left_of merge place) commit next))
+      ∙ bound.kept))
+
+  full-at : (n place : ℕ) (p : PartitionState) → slice_get parts place ≡ Some p → HasNoFrame n p
+      → HasNoFrameLeft n lists aim.frames (suc place) (kept_at parts place)
+  full-at n place p at full =
+      let bound = at-place (IsBound lists aim (left_of merge place) place) parts place p at (way.each place) in
+      named-no-frame n p lists aim.frames (suc place) (kept_at parts place) _ bound.terms refl refl bound.max_frames
+      (sym (kept-there parts place p at)) full
 
   -- where a commit is left, there is room for it
   room : (place : ℕ) (p : PartitionState) (commit : Commit) → slice_get parts place ≡ Some p
@@ -120,6 +153,22 @@ module _ (lists : Lists) (aim : Aim) (merge : MergeState) (log : Log) (parts : L
           ∙ (and_parts (is_known lists command) (are_replayable lists (drop 1 (left_of merge place)))
           (sym (ap (are_replayable lists) first) ∙ way.sound.replayable place within)).0;
       few = room place p (commits.Local edition command) at next;
+      alone = bound.snapshots;
+    }
+
+    -- no frame is left for it
+    pub stops-local : (n : ℕ) → HasNoFrameFor n command p → StopsAtCommit n lists aim.frames aim.goal
+    stops-local n lacks = record {
+      kept = kept_at parts;
+      begun = begun;
+      commit = commits.Local edition command;
+      home = place;
+      next = next-kept place (commits.Local edition command) within next;
+      grows = lacks.1;
+      place = place;
+      within = omega (arith, within, way.lists_are, way.count);
+      own = λ none. refl;
+      full = full-at n place p at lacks.0;
     }
 
     module _ (after : MergeState) (new : PartitionState) (later : Log)
@@ -208,6 +257,22 @@ module _ (lists : Lists) (aim : Aim) (merge : MergeState) (log : Log) (parts : L
       few = λ place. each-from _ (slice_get parts place) (λ p at named.
           room place p (commits.Cross edition number command) at
           (next-here place (omega (arith, get-within parts place p at, way.lists_are)) named));
+      alone = way-alone;
+    }
+
+    -- some warehouse has no frame left
+    pub stops-crossing : (n : ℕ) → SomeHasNoFrame n parts → StopsAtCommit n lists aim.frames aim.goal
+    stops-crossing n lacks = record {
+      kept = kept_at parts;
+      begun = begun;
+      commit = commits.Cross edition number command;
+      home = finds.1.0;
+      next = next-kept finds.1.0 (commits.Cross edition number command) finds.1.1.within finds.1.1.next;
+      grows = several-add command several;
+      place = lacks.0;
+      within = omega (arith, get-within parts lacks.0 lacks.1 lacks.2, way.count);
+      own = λ none. absurd (cc);
+      full = full-at n lacks.0 lacks.1 lacks.2 lacks.3;
     }
 
     -- no list goes on otherwise

@@ -10,10 +10,10 @@ ghost use Rattle.hy_partition.specs.Limits.{most_kept};
 ghost use Rattle.hy_partition.specs.Partition.{PartitionState};
 ghost use Rattle.hy_crossing.specs.Crossings.{ArePartitions, HaveNoPart, database_behind};
 ghost use Rattle.hy_forks.specs.Histories.{IsOneHistory};
-ghost use Rattle.hy_recovery.specs.Recovering.{AreRecovered, GoesOn, IsWhyUnrecovered};
+ghost use Rattle.hy_recovery.specs.Recovering.{AreRecovered, GoesOn, IsWhyUnrecovered, NoneAreTooMany};
 ghost use Rattle.hy_recovery.specs.inside.Ways.{Becomes, replayed, replaying};
 
-use crate::counting::some_are_too_many;
+use crate::checking::check_batches;
 use crate::replaying::run_batch;
 use hy_batches::Batches;
 use hy_commands::Commit;
@@ -24,7 +24,6 @@ use hy_loads::Load;
 use hy_partition::{Loaded, Partition};
 use hy_passes::{Journal, PartitionSeat, Pass};
 use hy_schema::Refusal;
-use hy_sound::check_log;
 use std::alloc::Global;
 
 /// Begins the replay in each partition.
@@ -49,9 +48,9 @@ fn end_all<const N: usize, K: Loaded>(parts: &mut Vec<Partition<N, K>>)
 
 /// The partitions of all warehouses of a load once the batches of a log were run again, each by its edition, with the
 /// journal and the pass of the client who runs them. Each partition has kept its lists of all batches, one behind another,
-/// as drained. Refused by the first of these: `LogMalformed` at the first batch that doesn't fit the load or those before
-/// it, as `check_log` says; E3 where a warehouse would keep more than `max_kept` commits; E2; E1, which may come instead
-/// of each. Takes time in proportion to the commits, beside what `check_log` and `partitions_of` take.
+/// as drained. Refused by the first of these: E15 (`LogMalformed`) and then E3, as `check_batches` says; E2 where
+/// `max_frames` are too few for the rows of a warehouse or for one of its commits; E1, where memory lacks before a frame
+/// does. Takes time in proportion to the commits, beside what `check_batches` and `partitions_of` take.
 pub fn recover<const N: usize, K: Loaded>(
     alloc: Global,
     load: &Load,
@@ -75,22 +74,20 @@ pub fn recover<const N: usize, K: Loaded>(
     ensures history { IfOk result
         (λ made. IsOneHistory K.passes.partitions made.1.list.log made.0.items) }
     ensures goes_on { IfOk result (λ made. GoesOn load.now batches.now made.1.list.log) }
+    ensures few { IfOk result (λ made. NoneAreTooMany load.now batches.now max_kept) }
     ensures consistent { IfOk result
         (λ made. first_broken (all_rows (database_behind load.now made.1.list.log)) ≡ None) }
     ensures client { IfOk result (λ made. made.2.client ≡ pass.client) }
     ensures parts { IfOk result (λ made. ArePartitions load.now made.0.items) }
     ensures whole { IfOk result (λ made. HaveNoPart made.0.items) }
-    ensures refused { IfErr result (IsWhyUnrecovered load.now batches.now max_kept) }
+    ensures refused { IfErr result (IsWhyUnrecovered N load.now max_frames batches.now max_kept) }
 {
     batches.sound();
-    check_log(alloc, load, batches)?;
-    if some_are_too_many(load, batches, max_kept) {
-        return Err(Refusal::HistoryFull);
-    }
+    check_batches(alloc, load, batches, max_kept)?;
     let mut parts = partitions_of::<N, K>(alloc, load, seats, max_frames, max_kept)?;
     begin_all(&mut parts);
     for place in 0..batches.count() as usize {
-        pass = run_batch(alloc, &mut parts, &mut journal, batches.batch(place), pass)?;
+        pass = run_batch(&mut parts, &mut journal, batches.batch(place), pass)?;
     }
     end_all(&mut parts);
     find_history(&mut parts, &mut journal);

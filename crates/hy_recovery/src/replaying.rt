@@ -1,8 +1,10 @@
 //! The commits of a batch are run again, in a serial order.
 
-ghost use Rattle.std.specs.Prelude.{◌≡◌, ◌≢◌, ◌<◌, ℕ, IfErr, IfOk, OnOk, length};
+ghost use Rattle.std.specs.Prelude.{◌≡◌, ◌≢◌, ◌<◌, ◌≤◌, ℕ, IfErr, IfOk, OnOk, length};
+ghost use Rattle.hy_rows.specs.Limits.{max_warehouses};
 ghost use Rattle.hy_sound.specs.Merges.{count_of, left_of};
 ghost use Rattle.hy_sound.specs.inside.Steps.{IsAtCrossing};
+ghost use Rattle.hy_recovery.specs.Recovering.{StopsAtCommit};
 ghost use Rattle.hy_recovery.specs.inside.Ways.{Aim, AreOnWay, AreThere, IsShortage, crossings_in, untouched};
 
 use crate::running::{run_crossing, run_local};
@@ -12,10 +14,9 @@ use hy_partition::{Loaded, Partition};
 use hy_passes::{Journal, Pass};
 use hy_schema::Refusal;
 use hy_sound::Merge;
-use std::alloc::Global;
 
-/// Runs the commits of one warehouse in the list at a place, each by its edition, up to the next one of several. E2 or
-/// E1.
+/// Runs the commits of one warehouse in the list at a place, each by its edition, up to the next one of several. E2
+/// where no frame is left for one, or E1.
 fn run_locals<const N: usize, K: Loaded>(
     parts: &mut Vec<Partition<N, K>>,
     journal: &mut Journal<Commit, K>,
@@ -32,7 +33,8 @@ fn run_locals<const N: usize, K: Loaded>(
     ensures count { count_of merge.new ≡ count_of merge.old }
     ensures numbers { OnOk result (crossings_in journal.new.list.log ≡ crossings_in journal.old.list.log) }
     ensures client { IfOk result (λ after. after.client ≡ pass.client) }
-    ensures refused { IfErr result IsShortage }
+    ensures refused { IfErr result (λ why. (aim : Aim) → AreOnWay K.load aim merge.old journal.old.list.log parts.old.items
+        → IsShortage (StopsAtCommit N K.load aim.frames aim.goal) why) }
 {
     'commits: while let Some(Commit::Local(edition, command)) = merge.next(place) {
         pass = run_local(&mut parts[place], journal, *edition, command.copy()?, pass)?;
@@ -54,7 +56,8 @@ fn run_all_locals<const N: usize, K: Loaded>(
     ensures stops { OnOk result ((place : ℕ) → place < count_of merge.new → IsAtCrossing (left_of merge.new place)) }
     ensures numbers { OnOk result (crossings_in journal.new.list.log ≡ crossings_in journal.old.list.log) }
     ensures client { IfOk result (λ after. after.client ≡ pass.client) }
-    ensures refused { IfErr result IsShortage }
+    ensures refused { IfErr result (λ why. (aim : Aim) → AreOnWay K.load aim merge.old journal.old.list.log parts.old.items
+        → IsShortage (StopsAtCommit N K.load aim.frames aim.goal) why) }
 {
     for place in 0..merge.count() {
         pass = run_locals(parts, journal, merge, place, pass)?;
@@ -62,23 +65,25 @@ fn run_all_locals<const N: usize, K: Loaded>(
     Ok(pass)
 }
 
-/// Runs all commits of a batch: those of one warehouse up to the next one of several, then that one, and so on. E2 or
-/// E1.
+/// Runs all commits of a batch: those of one warehouse up to the next one of several, then that one, and so on. E2
+/// where no frame is left for one, or E1.
 pub(crate) fn run_batch<const N: usize, K: Loaded>(
-    alloc: Global,
     parts: &mut Vec<Partition<N, K>>,
     journal: &mut Journal<Commit, K>,
     batch: &Batch,
     mut pass: Pass<Commit, K>,
 ) -> Result<Pass<Commit, K>, Refusal>
+    requires few { length batch.now.lists ≤ max_warehouses }
     requires way { (aim : Aim) × AreOnWay K.load aim (untouched batch.now) journal.old.list.log parts.old.items }
     ensures way { OnOk result ((aim : Aim)
         → AreOnWay K.load aim (untouched batch.now) journal.old.list.log parts.old.items
         → AreThere K.load aim journal.new.list.log parts.new.items) }
     ensures client { IfOk result (λ after. after.client ≡ pass.client) }
-    ensures refused { IfErr result IsShortage }
+    ensures refused { IfErr result (λ why. (aim : Aim)
+        → AreOnWay K.load aim (untouched batch.now) journal.old.list.log parts.old.items
+        → IsShortage (StopsAtCommit N K.load aim.frames aim.goal) why) }
 {
-    let mut merge = Merge::new(alloc, batch)?;
+    let mut merge = Merge::new(batch);
     'crossings: loop {
         pass = run_all_locals(parts, journal, &mut merge, pass)?;
         let last = journal.list.next_crossing() - 1;

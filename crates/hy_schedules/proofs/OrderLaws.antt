@@ -36,7 +36,7 @@ use Rattle.hy_partition.specs.Schedules as one
 use Rattle.hy_partition.specs.Schedules.{Does, Event, Taken, with_known}
 use Rattle.hy_partition.proofs.ReplayLaws.{sound-rows}
 use Rattle.hy_crossing.specs.Crossings.{commits_in, database_behind}
-use Rattle.hy_schedules.specs.Schedules.{ChangesPlace, DoesAll, DoesCross, Ends, EndsIn, EventOfAll, HasSnapshotOf, KeepsEverything, KeepsPlace, Place, RunsAll, Whole, at, closes_all, crosses, drains, entry_behind, forks_all, forks_all_from, fresh_place, fresh_whole, is_local, kept_at, looks, place_at, refusal_behind, with_commit, with_drained, with_entry, with_place, with_places, with_snapshot, with_snapshot_from, without_snapshot, world_at}
+use Rattle.hy_schedules.specs.Schedules.{ChangesPlace, DoesAll, DoesCross, Ends, EndsIn, EventOfAll, HasSnapshotOf, KeepsEverything, KeepsPlace, Place, RunsAll, Whole, at, closes_all, crosses, drains, entry_behind, forks_all, forks_all_from, fresh_place, fresh_whole, is_local, kept_at, looks, place_at, refusal_behind, rested_place, rested_places, rested_whole, with_commit, with_drained, with_entry, with_place, with_places, with_snapshot, with_snapshot_from, without_snapshot, world_at}
 use Rattle.hy_schedules.proofs.PlaceLaws.{each-changed, each-replaced, holds-place, length-each, length-with_place}
 use Rattle.hy_schedules.proofs.StepLaws.{HasRows, IsStep, added-elsewhere, added-here, added-longer, added-rows, added-serial, known-more, rows-more, rows-now, step-ends, step-event}
 
@@ -415,6 +415,7 @@ module _ (projections-agree : ProjectionsAgree) (lists : Lists) (is_load : IsLoa
           known = order.known;
         };
         drained = here.drained;
+        stamped = here.stamped;
         rows =
             ap (λ (l : Lists). rows_after l number place.kept) order.load
             ∙ ap (λ kept. rows_after lists number kept) here.projection
@@ -462,6 +463,97 @@ pub keeps-all : ProjectionsAgree → (lists : Lists) (events : List EventOfAll) 
 keeps-all agree lists events whole is_load run =
     keeps-everything agree lists is_load whole
     (in_order-runs lists events (fresh_whole lists) whole (in_order-fresh lists) run)
+
+-- ---- from any moment on
+
+-- a database that keeps everything is in order
+module _ (lists : Lists) (is_load : IsLoad lists) (whole : Whole) (keeps : KeepsEverything lists whole) where
+  order-place : (number : ℕ) (place : Place) → KeepsPlace lists whole number place
+      → IsPlaceInOrder lists whole.log number place
+  order-place number place is = record {
+    projection = is.alone.projection;
+    snapshots = λ under taken at.
+        let right = is.alone.snapshots under taken at in
+        record {
+          within = right.within;
+          rows = right.rows ∙ ap (λ (l : Lists). rows_after l number (take taken.commits place.kept)) keeps.load;
+        };
+    stamped = is.stamped;
+    drained = is.drained;
+  }
+
+  order-each : (number : ℕ) → IfSome (place_at whole.places number) (IsPlaceInOrder lists whole.log number)
+  order-each number =
+      elim (place_at whole.places number) as (λ found. IfSome found (KeepsPlace lists whole number)
+      → IfSome found (IsPlaceInOrder lists whole.log number)) [
+        | None ↦ λ here. tt
+        | Some place ↦ λ here. order-place number place here
+      ] (keeps.each number)
+
+  first-there : (place : Place) × (place_at whole.places 1 ≡ Some place)
+  first-there = get-some whole.places 0 (omega (arith, keeps.count, is_load.warehouses.whole))
+
+  order-of : IsInOrder lists whole
+  order-of = record {
+    load = keeps.load;
+    count = keeps.count;
+    each = order-each;
+    serial = keeps.serial;
+    known = (holds-place (KeepsPlace lists whole) whole.places 1 first-there.0 first-there.1 keeps.each).alone.known;
+  }
+
+pub keeps-on : ProjectionsAgree → (lists : Lists) (events : List EventOfAll) (old new : Whole) → IsLoad lists
+    → KeepsEverything lists old → RunsAll events old new → KeepsEverything lists new
+keeps-on agree lists events old new is_load keeps run =
+    keeps-everything agree lists is_load new
+    (in_order-runs lists events old new (order-of lists is_load old keeps) run)
+
+-- ---- at rest
+
+length-rested : {Row : Type 0} (log : Log) (number : ℕ) (rows : List Row)
+    → length (rested_places log number rows) ≡ length rows
+length-rested log number [] = refl
+length-rested log number (row ∷ rows) = ap suc (length-rested log (suc number) rows)
+
+module _ (lists : Lists) (log : Log) where
+  rested-place : (number : ℕ) → IsPlaceInOrder lists log number (rested_place (projection_of number log))
+  rested-place number = record {
+    projection = refl;
+    snapshots = λ under taken is. absurd (cc);
+    stamped = λ job is. absurd (cc);
+    drained = omega arith;
+  }
+
+  rested-from : {Row : Type 0} (number : ℕ) (rows : List Row) (place : ℕ)
+      → IfSome (slice_get (rested_places log number rows) place) (IsPlaceInOrder lists log (number + place))
+  rested-from number [] place = tt
+  rested-from number (row ∷ rows) zero =
+      let same : number ≡ number + 0 = omega arith in
+      subst (λ n. IsPlaceInOrder lists log n (rested_place (projection_of number log))) same (rested-place number)
+  rested-from number (row ∷ rows) (suc place) =
+      let next : suc number + place ≡ number + suc place = omega arith in
+      subst (λ n. IfSome (slice_get (rested_places log (suc number) rows) place) (IsPlaceInOrder lists log n)) next
+      (rested-from (suc number) rows place)
+
+  rested-each : (number : ℕ)
+      → IfSome (place_at (rested_places log 1 lists.tables.warehouses) number) (IsPlaceInOrder lists log number)
+  rested-each zero = tt
+  rested-each (suc place) =
+      let first : 1 + place ≡ suc place = omega arith in
+      subst (λ n. IfSome (slice_get (rested_places log 1 lists.tables.warehouses) place) (IsPlaceInOrder lists log n)) first
+      (rested-from 1 lists.tables.warehouses place)
+
+pub keeps-rested : ProjectionsAgree → (lists : Lists) (log : Log) (known : ℕ → ℕ) → IsLoad lists
+    → IsSerial warehouses_of_commit number_of (length lists.tables.warehouses) log
+    → ((client : ℕ) → known client ≤ length log) → KeepsEverything lists (rested_whole lists log known)
+keeps-rested agree lists log known is_load serial within =
+    keeps-everything agree lists is_load (rested_whole lists log known) (record {
+      load = refl;
+      count = length-rested log 1 lists.tables.warehouses;
+      each = rested-each lists log;
+      serial = serial;
+      known = within;
+    })
 
 -- snapshots that are taken together have the rows of one database
 pub of-one_moment : (lists : Lists) (client : ℕ) (children : ℕ → ℕ) (old new : Whole) → KeepsEverything lists old

@@ -5,7 +5,7 @@
 -- changes nothing.
 use Rattle.std.specs.Prelude.{◌≡◌, ⊤, ℕ, zero, suc, ◌-◌, ◌≤◌, ◌⊎◌, nat_lt, if◌then◌else◌, Bool, true, false, List, [], ◌∷◌, ◌++◌, filter, length, map, slice_get, slice_set, Option, None, Some, IfSome, IsSome, MatchOption}
 use Rattle.std.specs.List.{range_with_len}
-use Rattle.std.specs.Option.{option_map, unwrap_or}
+use Rattle.std.specs.Option.{ForSome, option_map, unwrap_or}
 use Rattle.hy_passes.specs.Agreement.{Agree}
 use Rattle.hy_passes.specs.SerialList.{IsSerial, names}
 use Rattle.hy_passes.specs.declared.entry.Entry.{Entry}
@@ -20,7 +20,7 @@ use Rattle.hy_commands.specs.Parts.{Database, refusal_in, rows_of}
 use Rattle.hy_commands.specs.Transactions.{refusal_of}
 use Rattle.hy_database.specs.Database.{all_rows, kept_in}
 use Rattle.hy_partition.specs.Jobs.{Log}
-use Rattle.hy_partition.specs.Partition.{PartitionState}
+use Rattle.hy_partition.specs.Partition.{PartitionState, projection_of}
 use Rattle.hy_partition.specs.Schedules as one
 use Rattle.hy_partition.specs.Schedules.{Does, Event, IsWorldOf, KeepsAll, Taken, Underway, World, with_accepted, with_known, with_open, with_refused}
 use Rattle.hy_partition.specs.Snapshots.{SnapshotState}
@@ -86,6 +86,20 @@ fresh_whole lists = record {
   known = λ client. 0;
   places = map (λ warehouse. fresh_place) lists.tables.warehouses;
 }
+
+-- a database at rest behind a serial list, of which its clients know so much: each warehouse has kept what that list has of
+-- it, and all of that was drained; nothing runs, no answer waits, no snapshot is open
+abbrev pub rested_place : List Commit → Place
+rested_place kept =
+    record { kept = kept; drained = length kept; running = None; waits = false; open_at = λ number. None }
+
+abbrev pub rested_places : {Row : Type 0} → Log → ℕ → List Row → List Place
+rested_places log number [] = []
+rested_places log number (row ∷ rows) = rested_place (projection_of number log) ∷ rested_places log (suc number) rows
+
+abbrev pub rested_whole : Lists → Log → (ℕ → ℕ) → Whole
+rested_whole lists log known =
+    record { load = lists; log = log; known = known; places = rested_places log 1 lists.tables.warehouses }
 
 -- ---- events
 
@@ -215,11 +229,12 @@ RunsAll (event ∷ events) old new = (mid : Whole) × HappensAll event old mid �
 
 -- ---- what no schedule breaks
 
--- a warehouse is in order alone; no more of it was drained than is kept, and its rows are those of the warehouse in the
--- database behind the serial list
+-- a warehouse is in order alone; no more of it was drained than is kept, what runs there has a stamp that the serial list
+-- respects, and its rows are those of the warehouse in the database behind that list
 pub record KeepsPlace (lists : Lists) (whole : Whole) (number : ℕ) (place : Place) : Type 0 where
   pub alone : KeepsAll lists number (world_at whole number place)
   pub drained : place.drained ≤ length place.kept
+  pub stamped : ForSome place.running (λ job. job.stamp ≤ length whole.log)
   pub rows : one.rows_of (world_at whole number place) ≡ rows_of number (database_behind lists whole.log)
 
 -- what the warehouse with a number has kept

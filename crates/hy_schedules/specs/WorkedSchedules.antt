@@ -23,7 +23,7 @@ use Rattle.hy_commands.specs.Commands.{number_of}
 use Rattle.hy_commands.specs.WorkedSample.{customers, district, each, items, stock, up_to, warehouse}
 use Rattle.hy_partition.specs.Schedules as one
 use Rattle.hy_partition.specs.Schedules.{Taken, Underway, World, begins, steps, takes, with_accepted, with_known}
-use Rattle.hy_schedules.specs.Schedules.{ChangesPlace, DoesAll, Ends, EventOfAll, Place, RunsAll, Whole, at, closes_all, crosses, drains, entry_behind, fresh_place, fresh_whole, forks_all, forks_all_from, kept_at, looks, place_at, refusal_behind, with_drained, with_entry, with_place, with_places, with_snapshot, with_snapshot_from, without_snapshot, world_at}
+use Rattle.hy_schedules.specs.Schedules.{ChangesPlace, DoesAll, Ends, EventOfAll, Place, RunsAll, Whole, at, closes_all, crosses, drains, entry_behind, forks_all, forks_all_from, fresh_place, fresh_whole, kept_at, looks, place_at, refusal_behind, rested_whole, with_drained, with_entry, with_place, with_places, with_snapshot, with_snapshot_from, without_snapshot, world_at}
 
 -- ---- two warehouses with a district each, where a load has ten
 
@@ -239,6 +239,24 @@ entered_at_last = refl
 kept_at_last : (kept_at last.places 1 ≡ commits.Local editions.Second pay ∷ commits.Cross editions.Second 1 order ∷ [])
     × (kept_at last.places 2 ≡ commits.Cross editions.Second 1 order ∷ [])
 kept_at_last = (refl, refl)
+
+-- a database at rest behind the same serial list has kept as much, all of it drained; behind an empty one it is fresh
+rested_at_last : rested_whole lists last.log last.known
+    ≡ record {
+      load = lists;
+      log = last.log;
+      known = last.known;
+      places =
+          record fresh_place {
+            kept = commits.Local editions.Second pay ∷ commits.Cross editions.Second 1 order ∷ [];
+            drained = 2;
+          }
+          ∷ record fresh_place { kept = commits.Cross editions.Second 1 order ∷ []; drained = 1 } ∷ [];
+    }
+rested_at_last = refl
+
+rested_at_first : rested_whole lists [] (λ client. 0) ≡ fresh_whole lists
+rested_at_first = refl
 
 known_before : (drained.known 5 ≡ 1) × (drained.known 6 ≡ 2) × (drained.known 7 ≡ 2) × (drained.known 8 ≡ 0)
 known_before = (refl, refl, refl, refl)

@@ -1,11 +1,12 @@
 //! What holds after every list of calls on the partitions of all warehouses.
 
-ghost use Rattle.std.specs.Prelude.{◌≡◌, ℕ, suc, ◌<◌, IsSome, IfSome, List, [], None, Some, length, nat_lt, slice_get, true};
+ghost use Rattle.std.specs.Prelude.{◌≡◌, ℕ, suc, ◌<◌, ◌≤◌, IsSome, IfSome, List, [], None, Some, length, nat_lt, slice_get, true};
 ghost use Rattle.hy_worlds.specs.Origins.{Origin};
 ghost use Rattle.hy_rows.specs.Tables.{Lists};
 ghost use Rattle.hy_schema.specs.Loads.{IsLoad};
 ghost use Rattle.hy_commands.specs.declared.edition.Edition.TheVariants as editions;
-ghost use Rattle.hy_commands.specs.Commands.{warehouses_of};
+ghost use Rattle.hy_passes.specs.SerialList.{IsSerial};
+ghost use Rattle.hy_commands.specs.Commands.{number_of, warehouses_of, warehouses_of_commit};
 ghost use Rattle.hy_partition.specs.declared.job.Progress.{Progress};
 ghost use Rattle.hy_partition.specs.Jobs.{DoneState, JobState, Log, RunningJob};
 ghost use Rattle.hy_partition.specs.Partition.{PartitionState};
@@ -16,7 +17,7 @@ ghost use Rattle.hy_crossing.specs.Crossings.{ArePartitions, Crosses, database_b
 ghost use Rattle.hy_crossing.specs.Lists.{ChangesAt, Pairwise};
 ghost use Rattle.hy_forks.specs.Drains.{DrainsHere, TellsHere};
 ghost use Rattle.hy_forks.specs.Forks.{ClosesHere, ForksAll, ForksAllFrom, IsUnforked};
-ghost use Rattle.hy_schedules.specs.Schedules.{DoesAll, EventOfAll, HasSnapshotOf, IsWholeOf, KeepsEverything, LeadsAll, RunsAll, Whole, at, children_of, closes_all, crosses, drains, forks_all, forks_all_from, fresh_whole, looks, place_at};
+ghost use Rattle.hy_schedules.specs.Schedules.{DoesAll, EventOfAll, HasSnapshotOf, IsWholeOf, KeepsEverything, LeadsAll, RunsAll, Whole, at, children_of, closes_all, crosses, drains, forks_all, forks_all_from, fresh_whole, looks, place_at, rested_whole};
 
 use hy_commands::{Command, Commit, Edition, StockLevel};
 use hy_partition::calls_are_events;
@@ -26,10 +27,17 @@ use hy_passes::projections_agree;
 /// keeps what `every_schedule` of hy_partition says of it alone, and has the rows of its warehouse in the database
 /// behind the serial list. That list numbers the commits of several warehouses without a gap and respects its stamps,
 /// and the kept lists agree on these commits. All rows together meet the consistency conditions 1 to 10 and 12 (TPC-C
-/// clause 3.3.2). So do those of the snapshots that are taken together, which have the rows of one database.
+/// clause 3.3.2). So do those of the snapshots that are taken together, which have the rows of one database. The same holds
+/// after events that go on from any moment at which it held, and of a database at rest behind any serial list, as recovery
+/// leaves one.
 pub fn every_schedule_of_all()
     ensures keeps { (lists : Lists) (events : List EventOfAll) (whole : Whole) → IsLoad lists
         → RunsAll events (fresh_whole lists) whole → KeepsEverything lists whole }
+    ensures rests { (lists : Lists) (log : Log) (known : ℕ → ℕ) → IsLoad lists
+        → IsSerial warehouses_of_commit number_of (length lists.tables.warehouses) log
+        → ((client : ℕ) → known client ≤ length log) → KeepsEverything lists (rested_whole lists log known) }
+    ensures goes_on { (lists : Lists) (events : List EventOfAll) (old new : Whole) → IsLoad lists
+        → KeepsEverything lists old → RunsAll events old new → KeepsEverything lists new }
     ensures one_moment { (lists : Lists) (client : ℕ) (children : ℕ → ℕ) (old new : Whole) → KeepsEverything lists old
         → DoesAll (forks_all client children) old new → (number : ℕ) → IfSome (place_at new.places number)
         (HasSnapshotOf (database_behind lists new.log) number (children number)) }

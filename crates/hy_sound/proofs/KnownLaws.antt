@@ -1,13 +1,14 @@
 -- What a load says of a command.
-use Rattle.std.proofs.Common.{◌≡◌, ◌-◌, ◌+◌, ◌<◌, ◌≤◌, ◌&&◌, ℕ, suc, Bool, true, false, not, cond, List, length, Option, Some, None, is_none, is_some, refl, sym, ap, ◌∙◌, arith, subst}
-use Rattle.std.specs.Prelude.{IfSome, MatchOption, slice_get, slice_index_or}
-use Rattle.std.specs.List.{find, list_all, list_any}
+use Rattle.std.proofs.Common.{◌≡◌, ◌-◌, ◌<◌, ◌≤◌, ◌&&◌, ℕ, suc, Bool, true, false, not, cond, List, length, Option, Some, None, is_none, is_some, refl, sym, ap, ◌∙◌, arith, subst}
+use Rattle.std.specs.Prelude.{IfSome, MatchOption, slice_index_or}
+use Rattle.std.specs.List.{list_all, list_any}
+use Rattle.std.proofs.lemmas.Bool.{false≢true}
 use Rattle.hy_rows.specs.Ranges.{is_between}
 use Rattle.hy_rows.proofs.BetweenLaws.{bounds}
-use Rattle.hy_rows.specs.Tables.{Lists, Tables, of_warehouse}
+use Rattle.hy_rows.specs.Tables.{Lists, Tables}
 use Rattle.hy_rows.specs.declared.item.Item.{Item}
-use Rattle.hy_schema.specs.declared.refusal.Refusal.{Refusal}
 use Rattle.hy_schema.specs.declared.refusal.Refusal.TheVariants as refusals
+use Rattle.hy_schema.specs.Loads.{HasSome, IsItemAt, IsRight}
 use Rattle.hy_schema.specs.Related.{is_item}
 use Rattle.hy_commands.specs.declared.command.Command.{Command}
 use Rattle.hy_commands.specs.declared.command.Command.TheVariants as commands
@@ -18,12 +19,12 @@ use Rattle.hy_commands.specs.declared.command.Who.{Who}
 use Rattle.hy_commands.specs.declared.command.Who.TheVariants as who
 use Rattle.hy_commands.specs.Commands.{is_in_range, warehouses_of}
 use Rattle.hy_commands.specs.Customers.{customer_meant}
-use Rattle.hy_commands.specs.Parts.{customer_home_of, database_of, is_there, refusal_in, rows_of}
+use Rattle.hy_commands.specs.Parts.{customer_home_of, database_of, is_there}
 use Rattle.hy_commands.specs.Transactions.{has_customer, has_districts, has_items}
 use Rattle.hy_commands.proofs.DatabaseLaws.{length-database, rows-load}
-use Rattle.hy_commands.proofs.ListLaws.{found-any}
 use Rattle.hy_database.proofs.PartLaws.{named-customer_home}
 use Rattle.hy_layout.specs.Layout.{IsMeantAt, LayoutState, own_rows}
+use Rattle.hy_loads.proofs.ThereLaws.{HasItems-right}
 use Rattle.hy_sound.specs.Sound.{is_known}
 use Rattle.hy_sound.specs.inside.Places.{AreLayouts, knows_customer}
 use Rattle.hy_sound.proofs.ListLaws.{get-there}
@@ -72,20 +73,29 @@ known-status command status warehouse tables found is home meant =
 
 -- ---- an item
 
-pub item-missing : {Found : Type 0} (found : Option Found) (Missing : Type 0) (There : Found → Type 0)
-    → is_some found ≡ false → MatchOption found Missing There → Missing
-item-missing None Missing There none missing = missing
-item-missing (Some row) Missing There none there = absurd (cc)
-
-pub item-there : {Found : Type 0} (now : Found → Item) (found : Option Found) (Missing : Type 0) (items : List Item)
-    (number : ℕ) → is_some found ≡ true
-    → MatchOption found Missing (λ item. find (is_item number) items ≡ Some (now item))
-    → list_any (is_item number) items ≡ true
-item-there now None Missing items number some is = absurd (cc)
-item-there now (Some row) Missing items number some is =
-    sym (found-any (is_item number) items) ∙ ap is_some is
+-- the items of a load have the numbers 1, 2, 3 and so on
+pub item-there : (items : List Item) (number : ℕ) → IsRight IsItemAt (HasSome items) items
+    → is_between 1 (length items) number ≡ list_any (is_item number) items
+item-there items number right = by (is_between 1 (length items) number) refl (list_any (is_item number) items) refl
+  where
+    by : (between : Bool) → is_between 1 (length items) number ≡ between → (found : Bool)
+        → list_any (is_item number) items ≡ found → between ≡ found
+    by true one true other = refl
+    by false one false other = refl
+    by true one false other =
+        let has = HasItems-right items right number in absurd (false≢true (sym other ∙ has.1 one))
+    by false one true other =
+        let has = HasItems-right items right number in absurd (false≢true (sym one ∙ has.0 other))
 
 -- ---- the layout of a warehouse
+
+-- the layouts that were made are those of the load
+pub made-layouts : {Made : Type 0} (items_of : Made → List LayoutState) (load lists : Lists) (found : Option Made) (made : Made)
+    → load ≡ lists → found ≡ Some made → IfSome found (λ made. AreLayouts load (items_of made))
+    → AreLayouts lists (items_of made)
+made-layouts {Made = Made} items_of load lists found made same is are =
+    subst (λ (load : Lists). AreLayouts load (items_of made)) same
+    (subst (λ (found : Option Made). IfSome found (λ made. AreLayouts load (items_of made))) is are)
 
 module _ (lists : Lists) (command : Command)
     (there : list_all (is_between 1 (length lists.tables.warehouses)) (warehouses_of command) ≡ true) where
@@ -95,7 +105,7 @@ module _ (lists : Lists) (command : Command)
   abbrev count : ℕ
   count = length lists.tables.warehouses
 
-  home-there : is_between 1 count home ≡ true
+  pub home-there : is_between 1 count home ≡ true
   home-there = named-customer_home (is_between 1 count) command there
 
   pub first-home : 1 ≤ home

@@ -107,12 +107,6 @@ index-replicate zero place = refl
 index-replicate (suc count) zero = refl
 index-replicate (suc count) (suc place) = index-replicate count place
 
-pub index-here : (numbers : List ℕ) (place number : ℕ) → place < length numbers
-    → number ≡ slice_index_or numbers place number → slice_index numbers place ≡ number
-index-here [] place number within here = absurd (omega (arith, within))
-index-here (first ∷ numbers) zero number within here = sym here
-index-here (first ∷ numbers) (suc place) number within here = index-here numbers place number (omega (arith, within)) here
-
 -- ---- a row more, and what is read at a place
 
 pub each-next : {Row : Type 0} (Holds : ℕ → Row → Type 0) (rows : List Row) (row : Row)

@@ -1,6 +1,6 @@
 -- What a merge has left.
 use Rattle.std.proofs.Common.{◌≡◌, ◌≢◌, ◌⊎◌, ◌<◌, ◌≤◌, ◌+◌, ◌==◌, ℕ, suc, Bool, true, false, List, [], ◌∷◌, length, drop, slice_get, Some, inl, inr, refl, sym, ap, ◌∙◌, arith, subst}
-use Rattle.std.specs.Prelude.{slice_index, slice_set, slice_index_or}
+use Rattle.std.specs.Prelude.{slice_index, slice_set}
 use Rattle.std.proofs.lemmas.Bool.{eqb-false, eqb-true, true≢false}
 use Rattle.hy_commands.specs.declared.command.Command.{Command}
 use Rattle.hy_commands.specs.declared.command.Commit.{Commit}
@@ -9,7 +9,7 @@ use Rattle.hy_commands.specs.declared.edition.Edition.{Edition}
 use Rattle.hy_batches.specs.Grammar.{names}
 use Rattle.hy_sound.specs.Sound.{list_at}
 use Rattle.hy_sound.specs.Merges.{MergeState, PassesCrossing, count_of, left_of}
-use Rattle.hy_sound.proofs.ListLaws.{drop-next, get-left, index-here, index-set_here, index-set_other, next-first, none-left}
+use Rattle.hy_sound.proofs.ListLaws.{drop-next, get-left, index-set_here, index-set_other, next-first, none-left}
 
 pub next-left : (merge : MergeState) (place : ℕ)
     → slice_get (left_of merge place) 0 ≡ slice_get (list_at merge.lists place) (slice_index merge.passed place)
@@ -23,22 +23,22 @@ unfolding left_of
 left-first merge place none = ap (λ n. drop n (list_at merge.lists place)) none
 
 -- one more was passed
-module _ (merge : MergeState) (place number : ℕ) (within : place < length merge.passed)
-    (here : number ≡ slice_index_or merge.passed place number) where
+module _ (merge : MergeState) (place : ℕ) (within : place < length merge.passed) where
   abbrev pub passed-one : MergeState
-  passed-one = record merge { passed = slice_set merge.passed place (number + 1) }
+  passed-one = record merge { passed = slice_set merge.passed place (slice_index merge.passed place + 1) }
 
   pub left-passed : left_of passed-one place ≡ drop 1 (left_of merge place)
   unfolding left_of
   left-passed =
-      ap (λ n. drop n (list_at merge.lists place)) (index-set_here merge.passed place (number + 1) within)
-      ∙ ap (λ n. drop (n + 1) (list_at merge.lists place)) (sym (index-here merge.passed place number within here))
+      ap (λ n. drop n (list_at merge.lists place))
+      (index-set_here merge.passed place (slice_index merge.passed place + 1) within)
       ∙ drop-next (slice_index merge.passed place) (list_at merge.lists place)
 
   pub left-other : (other : ℕ) → other ≢ place → left_of passed-one other ≡ left_of merge other
   unfolding left_of
   left-other other apart =
-      ap (λ n. drop n (list_at merge.lists other)) (index-set_other merge.passed place other (number + 1) apart)
+      ap (λ n. drop n (list_at merge.lists other))
+      (index-set_other merge.passed place other (slice_index merge.passed place + 1) apart)
 
 -- none was left
 pub left-none : (merge : MergeState) (place : ℕ) → length (list_at merge.lists place) ≤ slice_index merge.passed place

@@ -1,10 +1,11 @@
 -- Batches that are sound and others, by hand. The load has two warehouses, three customers in each district, and 20 items.
-use Rattle.std.proofs.Common.{◌≡◌, ◌<◌, ◌+◌, ℕ, zero, suc, true, false, [], ◌∷◌, refl, arith}
+use Rattle.std.proofs.Common.{◌≡◌, ◌<◌, ◌+◌, ℕ, zero, suc, true, false, List, [], ◌∷◌, Err, refl, arith}
 use Rattle.std.specs.Prelude.{map}
 use Rattle.std.specs.List.{range_with_len}
 use Rattle.hy_rows.specs.Tables.{Lists, no_rows}
 use Rattle.hy_rows.specs.declared.customer.Customer.{Customer}
 use Rattle.hy_schema.specs.Keys.{district_numbers}
+use Rattle.hy_schema.specs.declared.refusal.Refusal.TheVariants as refusals
 use Rattle.hy_passes.specs.SerialList.{projection}
 use Rattle.hy_commands.specs.declared.command.Command.{Command}
 use Rattle.hy_commands.specs.declared.command.Command.TheVariants as commands
@@ -17,7 +18,7 @@ use Rattle.hy_commands.specs.Commands.{warehouses_of_commit}
 use Rattle.hy_commands.specs.WorkedSample.{customers, each, items, up_to, warehouse}
 use Rattle.hy_batches.specs.Batches.{Batch}
 use Rattle.hy_batches.specs.Grammar.{is_batch}
-use Rattle.hy_sound.specs.Sound.{AreInStep, IsSoundBatch, IsSoundLog, are_replayable, crossings_of, is_known, list_at}
+use Rattle.hy_sound.specs.Sound.{AreInStep, IsSoundBatch, IsSoundLog, Looks, are_replayable, crossings_of, is_known, list_at}
 use Rattle.hy_sound.specs.Merges.{GoesOnAt, MergeState, left_of}
 use Rattle.hy_sound.specs.inside.Steps.{IsAtCrossing}
 use Rattle.hy_sound.proofs.SoundLaws.{none-left, sound-from, unsound-lacking}
@@ -188,3 +189,11 @@ not_the_next edition after sound =
     none zero by command goes = let next = goes.next in absurd (cc)
     none (suc zero) by command goes = let next = goes.next in absurd (cc)
     none (suc (suc place)) by command goes = absurd (omega (arith, goes.within))
+
+-- ---- what looking answers: want of memory and of frames never
+
+no_memory_is_no_answer : (lists : Lists) (batches : List Batch) → Looks lists batches (Err refusals.NoMemory) → ⊥
+no_memory_is_no_answer lists batches looks = looks
+
+no_frame_is_no_answer : (lists : Lists) (batches : List Batch) → Looks lists batches (Err refusals.NoFrame) → ⊥
+no_frame_is_no_answer lists batches looks = looks

@@ -80,9 +80,8 @@ pub record IsFirstUnsound (lists : Lists) (batches : List Batch) (place : ℕ) :
   pub unsound : (after : ℕ) → IsSoundBatch lists last after batch → ⊥
   pub place_is : place ≡ length (log_bytes front)
 
--- what looking answers: the place of the first batch that isn't sound, unless memory lacks
+-- what looking answers: that all batches are sound, or the place of the first one that isn't
 abbrev pub Looks : Lists → List Batch → Result (Unit {0}) Refusal → Type 0
 Looks lists batches (Ok done) = IsSoundLog lists batches
 Looks lists batches (Err (refusals.LogMalformed place)) = IsFirstUnsound lists batches place
-Looks lists batches (Err refusals.NoMemory) = Unit {0}
 Looks lists batches (Err why) = ⊥

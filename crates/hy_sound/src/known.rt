@@ -1,61 +1,76 @@
 //! What a load says of commands.
 
-ghost use Rattle.std.specs.Prelude.{◌≡◌, ◌&&◌, true, IfOk, length};
-ghost use Rattle.std.specs.List.{list_all};
+ghost use Rattle.std.specs.Prelude.{◌≡◌, ◌≤◌, ◌&&◌, true, IfOk, IfSome, length};
+ghost use Rattle.std.specs.List.{list_all, list_any};
+ghost use Rattle.hy_rows.specs.Limits.{max_warehouses};
 ghost use Rattle.hy_rows.specs.Ranges.{is_between};
+ghost use Rattle.hy_schema.specs.Related.{is_item};
 ghost use Rattle.hy_commands.specs.Commands.{warehouses_of};
 ghost use Rattle.hy_commands.specs.Parts.{customer_home_of};
 ghost use Rattle.hy_commands.specs.NewOrders.{has_item};
 ghost use Rattle.hy_commands.specs.Transactions.{has_customer, has_districts, has_items, is_district_number};
 ghost use Rattle.hy_layout.specs.Layout.{own_rows};
 ghost use Rattle.hy_sound.specs.Sound.{is_known};
-ghost use Rattle.hy_sound.specs.inside.Places.{knows_customer};
+ghost use Rattle.hy_sound.specs.inside.Places.{AreLayouts, knows_customer};
 
+use crate::customers::is_customer_among;
 use hy_commands::{Command, PurchaseLines};
 use hy_layout::Layout;
 use hy_loads::Load;
-use hy_rows::{DISTRICTS_PER_WAREHOUSE, Warehouse};
+use hy_rows::{DISTRICTS_PER_WAREHOUSE, Item, Warehouse};
 use std::alloc::{AllocError, Global};
 use std::marker::Model;
 
-/// The warehouses of a load, with the places of their customers.
+/// The warehouses of a load, with the places of their customers where there is memory for these.
 #[derive(Drop)]
-pub(crate) struct Known {
-    load: Load,
-    layouts: Vec<Layout>,
+pub(crate) struct Known<'a> {
+    load: &'a Load,
+    // how many warehouses there are
+    count: usize,
+    layouts: Option<Vec<Layout>>,
 }
 
 // Clauses see the load.
-impl Model for Known {
+impl<'a> Model for Known<'a> {
+    ghost use Rattle.std.specs.Prelude.{◌≡◌, IfSome, length};
     ghost use Rattle.hy_rows.specs.Tables.{Lists};
     ghost use Rattle.hy_sound.specs.inside.Places.{AreLayouts};
 
     ghost Value = { Lists };
 
-    ghost view = { λ known. known.load };
+    ghost view = { λ known. known.load.now };
 
-    ghost invariant = { λ known. AreLayouts known.load known.layouts.items };
+    ghost invariant = { λ known. (known.count ≡ length known.load.now.tables.warehouses)
+        × IfSome known.layouts (λ layouts. AreLayouts known.load.now layouts.items) };
 }
 
-impl Known {
+impl<'a> Known<'a> {
     /// What this load says. Takes time n log n for its n customers.
-    pub(crate) fn new(alloc: Global, load: &Load) -> Result<Known, AllocError>
-        ensures { IfOk result (λ known. known ≡ load.now) }
+    pub(crate) fn new(alloc: Global, load: &'a Load) -> Known<'a>
+        ensures { result ≡ load.entry.now }
     {
-        let count = count_of(load);
-        let mut layouts = Vec::with_capacity(alloc, usize::from(count))?;
-        for before in 0..count {
-            layouts.push_reserved(Layout::new(alloc, load, before + 1)?);
+        let count = load.list::<Warehouse>().len();
+        match layouts_of(alloc, load) {
+            Ok(layouts) => Known {
+                load,
+                count,
+                layouts: Some(layouts),
+            },
+            Err(_) => Known {
+                load,
+                count,
+                layouts: None,
+            },
         }
-        let load = load.share()?;
-        Ok(Known { load, layouts })
     }
 
     /// How many warehouses there are.
     pub(crate) fn count(&self) -> usize
-        ensures { result ≡ length self.now.tables.warehouses }
+        ensures count { result ≡ length self.now.tables.warehouses }
+        ensures few { result ≤ max_warehouses }
     {
-        self.layouts.len()
+        self.load.sound();
+        self.count
     }
 
     /// Whether the database of the load refuses a command for no reason.
@@ -77,38 +92,48 @@ impl Known {
         ensures { result ≡ (has_districts command.now && knows_customer self.now command.now
             && has_items self.now.items command.now) }
     {
-        has_districts(command) && self.has_customer(command) && self.has_items(command)
+        has_districts(command) && self.has_customer(command) && has_items(self.load, command)
     }
 
-    /// Whether the customer whom a command names is there; a command whose warehouses are.
+    /// Whether the customer whom a command names is there; a command whose warehouses and districts are.
     fn has_customer(&self, command: &Command) -> bool
-        requires { list_all (is_between 1 (length self.now.tables.warehouses)) (warehouses_of command.now) ≡ true }
+        requires warehouses { list_all (is_between 1 (length self.now.tables.warehouses)) (warehouses_of command.now) ≡ true }
+        requires districts { has_districts command.now ≡ true }
         ensures { result ≡ knows_customer self.now command.now }
     {
-        is_customer_of(self.layout_for(command), command)
-    }
-
-    /// Whether the items that a command names are there; a command whose warehouses are.
-    fn has_items(&self, command: &Command) -> bool
-        requires { list_all (is_between 1 (length self.now.tables.warehouses)) (warehouses_of command.now) ≡ true }
-        ensures { result ≡ has_items self.now.items command.now }
-    {
-        let layout = self.layout_for(command);
-        match command {
-            Command::NewOrder(order) => has_lines(layout, &order.lines),
-            _ => true,
+        match self.layout_for(command) {
+            Some(layout) => is_customer_of(layout, command),
+            None => is_customer_among(self.load, command),
         }
     }
 
-    /// The warehouse of the customer whom a command names; a command whose warehouses are there.
-    fn layout_for(&self, command: &Command) -> &Layout
+    /// The warehouse of the customer whom a command names; a command whose warehouses are there. None where there was no
+    /// memory for it.
+    fn layout_for(&self, command: &Command) -> Option<&Layout>
         requires { list_all (is_between 1 (length self.now.tables.warehouses)) (warehouses_of command.now) ≡ true }
-        ensures layout { result.now ≡ record { load = self.now; warehouse = customer_home_of command.now } }
-        ensures rows { has_customer command.now (own_rows result.now) ≡ knows_customer self.now command.now }
+        ensures layout { IfSome result (λ layout.
+            layout.now ≡ record { load = self.now; warehouse = customer_home_of command.now }) }
+        ensures rows { IfSome result (λ layout.
+            has_customer command.now (own_rows layout.now) ≡ knows_customer self.now command.now) }
     {
         let home = command.customer_home() as usize;
-        &self.layouts[home - 1]
+        match &self.layouts {
+            Some(layouts) => Some(&layouts[home - 1]),
+            None => None,
+        }
     }
+}
+
+/// The layouts of all warehouses of a load.
+fn layouts_of(alloc: Global, load: &Load) -> Result<Vec<Layout>, AllocError>
+    ensures { IfOk result (λ layouts. AreLayouts load.now layouts.items) }
+{
+    let count = count_of(load);
+    let mut layouts = Vec::with_capacity(alloc, usize::from(count))?;
+    for before in 0..count {
+        layouts.push_reserved(Layout::new(alloc, load, before + 1)?);
+    }
+    Ok(layouts)
 }
 
 /// How many warehouses a load has.
@@ -161,14 +186,39 @@ fn is_customer_of(layout: &Layout, command: &Command) -> bool
     }
 }
 
+/// Whether the items that a command names are there.
+fn has_items(load: &Load, command: &Command) -> bool
+    ensures { result ≡ has_items load.now.items command.now }
+{
+    match command {
+        Command::NewOrder(order) => has_lines(load, &order.lines),
+        _ => true,
+    }
+}
+
 /// Whether the items of all lines are there.
-fn has_lines(layout: &Layout, lines: &PurchaseLines) -> bool
-    ensures { result ≡ list_all (has_item layout.now.load.items) lines.now }
+fn has_lines(load: &Load, lines: &PurchaseLines) -> bool
+    ensures { result ≡ list_all (has_item load.now.items) lines.now }
 {
     for place in 0..lines.len() {
-        if layout.item(lines.line(place).item).is_none() {
+        if !has_number(load, lines.line(place).item) {
             return false;
         }
     }
     true
+}
+
+/// Whether an item has a number; the items of a load have the numbers 1, 2, 3 and so on.
+fn has_number(load: &Load, number: u64) -> bool
+    ensures { result ≡ list_any (is_item number) load.now.items }
+{
+    load.sound();
+    is_up_to(load.list::<Item>().len(), number)
+}
+
+/// Whether a number is one from 1 up to a count.
+fn is_up_to(count: usize, number: u64) -> bool
+    ensures { result ≡ is_between 1 count number }
+{
+    (1..=count as u64).contains(&number)
 }

@@ -1,6 +1,7 @@
 //! Whether a database can be recovered from the batches of a log.
 #![tactic(auto)]
 
+mod customers;
 mod known;
 mod lengths;
 mod looking;

@@ -7,48 +7,54 @@ ghost use Rattle.hy_commands.specs.declared.command.Commit.TheVariants as commit
 use crate::same::same_command;
 use hy_batches::Batch;
 use hy_commands::{Command, Commit, Edition};
-use std::alloc::{AllocError, Global};
+use hy_rows::MAX_WAREHOUSES;
 use std::marker::Model;
 
-/// A batch, of each list of which some commits were passed.
+/// A batch, of each list of which some commits were passed. Takes no memory.
 #[derive(Drop)]
 pub struct Merge<'a> {
     batch: &'a Batch,
-    passed: Vec<usize>,
+    // how many commits of each list were passed
+    passed: [usize; MAX_WAREHOUSES as usize],
 }
 
 // Clauses see both.
 impl<'a> Model for Merge<'a> {
-    ghost use Rattle.std.specs.Prelude.{◌≡◌, length};
+    ghost use Rattle.std.specs.Prelude.{◌≡◌, ◌≤◌, length};
+    ghost use Rattle.hy_rows.specs.Limits.{max_warehouses};
     ghost use Rattle.hy_sound.specs.Merges.{MergeState};
 
     ghost Value = { MergeState };
 
-    ghost view = { λ merge. record { lists = merge.batch.now.lists; passed = merge.passed.items } };
+    ghost view = { λ merge. record { lists = merge.batch.now.lists; passed = merge.passed } };
 
-    ghost invariant = { λ merge. length merge.passed.items ≡ length merge.batch.now.lists };
+    ghost invariant = { λ merge. (length merge.batch.now.lists ≤ max_warehouses) × (length merge.passed ≡ max_warehouses) };
 }
 
 impl<'a> Merge<'a> {
-    ghost use Rattle.std.specs.Prelude.{◌≡◌, ◌≢◌, ◌<◌, ℕ, IfOk, drop, length, slice_get};
+    ghost use Rattle.std.specs.Prelude.{◌≡◌, ◌≢◌, ◌<◌, ◌≤◌, ℕ, drop, length, slice_get};
     ghost use Rattle.std.specs.Option.{option_copied};
+    ghost use Rattle.hy_rows.specs.Limits.{max_warehouses};
     ghost use Rattle.hy_sound.specs.Sound.{list_at};
     ghost use Rattle.hy_sound.specs.Merges.{count_of, left_of};
 
     /// A batch of which nothing was passed.
-    pub fn new(alloc: Global, batch: &'a Batch) -> Result<Merge<'a>, AllocError>
-        ensures count { IfOk result (λ merge. count_of merge ≡ length batch.entry.now.lists) }
-        ensures left { IfOk result (λ merge. (place : ℕ) → left_of merge place ≡ list_at batch.entry.now.lists place) }
+    pub fn new(batch: &'a Batch) -> Merge<'a>
+        requires { length batch.now.lists ≤ max_warehouses }
+        ensures count { count_of result ≡ length batch.entry.now.lists }
+        ensures left { (place : ℕ) → left_of result place ≡ list_at batch.entry.now.lists place }
     {
-        let passed = Vec::from_elem(alloc, 0usize, batch.len())?;
-        Ok(Merge { batch, passed })
+        Merge {
+            batch,
+            passed: [0; MAX_WAREHOUSES as usize],
+        }
     }
 
     /// How many lists there are.
     pub fn count(&self) -> usize
         ensures { result ≡ count_of self.now }
     {
-        self.passed.len()
+        self.batch.len()
     }
 
     /// The next commit of the list at a place, from 0.
@@ -56,7 +62,8 @@ impl<'a> Merge<'a> {
         requires { place < count_of self.now }
         ensures { option_copied result ≡ slice_get (left_of self.now place) 0 }
     {
-        self.batch.list(place).get(self.passed[place])
+        let commits = self.batch.list(place);
+        commits.get(self.passed[place])
     }
 
     /// Passes the next commit of the list at a place, if one is left.
@@ -66,7 +73,8 @@ impl<'a> Merge<'a> {
         ensures here { left_of self.new place ≡ drop 1 (left_of self.old place) }
         ensures others { (other : ℕ) → other ≢ place → left_of self.new other ≡ left_of self.old other }
     {
-        if self.passed[place] < self.batch.list(place).len() {
+        let commits = self.batch.list(place);
+        if self.passed[place] < commits.len() {
             self.passed[place] += 1;
         }
     }

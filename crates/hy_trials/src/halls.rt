@@ -6,12 +6,14 @@ ghost use Rattle.hy_partition.specs.Partition.{terms_of};
 ghost use Rattle.hy_crossing.specs.Crossings.{ArePartitions, HaveNoPart};
 ghost use Rattle.hy_forks.specs.Forks.{AreOfKit};
 
+use hy_batches::Batches;
 use hy_commands::{Command, Commit, Reply};
 use hy_crossing::{cross, partitions_of};
 use hy_forks::{Batch, SnapshotAll, close_all, drain, find_history, fork_all};
 use hy_loads::Load;
 use hy_partition::{Job, Loaded, Partition};
 use hy_passes::{Journal, Kit, Pass};
+use hy_recovery::recover;
 use hy_schema::Refusal;
 use hy_session::Session;
 use std::alloc::Global;
@@ -129,6 +131,40 @@ impl<K: Loaded> Hall<K> {
             rt,
             "partitions",
         );
+        Hall {
+            parts,
+            journal,
+            clients,
+        }
+    }
+
+    /// All partitions of a load, recovered from batches.
+    pub fn recovered<R: Abort + AllocGlobal>(
+        rt: &R,
+        load: &Load,
+        kit: Kit<Commit>,
+        batches: &Batches,
+    ) -> Hall<K>
+        requires load { load.now ≡ K.load }
+        requires kit { kit ≡ K.passes }
+        requires partitions { kit.partitions ≡ length load.now.tables.warehouses }
+    {
+        let (_passes, journal, seats, mut clients) = kit.open::<K>().expect(rt, "passes");
+        let Some(pass) = clients.pop() else {
+            panic!(rt; "a client")
+        };
+        let (parts, journal, pass) = recover(
+            rt.alloc(),
+            load,
+            batches,
+            journal,
+            seats,
+            pass,
+            MAX_FRAMES,
+            10_000,
+        )
+        .expect(rt, "partitions");
+        clients.push(pass).expect(rt, "a place");
         Hall {
             parts,
             journal,

@@ -8,6 +8,10 @@ mod crossing_tests;
 #[cfg(test)]
 mod halls;
 #[cfg(test)]
+mod life_tests;
+#[cfg(test)]
+mod lives;
+#[cfg(test)]
 mod lock_tests;
 #[cfg(test)]
 mod model;

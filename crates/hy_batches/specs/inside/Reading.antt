@@ -1,5 +1,5 @@
 -- Reading a batch from left to right: what is read, and what is left; nothing where no batch can begin so.
-use Rattle.std.specs.Prelude.{◌≡◌, ℕ, zero, suc, ◌+◌, ◌==◌, bytes_eq, nat_lt, if◌then◌else◌, List, [], ◌∷◌, length, take, drop, Option, Some, None, Result, Ok, Err}
+use Rattle.std.specs.Prelude.{◌≡◌, ℕ, zero, suc, ◌+◌, ◌==◌, Bool, true, false, not, ◌&&◌, bytes_eq, nat_le, nat_lt, if◌then◌else◌, List, [], ◌∷◌, ◌++◌, length, take, drop, Option, Some, None, Result, Ok, Err}
 use Rattle.hy_page.specs.Bytes.{number_of}
 use Rattle.hy_rows.specs.Limits.{max_lines, max_warehouses}
 use Rattle.hy_rows.specs.Ranges.{is_between}
@@ -16,10 +16,12 @@ use Rattle.hy_commands.specs.declared.command.Who.TheVariants as who
 use Rattle.hy_commands.specs.declared.edition.Edition.{Edition}
 use Rattle.hy_commands.specs.declared.edition.Edition.TheVariants as editions
 use Rattle.hy_batches.specs.Batches.{Batch}
+use Rattle.hy_batches.specs.declared.fault.Malformed.{Malformed}
 use Rattle.hy_batches.specs.declared.fault.ReadFault.{ReadFault}
 use Rattle.hy_batches.specs.declared.fault.ReadFault.TheVariants as faults
 use Rattle.hy_batches.specs.Encoding.{mark}
-use Rattle.hy_batches.specs.Grammar.{is_allowed}
+use Rattle.hy_commands.specs.Parts.{is_by_number}
+use Rattle.hy_batches.specs.Grammar.{is_allowed, names_several}
 
 infixl 10 ◌>>=◌
 abbrev pub ◌>>=◌ : {A B : Type 0} → Option A → (A → Option B) → Option B
@@ -34,6 +36,16 @@ Fails faults.Malformed read = read ≡ None
 abbrev pub Gives : {X Y : Type 0} → (X → Y) → Result X ReadFault → Option Y → Type 0
 Gives view (Ok x) read = read ≡ Some (view x)
 Gives view (Err fault) read = Fails fault read
+
+-- the same, of a function that takes no memory
+abbrev pub Sees : {X Y : Type 0} → (X → Y) → Result X Malformed → Option Y → Type 0
+Sees view (Ok x) read = read ≡ Some (view x)
+Sees view (Err fault) read = read ≡ None
+
+-- a commit that is read is added to others
+abbrev pub Adds : {X : Type 0} → (X → List ℕ) → List Commit → List Commit → Result X ReadFault → Option (Commit × List ℕ) → Type 0
+Adds view old new (Ok rest) read = (commit : Commit) × (read ≡ Some (commit, view rest)) × (new ≡ old ++ commit ∷ [])
+Adds view old new (Err fault) read = Fails fault read
 
 -- ---- values
 
@@ -70,6 +82,19 @@ lines_at (suc count) bytes = do
   line ← line_at bytes
   others ← lines_at count line.1
   Some (line.0 ∷ others.0, others.1)
+
+-- the line that stands in the first six bytes, and so many lines, six bytes each
+abbrev pub line_in : List ℕ → PurchaseLine
+line_in bytes =
+    record {
+      item = number_of (take 4 bytes);
+      supply_warehouse = number_of (take 1 (drop 4 bytes));
+      quantity = number_of (take 1 (drop 5 bytes));
+    }
+
+abbrev pub lines_in : ℕ → List ℕ → List PurchaseLine
+lines_in zero bytes = []
+lines_in (suc count) bytes = line_in bytes ∷ lines_in count (drop 6 bytes)
 
 -- a number of lines, no more than a purchase may have, and they
 unfoldable pub counted_lines_at : List ℕ → Option (List PurchaseLine × List ℕ)
@@ -150,6 +175,31 @@ commit_at edition warehouse bytes = do
   commit ← any_commit_at edition bytes
   if is_allowed warehouse commit.0 then Some commit else None
 
+-- the commit of a command: that of one warehouse, or with a number that of several; whether the command may have such a one
+abbrev pub commit_of : Edition → Option ℕ → Command → Commit
+commit_of edition None command = commits.Local edition command
+commit_of edition (Some number) command = commits.Cross edition number command
+
+abbrev pub may_have : Option ℕ → Command → Bool
+may_have None command = not (names_several command)
+may_have (Some number) command = names_several command && nat_le 1 number && is_by_number command
+
+-- the same in two steps: the number of a commit, if it has one, and a command that may stand behind it
+unfoldable pub commit_number_at : List ℕ → Option (Option ℕ × List ℕ)
+commit_number_at [] = None
+commit_number_at (zero ∷ rest) = Some (None, rest)
+commit_number_at (suc zero ∷ rest) = do
+  number ← number_at 8 rest
+  Some (Some number.0, number.1)
+commit_number_at (suc (suc tag) ∷ rest) = None
+
+unfoldable pub numbered_at : Edition → Option ℕ → ℕ → List ℕ → Option (Commit × List ℕ)
+numbered_at edition number warehouse bytes = do
+  command ← command_at bytes
+  if is_allowed warehouse (commit_of edition number command.0)
+      then Some (commit_of edition number command.0, command.1)
+      else None
+
 unfoldable pub commits_at : Edition → ℕ → ℕ → List ℕ → Option (List Commit × List ℕ)
 commits_at edition warehouse zero bytes = Some ([], bytes)
 commits_at edition warehouse (suc count) bytes = do
@@ -205,3 +255,17 @@ batch_at bytes = do
   batch ← content_of marked.0 content.0
   after ← ended_at content.1
   Some (batch, after)
+
+-- ---- what is left behind what is read, whether something is, and of which edition a batch is
+
+abbrev pub left : {A : Type 0} → Option (A × List ℕ) → Option (List ℕ)
+left None = None
+left (Some read) = Some read.1
+
+abbrev pub is_read : {A : Type 0} → Option A → Bool
+is_read None = false
+is_read (Some read) = true
+
+abbrev pub passed : Option (Batch × List ℕ) → Option (Edition × List ℕ)
+passed None = None
+passed (Some read) = Some (read.0.edition, read.1)

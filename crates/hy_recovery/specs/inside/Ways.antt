@@ -1,5 +1,5 @@
 -- Partitions on their way through the commits of a batch.
-use Rattle.std.specs.Prelude.{◌≡◌, ◌⊎◌, ℕ, suc, ◌<◌, ◌≤◌, ◌+◌, Bool, true, false, ◌&&◌, List, [], ◌∷◌, ◌++◌, length, slice_get, IfSome, None, Some, nat_lt}
+use Rattle.std.specs.Prelude.{◌≡◌, ◌⊎◌, ℕ, suc, ◌<◌, ◌≤◌, Bool, true, false, ◌&&◌, List, [], ◌∷◌, ◌++◌, length, slice_get, IfSome, None, Some, nat_lt}
 use Rattle.std.specs.List.{list_all}
 use Rattle.hy_rows.specs.Tables.{Lists}
 use Rattle.hy_schema.specs.declared.refusal.Refusal.{Refusal}
@@ -15,9 +15,11 @@ use Rattle.hy_batches.specs.Batches.{Batch}
 use Rattle.hy_batches.specs.Grammar.{commit_fits, is_allowed, names}
 use Rattle.hy_partition.specs.Jobs.{Log}
 use Rattle.hy_partition.specs.Partition.{PartitionState, commits_of, terms_of}
+use Rattle.hy_tpcc.specs.Shortages.{adds_no_page}
 use Rattle.hy_sound.specs.Sound.{is_known}
 use Rattle.hy_sound.specs.Merges.{MergeState, count_of, left_of}
 use Rattle.hy_sound.specs.inside.Steps.{IsSoundFrom}
+use Rattle.hy_recovery.specs.Recovering.{HasNoFrameLeft}
 
 -- ---- one commit
 
@@ -53,9 +55,25 @@ KeepsWhereNamed command commit number old new =
 abbrev pub Enters : Commit → Log → Log → Type 0
 Enters commit old new = (stamp : ℕ) × (new ≡ old ++ record { commit = commit; stamp = stamp } ∷ [])
 
--- a frame or memory lacked
-abbrev pub IsShortage : Refusal → Type 0
-IsShortage why = (why ≡ refusals.NoFrame) ⊎ (why ≡ refusals.NoMemory)
+-- a frame lacked, as is said, or memory
+abbrev pub IsShortage : Type 0 → Refusal → Type 0
+IsShortage Lacks why = ((why ≡ refusals.NoFrame) × Lacks) ⊎ (why ≡ refusals.NoMemory)
+
+-- no frame is left for a partition behind what it has kept
+abbrev pub HasNoFrame : ℕ → PartitionState → Type 0
+HasNoFrame n p = HasNoFrameLeft n p.load p.space.frames.max p.warehouse p.kept
+
+-- none for a command of which some slice adds a page
+abbrev pub HasNoFrameFor : ℕ → Command → PartitionState → Type 0
+HasNoFrameFor n command p = HasNoFrame n p × ((done : ℕ) × (adds_no_page command done ≡ false))
+
+-- none for one of many
+abbrev pub SomeHasNoFrame : ℕ → List PartitionState → Type 0
+SomeHasNoFrame n parts = (place : ℕ) × (p : PartitionState) × (slice_get parts place ≡ Some p) × HasNoFrame n p
+
+-- no snapshot is open
+abbrev pub IsAlone : PartitionState → Type 0
+IsAlone p = (child : ℕ) → commits_of p child ≡ None
 
 -- whether a commit may stand in the list of a warehouse, in a batch of its edition
 abbrev pub may_stand : ℕ → Commit → Bool
@@ -68,6 +86,7 @@ pub record CanRunLocal (edition : Edition) (command : Command) (p : PartitionSta
   pub allowed : may_stand p.warehouse (commits.Local edition command) ≡ true
   pub known : is_known p.load command ≡ true
   pub few : length p.kept < p.max_kept
+  pub alone : IsAlone p
 
 -- how many commits of several warehouses a serial list has
 abbrev pub crossings_in : Log → ℕ
@@ -84,6 +103,7 @@ pub record CanRunCrossing (lists : Lists) (number : ℕ) (command : Command) (lo
   pub replays : (place : ℕ) → IfSome (slice_get parts place) (λ p. p.replays ≡ true)
   pub few : (place : ℕ) → IfSome (slice_get parts place) (λ p.
       names command (suc place) ≡ true → length p.kept < p.max_kept)
+  pub alone : (place : ℕ) → IfSome (slice_get parts place) IsAlone
 
 -- ---- many
 
@@ -103,7 +123,7 @@ pub record IsBound (lists : Lists) (aim : Aim) (left : List Commit) (place : ℕ
   pub drained : p.drained ≡ 0
   pub rest : IsAtRest p
   pub max_frames : p.space.frames.max ≡ aim.frames
-  pub snapshots : (child : ℕ) → commits_of p child ≡ None
+  pub snapshots : IsAlone p
 
 -- the partitions of a load are on their way through what is left of a batch
 pub record AreOnWay (lists : Lists) (aim : Aim) (merge : MergeState) (log : Log) (parts : List PartitionState)

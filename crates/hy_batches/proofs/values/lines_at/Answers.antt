@@ -1,6 +1,7 @@
 use Rattle.std.proofs.Common.{List, Some, ◌<◌, length, take, ap, ◌∙◌, arith}
 use Rattle.std.proofs.lemmas.List.{take_more_set, length-set}
 use Rattle.std.proofs.lemmas.Result.{err_from_is_err_and}
+use Rattle.hy_batches.specs.declared.fault.ReadFault.TheVariants as faults
 use Rattle.hy_batches.specs.inside.Reading.{lines_at}
 use Rattle.hy_commands.specs.declared.command.PurchaseLine.{PurchaseLine}
 use Rattle.hy_batches.proofs.ListLaws.{take-past}
@@ -11,7 +12,7 @@ use Rattle.hy_batches.proofs.values.lines_at.Goals as goal
 pub returns-in_err-line : goal.returns-in_err-line
 returns-in_err-line c =
     let p = err_from_is_err_and c.from_residual.result c.from_residual.ensures.1 in
-    rw (p.1, p.2) (row_fails line_of lines_of no_lines more_lines c.in_err-line.field-0.0 (take c.loop-place.place c.loop-place.lines)
+    rw p.1 (row_fails line_of lines_of no_lines more_lines faults.Malformed (take c.loop-place.place c.loop-place.lines)
     0 (length c.loop-place.lines) c.loop-place.place c.loop-place.rest.now (lines_at (length c.args.lines.now) c.args.bytes.now)
     (omega arith) c.in_err-line.ensures c.loop-place.invariant)
 

@@ -18,9 +18,9 @@ use Rattle.hy_program.proofs.recover.tables_behind.Goals as goal
 pub take_last-pass-requires : goal.take_last-pass-requires
 take_last-pass-requires g c =
     let clients : g.K.World.passes.clients ≡ 1 = ap (λ kit. kit.clients) (sym c.requires.kit) ∙ c.requires.clients in
-    let all : length c.in_ok-_passes.clients.items ≡ 1 = ap length c.in_ok-_passes.ensures.clients
+    let all : length c.in-Ok.clients.items ≡ 1 = ap length c.in-Ok.ensures.clients
     ∙ length-numbered (new_client {C = Commit}) 0 g.K.World.passes.clients ∙ clients in
-    let count : vec_len c.in_ok-_passes.clients ≡ 1 = search (rules, all) in
+    let count : vec_len c.in-Ok.clients ≡ 1 = search (rules, all) in
     omega (arith, count)
 
 -- the snapshots are those of these partitions

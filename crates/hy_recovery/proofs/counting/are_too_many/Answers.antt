@@ -1,7 +1,5 @@
 -- The commits of a batch don't fit the room.
-use Rattle.std.proofs.Common.{◌≡◌, ◌<◌, ◌≤◌, ◌+◌, length, take, refl, sym, arith}
-use Rattle.std.specs.Prelude.{slice_get, Some}
-use Rattle.hy_sound.specs.Sound.{list_at}
+use Rattle.std.proofs.Common.{◌<◌, length, refl, arith}
 use Rattle.hy_sound.proofs.ListLaws.{item-there}
 use Rattle.hy_recovery.specs.Recovering.{joined}
 use Rattle.hy_recovery.proofs.JoinedLaws.{joined-next}

@@ -1,17 +1,19 @@
 -- One batch more, and the end.
-use Rattle.std.proofs.Common.{◌≡◌, ◌<◌, ◌≤◌, suc, None, [], refl, ap, sym, subst, ◌∙◌, arith, length}
-use Rattle.std.specs.Prelude.{Some, slice_get}
+use Rattle.std.proofs.Common.{◌≡◌, ◌<◌, ◌≤◌, suc, None, [], refl, sym, subst, ◌∙◌, arith, length}
+use Rattle.std.specs.Prelude.{slice_get}
 use Rattle.hy_rows.specs.Tables.{Lists}
+use Rattle.hy_partition.specs.Jobs.{Log}
 use Rattle.hy_partition.specs.Partition.{PartitionState}
 use Rattle.hy_partition.specs.Steps.{Begins}
 use Rattle.hy_crossing.specs.Crossings.{ArePartitions}
 use Rattle.hy_crossing.proofs.InformLaws.{pairs-count, some-then}
 use Rattle.hy_forks.specs.Drains.{TellsHere}
 use Rattle.hy_sound.proofs.ListLaws.{item-there}
-use Rattle.hy_recovery.specs.Recovering.{NoneAreTooMany}
-use Rattle.hy_recovery.specs.inside.Ways.{Aim, AreOnWay, AreThere, IsAtRest, IsBound, untouched}
-use Rattle.hy_recovery.proofs.EndLaws.{ended-partitions, ended-whole}
-use Rattle.hy_recovery.proofs.JoinedLaws.{AreRun, aim_of, next_aim, recovered, run-batch, run-more, run-none}
+use Rattle.hy_recovery.specs.Recovering.{GoesOn, StopsAtCommit}
+use Rattle.hy_recovery.specs.inside.Ways.{AreOnWay, AreThere, IsAtRest, IsBound, IsShortage, untouched}
+use Rattle.hy_recovery.proofs.EndLaws.{ended-partitions, ended-whole, lacking-why}
+use Rattle.hy_recovery.proofs.JoinedLaws.{aim_of, few-lists, goes-on, next-stops, next_aim, recovered, run-batch, run-more, run-none}
+use Rattle.hy_recovery.proofs.ResultLaws.{this-error}
 use Rattle.hy_recovery.proofs.recovering.recover.Goals as goal
 
 pub run_batch-requires : goal.run_batch-requires
@@ -26,8 +28,9 @@ run_batch-requires g c =
     let run = c.loop-place.invariant.run in
     let aim = next_aim load c.args.batches.now c.args.max_frames c.args.max_kept c.loop-place.place log parts run batch at in
     let way = run-batch load c.args.batches.now c.args.max_frames c.args.max_kept c.loop-place.place log parts run batch at
-    c.sound.ensures c.if-some_are_too_many.ensures in
-    (omega arith, (aim, subst (λ (lists : Lists). AreOnWay lists aim (untouched batch) log parts) c.requires.load way))
+    c.sound.ensures c.in_ok-check_batches.ensures.few in
+    let few = few-lists c.args.batches.now c.loop-place.place batch c.sound.ensures at in
+    (omega arith, (few, (aim, subst (λ (lists : Lists). AreOnWay lists aim (untouched batch) log parts) c.requires.load way)))
 
 pub loop-place-preserved : goal.loop-place-preserved
 loop-place-preserved g c =
@@ -43,7 +46,7 @@ loop-place-preserved g c =
     let run = c.loop-place.invariant.run in
     let aim = next_aim load c.args.batches.now c.args.max_frames c.args.max_kept c.loop-place.place log parts run batch at in
     let way = run-batch load c.args.batches.now c.args.max_frames c.args.max_kept c.loop-place.place log parts run batch at
-    c.sound.ensures c.if-some_are_too_many.ensures in
+    c.sound.ensures c.in_ok-check_batches.ensures.few in
     let there : AreThere load aim later news =
     subst (λ (lists : Lists). AreThere lists aim later news) (sym c.requires.load)
     (c.in_ok-pass.ensures.way aim
@@ -105,6 +108,40 @@ pub loop-place-init : goal.loop-place-init
 loop-place-init g c = record {
   run = run-none c.args.load.now c.args.batches.now c.args.max_frames c.args.max_kept _ c.args.journal.list.log
       c.in_ok-parts.parts.items c.begin_all.new.parts.items c.in_ok-parts.ensures.begin c.begin_all.ensures c.requires.log
-      c.in_ok-check_log.ensures.1;
+      c.in_ok-check_batches.ensures.sound.1;
   client = refl;
 }
+
+pub returns-clause-goes_on : goal.returns-clause-goes_on
+returns-clause-goes_on g c =
+    let load = c.args.load.now in
+    let log = c.loop-place.journal.list.log in
+    let end : length c.args.batches.now ≤ c.loop-place.place =
+    omega (arith, c.loop-place-test.false, c.count-place-end.ensures) in
+    subst (λ (log : Log). GoesOn load c.args.batches.now log) (sym c.find_history.ensures.log)
+    (goes-on load c.args.batches.now c.args.max_frames c.args.max_kept c.loop-place.place log c.loop-place.parts.items
+    c.loop-place.invariant.run end)
+
+-- a commit of the batch lacked a frame, or memory
+pub returns-in_err-pass-clause-refused : goal.returns-in_err-pass-clause-refused
+returns-in_err-pass-clause-refused g c =
+    let load = c.args.load.now in
+    let batches = c.args.batches.now in
+    let log = c.loop-place.journal.list.log in
+    let parts = c.loop-place.parts.items in
+    let batch = c.batch.result.now in
+    let why = c.in_err-pass.field-0.0 in
+    let within : c.loop-place.place < length batches = omega (arith, c.loop-place-test.true, c.count-place-end.ensures) in
+    let at = item-there batches c.loop-place.place batch _ within c.batch.ensures in
+    let run = c.loop-place.invariant.run in
+    let aim = next_aim load batches c.args.max_frames c.args.max_kept c.loop-place.place log parts run batch at in
+    let way = run-batch load batches c.args.max_frames c.args.max_kept c.loop-place.place log parts run batch at
+    c.sound.ensures c.in_ok-check_batches.ensures.few in
+    let stops : IsShortage (StopsAtCommit g.row.N load aim.frames aim.goal) why =
+    subst (λ (lists : Lists). IsShortage (StopsAtCommit g.row.N lists aim.frames aim.goal) why) (sym c.requires.load)
+    (c.in_err-pass.ensures.refused aim
+    (subst (λ (lists : Lists). AreOnWay lists aim (untouched batch) log parts) c.requires.load way)) in
+    this-error _ _ _ c.from_residual-in_err-pass.ensures.1
+    (lacking-why g.row.N load c.args.max_frames batches c.args.max_kept why c.in_ok-check_batches.ensures.sound
+    c.in_ok-check_batches.ensures.few
+    (next-stops load batches c.args.max_frames c.args.max_kept c.loop-place.place log parts run batch at g.row.N why stops))

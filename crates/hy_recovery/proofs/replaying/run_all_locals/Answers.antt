@@ -1,8 +1,9 @@
 -- One list more.
-use Rattle.std.proofs.Common.{◌≡◌, ◌<◌, ◌≢◌, ℕ, ap, sym, subst, ◌∙◌, arith}
+use Rattle.std.proofs.Common.{◌<◌, ◌≢◌, sym, subst, ◌∙◌, arith}
 use Rattle.hy_sound.specs.Merges.{count_of, left_of}
 use Rattle.hy_sound.specs.inside.Steps.{IsAtCrossing}
 use Rattle.hy_sound.proofs.MergeLaws.{below-next}
+use Rattle.hy_recovery.proofs.ResultLaws.{this-error}
 use Rattle.hy_recovery.proofs.replaying.run_all_locals.Goals as goal
 
 pub run_locals-requires : goal.run_locals-requires
@@ -25,3 +26,8 @@ loop-place-preserved g c =
       numbers = c.in_ok-pass.ensures.numbers ∙ c.loop-place.invariant.numbers;
       client = c.in_ok-pass.ensures.client ∙ c.loop-place.invariant.client;
     }
+
+pub returns-in_err-pass-clause-refused : goal.returns-in_err-pass-clause-refused
+returns-in_err-pass-clause-refused g c =
+    this-error _ _ _ c.from_residual.ensures.1 (λ aim is.
+    c.in_err-pass.ensures.refused aim (c.loop-place.invariant.way aim is))

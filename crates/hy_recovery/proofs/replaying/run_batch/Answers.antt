@@ -1,13 +1,15 @@
 -- From one commit of several warehouses to the next.
-use Rattle.std.proofs.Common.{◌≡◌, ◌<◌, ◌-◌, ◌+◌, ◌^◌, ℕ, suc, refl, ap, sym, subst, ◌∙◌, arith}
-use Rattle.std.specs.Prelude.{IfOk, OnOk}
+use Rattle.std.proofs.Common.{◌≡◌, ◌<◌, ◌-◌, ◌+◌, ◌^◌, suc, refl, sym, subst, ◌∙◌, arith}
 use Rattle.hy_commands.specs.declared.command.Command.{Command}
 use Rattle.hy_commands.specs.declared.command.Commit.TheVariants as commits
 use Rattle.hy_crossing.specs.Lists.{Pairwise}
 use Rattle.hy_sound.specs.Merges.{FindsCrossing, FindsNone}
 use Rattle.hy_sound.proofs.MergeLaws.{left-first}
-use Rattle.hy_recovery.specs.inside.Ways.{Aim, AreOnWay, AreThere, CanRunCrossing, Enters, KeepsWhereNamed, crossings_in, untouched}
-use Rattle.hy_recovery.proofs.WayLaws.{can-crossing, crossings-next, not-lacking, way-crossing, way-end, way-partitions, way-same, way-whole}
+use Rattle.hy_recovery.specs.Recovering.{StopsAtCommit}
+use Rattle.hy_recovery.specs.inside.Ways.{CanRunCrossing, Enters, KeepsWhereNamed, SomeHasNoFrame, crossings_in, untouched}
+use Rattle.hy_recovery.proofs.FrameLaws.{shortage-then}
+use Rattle.hy_recovery.proofs.ResultLaws.{this-error}
+use Rattle.hy_recovery.proofs.WayLaws.{can-crossing, crossings-next, not-lacking, stops-crossing, way-crossing, way-end, way-partitions, way-same, way-whole}
 use Rattle.hy_recovery.proofs.replaying.run_batch.Goals as goal
 
 -- the merge begins with all of the batch
@@ -15,8 +17,8 @@ pub crossings-init : goal.crossings-init
 crossings-init g c = record {
   way = λ aim is.
       way-same g.K.Loaded.load aim (untouched c.args.batch.now) c.args.journal.now.list.log c.args.parts.now.items is
-      c.in_ok-merge.merge c.in_ok-merge.ensures.count
-      (λ place. c.in_ok-merge.ensures.left place ∙ sym (left-first (untouched c.args.batch.now) place refl));
+      c.new-merge.result c.new-merge.ensures.count
+      (λ place. c.new-merge.ensures.left place ∙ sym (left-first (untouched c.args.batch.now) place refl));
   client = refl;
 }
 
@@ -111,3 +113,25 @@ returns-in_default-clause-way g c =
     λ aim is.
     way-end lists aim merge log parts (c.in_ok-pass.ensures.way aim (c.crossings.invariant.way aim is)) none
     c.in_ok-pass.ensures.stops
+
+pub returns-in_err-pass-clause-refused : goal.returns-in_err-pass-clause-refused
+returns-in_err-pass-clause-refused g c =
+    this-error _ _ _ c.from_residual.ensures.1 (λ aim is.
+    c.in_err-pass.ensures.refused aim (c.crossings.invariant.way aim is))
+
+pub returns-in_err-pass-2-clause-refused : goal.returns-in_err-pass-2-clause-refused
+returns-in_err-pass-2-clause-refused g c =
+    let lists = g.K.Loaded.load in
+    let merge = c.run_all_locals.new.merge in
+    let log = c.run_all_locals.new.journal.list.log in
+    let parts = c.run_all_locals.new.parts.items in
+    let same : c.next_crossing-last.result - 1 ≡ crossings_in log = omega (arith, c.next_crossing-last.ensures) in
+    let edition = c.in-Some.edition in
+    let number = c.in-Some.number in
+    let command = c.in-Some.command.now in
+    let finds : FindsCrossing merge (crossings_in log) edition number command =
+    subst (λ n. FindsCrossing merge n edition number command) same c.in-Some.ensures in
+    this-error _ _ _ c.from_residual-in_err-pass-2.ensures.1 (λ aim is.
+    shortage-then (SomeHasNoFrame g.row.N parts) (StopsAtCommit g.row.N lists aim.frames aim.goal) c.in_err-pass-2.field-0.0
+    (stops-crossing lists aim merge log parts (c.in_ok-pass.ensures.way aim (c.crossings.invariant.way aim is)) edition
+    number command finds c.in_ok-pass.ensures.stops g.row.N) c.in_err-pass-2.ensures.refused)

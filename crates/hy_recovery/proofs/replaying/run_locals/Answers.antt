@@ -1,13 +1,15 @@
 -- The partition at the place keeps the next commit of its list.
-use Rattle.std.proofs.Common.{◌≡◌, ◌<◌, ◌≢◌, ℕ, suc, Some, ap, sym, subst, ◌∙◌, arith, drop, length, rules, vec_len}
+use Rattle.std.proofs.Common.{◌≡◌, ◌<◌, suc, Some, ap, sym, subst, ◌∙◌, arith, drop, length, rules, vec_len}
 use Rattle.hy_commands.specs.declared.command.Command.{Command}
 use Rattle.hy_commands.specs.declared.command.Commit.TheVariants as commits
-use Rattle.hy_partition.specs.Steps.{begin_refusal}
 use Rattle.hy_sound.specs.Merges.{count_of, left_of, next_of}
 use Rattle.hy_sound.proofs.ListLaws.{next-first}
-use Rattle.hy_recovery.specs.inside.Ways.{Aim, AreOnWay, CanRunLocal, Enters, KeepsOne}
+use Rattle.hy_recovery.specs.Recovering.{StopsAtCommit}
+use Rattle.hy_recovery.specs.inside.Ways.{CanRunLocal, Enters, HasNoFrameFor, IsShortage, KeepsOne}
+use Rattle.hy_recovery.proofs.FrameLaws.{shortage-then}
+use Rattle.hy_recovery.proofs.ResultLaws.{this-error}
 use Rattle.hy_recovery.proofs.LocalLaws.{begins}
-use Rattle.hy_recovery.proofs.WayLaws.{can-local, crossings-local, way-local}
+use Rattle.hy_recovery.proofs.WayLaws.{can-local, crossings-local, stops-local, way-local}
 use Rattle.hy_recovery.proofs.replaying.run_locals.Goals as goal
 
 pub run_local-requires : goal.run_local-requires
@@ -77,3 +79,20 @@ commits-smaller g c =
     ap length c.pass-in-Some-Local.ensures.here in
     let less : length (left_of after c.args.place) < length (left_of merge c.args.place) = omega (arith, one, same) in
     less
+
+pub returns-in_err-pass-clause-refused : goal.returns-in_err-pass-clause-refused
+returns-in_err-pass-clause-refused g c =
+    let lists = g.K.Loaded.load in
+    let merge = c.commits.merge in
+    let within : c.args.place < count_of merge = omega (arith, c.requires.within, c.commits.invariant.count) in
+    let edition = c.in-Some-Local.edition in
+    let command = c.in-Some-Local.command in
+    let next : next_of (left_of merge c.args.place) ≡ Some (commits.Local edition command) =
+    sym (ap Some (sym c.in-Some-Local.field-0-is) ∙ c.in-Some-Local.ensures) in
+    let p = c.index_mut.result.now in
+    let lacks = subst (λ (command : Command). IsShortage (HasNoFrameFor g.row.N command p) c.in_err-pass.field-0.0)
+    c.in_ok-copy.ensures c.in_err-pass.ensures.refused in
+    this-error _ _ _ c.from_residual-in_err-pass.ensures.1 (λ aim is.
+    shortage-then (HasNoFrameFor g.row.N command p) (StopsAtCommit g.row.N lists aim.frames aim.goal) c.in_err-pass.field-0.0
+    (stops-local lists aim merge c.commits.journal.list.log c.commits.parts.items (c.commits.invariant.way aim is)
+    c.args.place edition command p within c.index_mut.ensures.value next g.row.N) lacks)

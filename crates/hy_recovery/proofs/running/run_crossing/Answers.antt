@@ -1,9 +1,12 @@
 -- What an answer to the command tells.
-use Rattle.std.proofs.Common.{subst, sym}
+use Rattle.std.proofs.Common.{ℕ, List, slice_get, subst, sym}
+use Rattle.std.specs.Prelude.{IfSome}
+use Rattle.hy_partition.specs.Headline.{Headline}
 use Rattle.hy_partition.specs.Jobs.{JobState}
+use Rattle.hy_partition.specs.Partition.{PartitionState}
 use Rattle.hy_crossing.specs.Crossings.{AllMayRun, Crosses}
-use Rattle.hy_recovery.proofs.CrossedLaws.{all-may, crossed-client, enters-crossing, keeps-crossing, lacked}
-use Rattle.hy_recovery.proofs.ResultLaws.{err-gives, ok-gives, ok-then}
+use Rattle.hy_recovery.proofs.CrossedLaws.{all-may, enters-crossing, keeps-crossing, lacked}
+use Rattle.hy_recovery.proofs.ResultLaws.{err-gives, ok-then}
 use Rattle.hy_recovery.proofs.running.run_crossing.Goals as goal
 
 pub returns-clause-kept : goal.returns-clause-kept
@@ -34,7 +37,9 @@ returns-clause-refused g c =
     err-gives c.pass_of.result _ _ c.pass_of.ensures.refused (λ why is.
     lacked g.K.Loaded.load c.args.edition c.args.number c.args.command c.args.pass c.args.journal.now.list.log
     c.cross-done.new.journal.list.log c.args.parts.now.items c.cross-done.new.parts.items c.cross-done.result
-    c.requires.can crosses why is)
+    c.requires.can crosses g.row.N
+    (subst (λ (parts : List PartitionState). (place : ℕ) → IfSome (slice_get parts place) (Headline g.row.N)) c.as_slice.ensures.value
+    c.know_all.ensures) why is)
 
 pub cross-done-requires-clause-edition : goal.cross-done-requires-clause-edition
 cross-done-requires-clause-edition g c =

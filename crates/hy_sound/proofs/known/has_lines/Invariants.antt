@@ -6,4 +6,4 @@ use Rattle.hy_sound.proofs.known.has_lines.Given as goal
 
 abbrev pub invariant-loop-place : goal.invariant-loop-place
 invariant-loop-place l =
-    list_all (has_item l.layout.load.items) (drop l.place l.lines) ≡ list_all (has_item l.layout.load.items) l.lines
+    list_all (has_item l.load.items) (drop l.place l.lines) ≡ list_all (has_item l.load.items) l.lines

@@ -1,5 +1,5 @@
 -- All batches together have fewer bytes than a number of 64 bits counts.
-use Rattle.std.proofs.Common.{◌≡◌, ◌≤◌, ◌<◌, ◌^◌, ap, length, take, sym, ◌∙◌, arith}
+use Rattle.std.proofs.Common.{◌≡◌, ap, length, take, ◌∙◌, arith}
 use Rattle.hy_batches.specs.Encoding.{log_bytes}
 use Rattle.hy_sound.proofs.LogLaws.{length-taken}
 use Rattle.hy_sound.proofs.lengths.place_of.Goals as goal

@@ -10,8 +10,8 @@ returns-in-None c =
     (omega (arith, c.loop-place-test.true, c.count-place-end.ensures)) c.batch.ensures in
     unsound-at c.args.load.now c.loop-place.last c.loop-place.place c.args.batches.now c.batch.result.now
     c.place_of.result at c.loop-place.invariant
-    (found-is c.in_ok-known.known c.args.load.now c.loop-place.last c.batch.result.now c.in_ok-after.field-0 _
-    c.in_ok-known.ensures c.in-None.is c.in_ok-after.ensures)
+    (found-is c.new-known.result c.args.load.now c.loop-place.last c.batch.result.now c.look_at.result _
+    c.new-known.ensures c.in-None.is c.look_at.ensures)
     c.place_of.ensures
 
 pub loop-place-preserved : goal.loop-place-preserved
@@ -20,5 +20,5 @@ loop-place-preserved c =
     (omega (arith, c.loop-place-test.true, c.count-place-end.ensures)) c.batch.ensures in
     sound-next c.args.load.now c.loop-place.last c.in-Some.after c.loop-place.place c.args.batches.now c.batch.result.now
     at c.loop-place.invariant
-    (found-is c.in_ok-known.known c.args.load.now c.loop-place.last c.batch.result.now c.in_ok-after.field-0 _
-    c.in_ok-known.ensures c.in-Some.is c.in_ok-after.ensures)
+    (found-is c.new-known.result c.args.load.now c.loop-place.last c.batch.result.now c.look_at.result _
+    c.new-known.ensures c.in-Some.is c.look_at.ensures)

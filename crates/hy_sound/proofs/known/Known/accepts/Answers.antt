@@ -17,7 +17,7 @@ pub returns-then-not-names_up_to : goal.returns-then-not-names_up_to
 returns-then-not-names_up_to c =
     let range = c.check.ensures.ok.0 (c.is_err.ensures.negation ∙ ap not c.if-is_err.false) in
     sym (unknown-elsewhere c.args.self.now c.args.command.now range
-    (ap (λ n. list_all (is_between 1 n) (warehouses_of c.args.command.now)) (sym c.count.ensures)
+    (ap (λ n. list_all (is_between 1 n) (warehouses_of c.args.command.now)) (sym c.count.ensures.count)
     ∙ (sym c.names_up_to.ensures ∙ c.if-not-names_up_to.true)))
 
 pub returns : goal.returns
@@ -25,5 +25,5 @@ returns c =
     let range = c.check.ensures.ok.0 (c.is_err.ensures.negation ∙ ap not c.if-is_err.false) in
     c.has_all.ensures
     ∙ sym (known-all c.args.self.now c.args.command.now range
-    (ap (λ n. list_all (is_between 1 n) (warehouses_of c.args.command.now)) (sym c.count.ensures)
+    (ap (λ n. list_all (is_between 1 n) (warehouses_of c.args.command.now)) (sym c.count.ensures.count)
     ∙ (sym c.names_up_to.ensures ∙ c.if-not-names_up_to.false)))

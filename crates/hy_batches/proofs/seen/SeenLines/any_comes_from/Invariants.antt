@@ -1,0 +1,10 @@
+-- The lines that are left decide.
+use Rattle.std.proofs.Common.{◌≡◌, ◌==◌, drop}
+use Rattle.std.specs.List.{list_any}
+use Rattle.hy_commands.specs.declared.command.PurchaseLine.{PurchaseLine}
+use Rattle.hy_batches.proofs.seen.SeenLines.any_comes_from.Given as goal
+
+abbrev pub invariant-loop-place : goal.invariant-loop-place
+invariant-loop-place l =
+    list_any (λ (line : PurchaseLine). line.supply_warehouse == l.warehouse) (drop l.place l.self)
+    ≡ list_any (λ (line : PurchaseLine). line.supply_warehouse == l.warehouse) l.self
