@@ -24,6 +24,15 @@ use Rattle.hy_batches.proofs.LengthLaws.{length-content}
 abbrev made : Edition → List (List Commit) → Batch
 made edition lists = record { edition = edition; lists = lists }
 
+-- so many lists that were read are a batch
+pub read_batch : (edition : Edition) (count : ℕ) (bytes : List ℕ) (lists : List (List Commit)) (rest : List ℕ) → AreBytes bytes
+    → is_between 1 max_warehouses count ≡ true → lists_at edition 1 count bytes ≡ Some (lists, rest)
+    → is_batch (made edition lists) ≡ true
+read_batch edition count bytes lists rest are few is =
+    let t = lists_takes edition count bytes lists rest are is in
+    and_from (is_between 1 max_warehouses (length lists)) (are_lists edition 1 lists)
+    (subst (λ size. is_between 1 max_warehouses size ≡ true) (sym t.2) few) t.1
+
 content_takes : (edition : Edition) (bytes : List ℕ) (batch : Batch) → AreBytes bytes → content_of edition bytes ≡ Some batch
     → (bytes ≡ content_bytes batch.lists) × (is_batch batch ≡ true) × (batch.edition ≡ edition)
 unfolding content_of
@@ -40,8 +49,7 @@ content_takes edition bytes batch are is =
     ∙ append-nil (number_bytes 1 a.0 ++ flat_map list_bytes b.0.0)) in
     subst (λ (batch : Batch). (bytes ≡ content_bytes batch.lists) × (is_batch batch ≡ true) × (batch.edition ≡ edition)) e.1 (
       spelled ∙ ap (λ size. number_bytes 1 size ++ flat_map list_bytes b.0.0) (sym t.2),
-      and_from (is_between 1 max_warehouses (length b.0.0)) (are_lists edition 1 b.0.0)
-          (subst (λ size. is_between 1 max_warehouses size ≡ true) (sym t.2) g.0) t.1,
+      read_batch edition a.0 a.1 b.0.0 b.0.1 a.2.are_bytes g.0 g.1,
       refl,
     )
   where

@@ -15,7 +15,7 @@ pub use batch::Batch;
 pub use laws::{beginnings_are_logs, readings_are_one, written_is_read};
 pub use log::{Batches, read_log};
 pub use sink::{Sink, Text};
-pub use writing::write_batch;
+pub use writing::{write_batch, write_lists};
 
 #[cfg(test)]
 mod tests;

@@ -1,6 +1,6 @@
 //! Batches, read from bytes.
 
-ghost use Rattle.std.specs.Prelude.{◌≡◌, ◌∷◌, IfOk};
+ghost use Rattle.std.specs.Prelude.{◌≡◌, ◌∷◌, map};
 ghost use Rattle.hy_rows.specs.Limits.{max_warehouses};
 ghost use Rattle.hy_rows.specs.Ranges.{is_between};
 ghost use Rattle.hy_commands.specs.declared.edition.Edition.{Edition};
@@ -244,9 +244,9 @@ fn lists_at(
     edition: Edition,
     count: u64,
     bytes: &[u8],
-) -> Result<(Batch, &[u8]), ReadFault>
-    ensures edition { IfOk result (λ read. read.0.edition ≡ edition) }
-    ensures lists { Gives (λ read. (read.0.lists, read.1.now)) result (lists_at edition 1 count bytes.now) }
+) -> Result<(Vec<Vec<Commit>>, &[u8]), ReadFault>
+    ensures { Gives (λ read. (map (λ commits. commits.items) read.0.items, read.1.now)) result
+        (lists_at edition 1 count bytes.now) }
 {
     let mut lists = Vec::new(alloc);
     let mut rest = bytes;
@@ -255,7 +255,7 @@ fn lists_at(
         lists.push(list)?;
         rest = after;
     }
-    Ok((Batch::new(edition, lists), rest))
+    Ok((lists, rest))
 }
 
 /// Whether a batch may be of so many warehouses.
@@ -274,9 +274,9 @@ fn content_of(alloc: Global, edition: Edition, bytes: &[u8]) -> Result<Batch, Re
     if !are_warehouses(count) {
         return Err(ReadFault::Malformed);
     }
-    let (batch, rest) = lists_at(alloc, edition, count, rest)?;
-    if rest.is_empty() {
-        Ok(batch)
+    let (lists, after) = lists_at(alloc, edition, count, rest)?;
+    if after.is_empty() {
+        Ok(Batch::new(edition, lists))
     } else {
         Err(ReadFault::Malformed)
     }
@@ -368,13 +368,13 @@ fn skip_lists(count: u64, bytes: &[u8]) -> Result<&[u8], Malformed>
 fn is_content(bytes: &[u8]) -> bool
     ensures { (edition : Edition) → result ≡ is_read (content_of edition bytes.now) }
 {
-    let Ok((count, rest)) = number_at(1, bytes) else {
+    let Ok((number, rest)) = number_at(1, bytes) else {
         return false;
     };
-    if !are_warehouses(count) {
+    if !are_warehouses(number) {
         return false;
     }
-    match skip_lists(count, rest) {
+    match skip_lists(number, rest) {
         Ok(rest) => rest.is_empty(),
         Err(Malformed) => false,
     }

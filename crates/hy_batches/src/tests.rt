@@ -48,12 +48,12 @@ fn purchase(alloc: Global) -> Result<Command, AllocError> {
     }))
 }
 
-/// A batch of an edition, of two warehouses with these commits of the first.
-fn batch_of(alloc: Global, edition: Edition, commits: Vec<Commit>) -> Result<Batch, AllocError> {
+/// The lists of two warehouses, with these commits of the first.
+fn lists_of(alloc: Global, commits: Vec<Commit>) -> Result<Vec<Vec<Commit>>, AllocError> {
     let mut lists = Vec::with_capacity(alloc, 2)?;
     lists.push_reserved(commits);
     lists.push_reserved(Vec::new(alloc));
-    Ok(Batch::new(edition, lists))
+    Ok(lists)
 }
 
 /// The sample of the second edition: the mark alone is another one.
@@ -68,7 +68,7 @@ fn sample_of(alloc: Global, edition: Edition) -> Result<Text, AllocError> {
     let mut commits = Vec::with_capacity(alloc, 1)?;
     commits.push_reserved(Commit::Local(edition, payment(1, Who::Number(1))));
     let mut text = Text::new(alloc);
-    write_batch(&mut text, &batch_of(alloc, edition, commits)?);
+    write_lists(&mut text, edition, &lists_of(alloc, commits)?);
     Ok(text)
 }
 
@@ -174,8 +174,8 @@ fn first_behind_second_is_a_fault(rt: HostRuntime) -> Result<(), Fail> {
 #[test]
 fn batch_without_commits_keeps_its_edition(rt: HostRuntime) -> Result<(), Fail> {
     let mut text = Text::new(rt.alloc());
-    let batch = batch_of(rt.alloc(), Edition::Second, Vec::new(rt.alloc()))?;
-    write_batch(&mut text, &batch);
+    let lists = lists_of(rt.alloc(), Vec::new(rt.alloc()))?;
+    write_lists(&mut text, Edition::Second, &lists);
     let bytes = text.bytes().ok_or("memory lasts")?;
     let batches = read_log(rt.alloc(), bytes)?;
     assert_eq!(rt; batches.count(), 1);
@@ -198,7 +198,7 @@ fn commands_are_read_as_they_were_written(rt: HostRuntime) -> Result<(), Fail> {
     commits.push_reserved(Commit::Local(edition, Command::Delivery(delivery)));
     commits.push_reserved(Commit::Cross(edition, 1, payment(2, Who::Number(65_535))));
     let mut text = Text::new(rt.alloc());
-    write_batch(&mut text, &batch_of(rt.alloc(), edition, commits)?);
+    write_lists(&mut text, edition, &lists_of(rt.alloc(), commits)?);
     let bytes = text.bytes().ok_or("memory lasts")?;
     let batches = read_log(rt.alloc(), bytes)?;
     assert_eq!(rt; batches.count(), 1);

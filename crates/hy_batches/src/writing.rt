@@ -1,6 +1,6 @@
 //! Commits as bytes.
 
-ghost use Rattle.std.specs.Prelude.{◌≡◌, ◌≤◌, [], ◌∷◌, length};
+ghost use Rattle.std.specs.Prelude.{◌≡◌, ◌≤◌, [], ◌∷◌, length, map};
 ghost use Rattle.std.specs.List.{flat_map};
 ghost use Rattle.hy_batches.specs.Encoding.{batch_bytes, command_bytes, commit_bytes, content_bytes, delivery_bytes, line_bytes, list_bytes, mark, number_bytes, payment_bytes, purchase_bytes, who_bytes};
 
@@ -210,37 +210,48 @@ fn write_list<S: Sink>(sink: &mut S, commits: &[Commit])
 }
 
 /// Writes the lists of all warehouses one behind another.
-fn write_lists<S: Sink>(sink: &mut S, batch: &Batch)
-    ensures { S.takes sink.old sink.new (flat_map list_bytes batch.now.lists) }
+fn write_each<S: Sink>(sink: &mut S, lists: &[Vec<Commit>])
+    ensures { S.takes sink.old sink.new (flat_map list_bytes (map (λ commits. commits.items) lists.now)) }
 {
-    for place in 0..batch.len() {
-        write_list(sink, batch.list(place));
+    for commits in lists {
+        write_list(sink, commits);
     }
 }
 
-/// Writes the content of a batch.
-fn write_content<S: Sink>(sink: &mut S, batch: &Batch)
-    ensures { S.takes sink.old sink.new (content_bytes batch.now.lists) }
+/// Writes the content of a batch of these lists.
+fn write_content<S: Sink>(sink: &mut S, lists: &[Vec<Commit>])
+    ensures { S.takes sink.old sink.new (content_bytes (map (λ commits. commits.items) lists.now)) }
 {
-    write_number(sink, 1, batch.len() as u64);
-    write_lists(sink, batch);
+    write_number(sink, 1, lists.len() as u64);
+    write_each(sink, lists);
 }
 
-/// How many bytes the content of a batch has; of a number that needs more, the lowest 64 bits.
-fn content_length(batch: &Batch) -> u64
-    ensures { number_bytes 8 result ≡ number_bytes 8 (length (content_bytes batch.now.lists)) }
+/// How many bytes the content of a batch of these lists has; of a number that needs more, the lowest 64 bits.
+fn content_length(lists: &[Vec<Commit>]) -> u64
+    ensures { number_bytes 8 result
+        ≡ number_bytes 8 (length (content_bytes (map (λ commits. commits.items) lists.now))) }
 {
     let mut counter = Counter { count: 0 };
-    write_content(&mut counter, batch);
+    write_content(&mut counter, lists);
     counter.count
+}
+
+/// Writes any lists as a batch of an edition is written, one for each warehouse in rising order. Nothing says that what
+/// comes out is a batch, nor that it is read as these lists: `write_batch` is for batches, and this is for tests that want
+/// other bytes.
+pub fn write_lists<S: Sink>(sink: &mut S, edition: Edition, lists: &[Vec<Commit>])
+    ensures { S.takes sink.old sink.new
+        (batch_bytes (record { edition = edition; lists = map (λ commits. commits.items) lists.now })) }
+{
+    sink.put(&mark(edition));
+    write_number(sink, 8, content_length(lists));
+    write_content(sink, lists);
+    sink.put(&[END]);
 }
 
 /// Writes a batch.
 pub fn write_batch<S: Sink>(sink: &mut S, batch: &Batch)
     ensures { S.takes sink.old sink.new (batch_bytes batch.now) }
 {
-    sink.put(&mark(batch.edition()));
-    write_number(sink, 8, content_length(batch));
-    write_content(sink, batch);
-    sink.put(&[END]);
+    write_lists(sink, batch.edition(), batch.lists());
 }

@@ -1,6 +1,6 @@
 //! Rounds of payments, each with a drain behind it.
 
-ghost use Rattle.std.specs.Prelude.{◌≡◌, length};
+ghost use Rattle.std.specs.Prelude.{◌≡◌, [], length};
 
 use crate::payment_rounds::generated_load;
 use crate::shop::Shop;
@@ -15,7 +15,7 @@ use std::marker::Brand;
 /// So many rounds of so many payments in a generated warehouse of three customers in each district.
 pub fn run(alloc: Global, rounds: u64, payments: u64) -> Option<u64> {
     let load = generated_load(alloc, 1, 3, 1)?;
-    let kit = make::<Commit>(alloc, 1, 1, 1).ok()?;
+    let kit = make::<Commit>(alloc, 1, 2, 1).ok()?;
     drains::<Brand>(alloc, &load, kit, rounds, payments).ok()
 }
 
@@ -30,6 +30,7 @@ fn drains<K: Loaded>(
     requires load { load.now ≡ K.load }
     requires kit { kit ≡ K.passes }
     requires partitions { kit.partitions ≡ length load.now.tables.warehouses }
+    requires new { kit.replayed ≡ [] }
 {
     let (mut shop, mut pass) = Shop::<K>::open(alloc, load, kit)?;
     let mut drained = 0_u64;

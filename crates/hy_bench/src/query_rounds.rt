@@ -1,6 +1,6 @@
 //! Rounds of questions to a session over two warehouses with orders and deliveries.
 
-ghost use Rattle.std.specs.Prelude.{◌≡◌, length};
+ghost use Rattle.std.specs.Prelude.{◌≡◌, [], length};
 
 use crate::payment_rounds::{SIZE, generated_load};
 use crate::shop::Shop;
@@ -68,7 +68,7 @@ pub fn run<R: Threads + Sync>(
 ) -> Option<u64> {
     let question = question_of(work, text)?;
     let load = generated_load(alloc, WAREHOUSES, CUSTOMERS, ITEMS)?;
-    let kit = make::<Commit>(alloc, WAREHOUSES, 1, 1).ok()?;
+    let kit = make::<Commit>(alloc, WAREHOUSES, 2, 1).ok()?;
     questions::<Brand, R>(rt, alloc, &load, kit, question, rounds, past).ok()
 }
 
@@ -85,6 +85,7 @@ fn questions<K: Loaded, R: Threads + Sync>(
     requires load { load.now ≡ K.load }
     requires kit { kit ≡ K.passes }
     requires partitions { kit.partitions ≡ length load.now.tables.warehouses }
+    requires new { kit.replayed ≡ [] }
 {
     let (mut shop, pass) = Shop::<K>::open(alloc, load, kit)?;
     let pass = order(alloc, &mut shop, pass, past.orders)?;

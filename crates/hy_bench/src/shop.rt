@@ -1,6 +1,6 @@
 //! All partitions of a load, with one client.
 
-ghost use Rattle.std.specs.Prelude.{◌≡◌, IfOk, IsTrue, length};
+ghost use Rattle.std.specs.Prelude.{◌≡◌, [], IfOk, IsTrue, length};
 ghost use Rattle.std.proofs.Props.{props};
 ghost use Rattle.hy_partition.specs.Partition.{terms_of};
 ghost use Rattle.hy_crossing.specs.Crossings.{ArePartitions, HaveNoPart};
@@ -12,7 +12,7 @@ use hy_crossing::partitions_of;
 use hy_forks::{drain, fork_all};
 use hy_loads::Load;
 use hy_partition::{Job, Loaded, Partition};
-use hy_passes::{Journal, Kit, Pass};
+use hy_passes::{Cursor, Journal, Kit, Pass};
 use hy_schema::Refusal;
 use hy_session::Session;
 use std::alloc::Global;
@@ -22,6 +22,7 @@ use std::alloc::Global;
 pub(crate) struct Shop<K: Loaded> {
     parts: Vec<Partition<SIZE, K>>,
     journal: Journal<Commit, K>,
+    cursor: Cursor<Commit, K>,
     ghost partitions: { ArePartitions K.load parts.items } by { Prim.hlevel props },
     ghost whole: { HaveNoPart parts.items } by { Prim.hlevel props },
 }
@@ -36,13 +37,22 @@ impl<K: Loaded> Shop<K> {
         requires load { load.now ≡ K.load }
         requires kit { kit ≡ K.passes }
         requires partitions { kit.partitions ≡ length load.now.tables.warehouses }
+        requires new { kit.replayed ≡ [] }
     {
-        let (_passes, journal, seats, mut clients) = kit.open::<K>()?;
-        let Some(pass) = clients.pop() else {
+        let (_passes, mut journal, seats, mut clients) = kit.open::<K>()?;
+        let (Some(pass), Some(place)) = (clients.pop(), clients.pop()) else {
             return Err(Refusal::NotRunning);
         };
+        let cursor = Cursor::new(alloc, place, &mut journal)?;
         let parts = partitions_of(alloc, load, seats, 10_000_000, 100_000_000)?;
-        Ok((Shop { parts, journal }, pass))
+        Ok((
+            Shop {
+                parts,
+                journal,
+                cursor,
+            },
+            pass,
+        ))
     }
 
     /// So many payments in the first warehouse.
@@ -67,7 +77,10 @@ impl<K: Loaded> Shop<K> {
 
     /// How many commits there were since the last drain.
     pub fn drain(&mut self, alloc: Global) -> Result<u64, Refusal> {
-        let batch = drain(alloc, &mut self.parts, &mut self.journal)?;
+        if self.parts.is_empty() {
+            return Err(Refusal::NoSuchWarehouse);
+        }
+        let batch = drain(alloc, &mut self.parts, &mut self.journal, &mut self.cursor)?;
         if batch.len() == 0 {
             return Err(Refusal::NoSuchWarehouse);
         }

@@ -50,7 +50,6 @@ module _ (n : ℕ) (p : PartitionState) (headline : Headline n p) (idle : (p.run
     nothing = record { seen = refl; kept = refl; book = refl };
     beside = record {
       terms = refl;
-      drained = refl;
       running = refl;
       finished = refl;
       snapshots = refl;

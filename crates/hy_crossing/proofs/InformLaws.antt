@@ -1,15 +1,15 @@
 -- What is known of partitions once what ran there has ended, and they were told the serial list.
 use Rattle.std.proofs.Common.{◌≡◌, ◌⊎◌, ℕ, zero, suc, ◌+◌, true, List, [], ◌∷◌, length, Option, None, Some, inl, inr, refl, sym, ap, ◌∙◌, subst, arith}
-use Rattle.std.specs.Prelude.{IfSome, MatchOption, slice_get}
+use Rattle.std.specs.Prelude.{IfSome, MatchOption, is_some, slice_get}
 use Rattle.std.proofs.lemmas.Bool.{true≢false}
 use Rattle.hy_rows.specs.Tables.{Lists}
 use Rattle.hy_commands.specs.declared.command.Command.{Command}
 use Rattle.hy_commands.specs.declared.edition.Edition.{Edition}
 use Rattle.hy_commands.specs.declared.edition.Edition.TheVariants as editions
 use Rattle.hy_partition.specs.Jobs.{Log, RunningJob}
-use Rattle.hy_partition.specs.Partition.{PartitionState, may_run, projection_of, terms_of}
+use Rattle.hy_partition.specs.Partition.{PartitionState, may_run, projection_of, replays, terms_of}
 use Rattle.hy_partition.specs.Steps.{Accepts, Refuses}
-use Rattle.hy_crossing.specs.Crossings.{AllMayRun, AreInformed, ArePartitions, EndsIfNamed, EndsJobs, HaveNoPart, IsInformed, IsPartition, TellsIfNamed, TellsNamed, is_named}
+use Rattle.hy_crossing.specs.Crossings.{AllMayRun, AreInformed, ArePartitions, EndsIfNamed, EndsJobs, HaveNoPart, IsInformed, IsPartition, MayRunIfNamed, TellsIfNamed, TellsNamed, is_named}
 use Rattle.hy_crossing.specs.Lists.{InTurn, Pairwise}
 use Rattle.hy_crossing.proofs.PairLaws.{pairs-hold}
 
@@ -91,15 +91,21 @@ pub still-partition : (lists : Lists) (number : ℕ) (old new : PartitionState) 
     → IsPartition lists number old → IsPartition lists number new
 still-partition lists number old new same is = (ap (λ t. t.load) same ∙ is.0, ap (λ t. t.warehouse) same ∙ is.1)
 
--- each partition is one where commands may run, where all are
-pub may-at : (edition : Edition) (parts : List PartitionState) (place : ℕ) → AllMayRun edition parts
-    → IfSome (slice_get parts place) (λ p. may_run p.replays edition ≡ true)
-may-at editions.First parts place may = may place
-may-at editions.Second parts place may = at (slice_get parts place)
+-- a command may run in each partition, where it may in all
+pub may-at : (edition : Edition) (command : Command) (parts : List PartitionState) (place : ℕ)
+    → AllMayRun edition command parts → IfSome (slice_get parts place) (MayRunIfNamed edition command (suc place))
+may-at editions.First command parts place may = may place
+may-at editions.Second command parts place may = at (slice_get parts place)
   where
-    at : (found : Option PartitionState) → IfSome found (λ p. may_run p.replays editions.Second ≡ true)
+    at : (found : Option PartitionState) → IfSome found (MayRunIfNamed editions.Second command (suc place))
     at None = tt
-    at (Some p) = refl
+    at (Some p) = tt
+
+-- in one that it names
+pub may-now : (edition : Edition) (command : Command) (number : ℕ) (p : PartitionState)
+    → MayRunIfNamed edition command number p → is_named command number ≡ true → may_run (replays p) edition ≡ true
+may-now editions.First command number p may named = (may named).1
+may-now editions.Second command number p may named = refl
 
 module _ (lists : Lists) (command : Command) where
   record IsWhole (number : ℕ) (p : PartitionState) : Type 0 where
@@ -188,31 +194,43 @@ module _ (lists : Lists) (command : Command) where
             middles ends (from-one IsWhole olds wholes)));
       }
 
-  -- where a log is replayed, it is so still
-  abbrev Replays : ℕ → PartitionState → Type 0
-  Replays number p = p.replays ≡ true
+  -- where a command may run by the first edition, it may so still
+  abbrev May : ℕ → PartitionState → Type 0
+  May number p = MayRunIfNamed editions.First command number p
 
-  replays-ended : (number : ℕ) (before after : Log) (old new : PartitionState)
-      → EndsIfNamed command number before after old new → Replays number old → Replays number new
-  replays-ended number before after old new ends was = elim ends [
-    | inl named ↦ ap (λ t. t.replays) (ended-job before after old new old.running refl named.1).2 ∙ was
-    | inr other ↦ ap (λ (p : PartitionState). p.replays) other.1.0 ∙ was
+  idle-same : (before after : Log) (old new : PartitionState) (running : Option RunningJob) → running ≡ None
+      → MatchOption running ((new ≡ old) × (after ≡ before)) (λ job.
+      Accepts job (Some before) (Some after) old new ⊎ Refuses job (Some before) (Some after) old new)
+      → new ≡ old
+  idle-same before after old new None idle same = same.0
+  idle-same before after old new (Some job) idle ended = absurd (true≢false (ap is_some idle))
+
+  may-ended : (number : ℕ) (before after : Log) (old new : PartitionState)
+      → EndsIfNamed command number before after old new → May number old → May number new
+  may-ended number before after old new ends was named = elim ends [
+    | inl is ↦
+        let may = was named in
+        subst (λ (p : PartitionState). (p.running ≡ None) × (replays p ≡ true))
+        (sym (idle-same before after old new old.running may.0 is.1)) may
+    | inr other ↦ absurd (true≢false (sym named ∙ other.0))
   ]
 
-  replays-told : (log : Log) (number : ℕ) (old new : PartitionState) → TellsIfNamed command log number old new
-      → Replays number old → Replays number new
-  replays-told log number old new tells was = elim tells [
-    | inl named ↦ ap (λ (p : PartitionState). p.replays) named.1.0 ∙ was
-    | inr other ↦ ap (λ (p : PartitionState). p.replays) other.1 ∙ was
+  may-told : (log : Log) (number : ℕ) (old new : PartitionState) → TellsIfNamed command log number old new
+      → May number old → May number new
+  may-told log number old new tells was named = elim tells [
+    | inl is ↦
+        let may = was named in
+        (ap (λ (p : PartitionState). p.running) is.1.0 ∙ may.0, ap replays is.1.0 ∙ may.1)
+    | inr other ↦ absurd (true≢false (sym named ∙ other.0))
   ]
 
   pub may-still : (before after : Log) (olds middles news : List PartitionState)
       → EndsJobs command before after olds middles → TellsNamed command after middles news → (edition : Edition)
-      → AllMayRun edition olds → AllMayRun edition news
+      → AllMayRun edition command olds → AllMayRun edition command news
   may-still before after olds middles news ends tells editions.First may =
-      each-then (TellsIfNamed command after) Replays Replays (replays-told after) middles news tells
-      (to-next Replays middles (turn-hold (EndsIfNamed command) Replays Replays replays-ended 1 before after olds
-      middles ends (from-one Replays olds may)))
+      each-then (TellsIfNamed command after) May May (may-told after) middles news tells
+      (to-next May middles (turn-hold (EndsIfNamed command) May May may-ended 1 before after olds
+      middles ends (from-one May olds may)))
   may-still before after olds middles news ends tells editions.Second may = tt
 
 module _ (lists : Lists) (command : Command) (log : Log) (parts : List PartitionState)

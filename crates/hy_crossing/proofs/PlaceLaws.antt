@@ -11,7 +11,7 @@ use Rattle.hy_crossing.specs.Crossings.{is_named}
 
 -- ---- the element at a place
 
-get-at : {Row : Type 0} (rows : List Row) (place : ℕ) (row : Row) → place < length rows
+pub get-at : {Row : Type 0} (rows : List Row) (place : ℕ) (row : Row) → place < length rows
     → row ≡ slice_index_or rows place row → slice_get rows place ≡ Some row
 get-at [] place row within here = absurd (omega (arith, within))
 get-at (first ∷ rows) zero row within here = ap Some (sym here)

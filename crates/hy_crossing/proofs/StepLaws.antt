@@ -37,7 +37,6 @@ pub then-beside : (old middle new : PartitionState) → KeepsBeside old middle �
     → KeepsBeside old new
 then-beside old middle new one other = record {
   terms = other.terms ∙ one.terms;
-  drained = other.drained ∙ one.drained;
   running = other.running ∙ one.running;
   finished = other.finished ∙ one.finished;
   snapshots = other.snapshots ∙ one.snapshots;

@@ -1,6 +1,7 @@
 -- A whole command over several warehouses: accepted, or refused.
-use Rattle.std.proofs.Common.{◌≡◌, ◌⊎◌, ℕ, true, nat_lt, List, [], ◌∷◌, ◌++◌, length, Option, None, Some, inl, inr, refl, sym, ap, ◌∙◌, subst}
-use Rattle.std.specs.List.{list_all}
+use Rattle.std.proofs.Common.{◌≡◌, ◌⊎◌, ◌==◌, ℕ, suc, true, nat_lt, List, [], ◌∷◌, ◌++◌, length, Option, None, Some, inl, inr, refl, sym, ap, ◌∙◌, subst}
+use Rattle.std.specs.Prelude.{slice_get}
+use Rattle.std.specs.List.{list_all, list_any}
 use mathlib.Core.List.{IsPrefix}
 use Rattle.hy_ledger.specs.declared.view.ShareState.{ShareState}
 use Rattle.hy_rows.specs.Ranges.{IsBetween, is_between}
@@ -10,6 +11,7 @@ use Rattle.hy_commands.specs.declared.command.Command.{Command}
 use Rattle.hy_commands.specs.declared.command.Commit.{Commit}
 use Rattle.hy_commands.specs.declared.command.Commit.TheVariants as commits
 use Rattle.hy_commands.specs.declared.edition.Edition.{Edition}
+use Rattle.hy_commands.specs.declared.edition.Edition.TheVariants as editions
 use Rattle.hy_commands.specs.declared.reply.Reply.{Reply}
 use Rattle.hy_commands.specs.Commands.{home_of, warehouses_of}
 use Rattle.hy_commands.specs.Parts.{customer_home_of, with_number}
@@ -17,11 +19,11 @@ use Rattle.hy_database.specs.Database.{act_on_all, kept_in}
 use Rattle.hy_passes.specs.Worlds.{PassState}
 use Rattle.hy_partition.specs.Jobs.{DoneState, JobState, Log, refused_answer, share_of, told}
 use Rattle.hy_partition.specs.Partition.{PartitionState}
-use Rattle.hy_crossing.specs.Crossings.{AcceptsAll, AreDone, AreInformed, AreKnown, ArePartitions, CanDoParts, DoesIfNamed, HaveNoPart, IsPayerIn, IsWhyNotDone, KeepsIfNamed, KeepsPartIfNamed, LeavesIfNamed, RefusesAll, RepliesFrom, crossing_entry, database_behind, entry_of, loaded_refusal, next_number}
+use Rattle.hy_crossing.specs.Crossings.{AcceptsAll, AllMayRun, AreDone, AreInformed, AreKnown, ArePartitions, CanDoParts, DoesIfNamed, HaveNoPart, IsPayerIn, IsWhyNotDone, KeepsIfNamed, KeepsPartIfNamed, LeavesIfNamed, MayRunIfNamed, RefusesAll, RepliesFrom, crossing_entry, database_behind, entry_of, loaded_refusal, next_number}
 use Rattle.hy_crossing.specs.Lists.{Pairwise}
 use Rattle.hy_crossing.proofs.AcceptLaws.{all-here, can-do, kept-is, same-crossing_refusal}
 use Rattle.hy_crossing.proofs.CrossLaws.{are-done, keeps-all, keeps-keeps, leaves-command, leaves-keeps, leaves-same, partitions-after, partitions-done, reply-is, whole-after}
-use Rattle.hy_crossing.proofs.InformLaws.{still-partitions, still-whole}
+use Rattle.hy_crossing.proofs.InformLaws.{some-then, still-partitions, still-whole}
 use Rattle.hy_crossing.proofs.NumberedLaws.{IsNumbered, is_numbered}
 use Rattle.hy_crossing.proofs.RefusedLaws.{home-there}
 
@@ -78,6 +80,13 @@ module _ (lists : Lists) (job : JobState) (log : Log) (parts : List PartitionSta
     can-all several =
         subst (λ (c : Command). CanDoParts c parts) (sym is)
         (can-do lists log job.command parts informed accepts number payer several partitions known)
+
+    pub may-all : (edition : Edition) → AllMayRun edition job.command parts → AllMayRun edition numbered parts
+    may-all editions.First may = λ place.
+        some-then (slice_get parts place) (MayRunIfNamed editions.First job.command (suc place))
+        (MayRunIfNamed editions.First numbered (suc place)) (may place)
+        (λ p may named. may (sym (ap (list_any (λ named. named == suc place)) same.warehouses) ∙ named))
+    may-all editions.Second may = tt
 
     pub named-all : list_all (is_between 1 (length parts)) (warehouses_of numbered) ≡ true
     named-all =

@@ -25,7 +25,7 @@ use Rattle.hy_tpcc.specs.Parts.{FindsPayer, HasPart, reply_of_part}
 use Rattle.hy_undo.specs.UndoLog.{empty_log}
 use Rattle.hy_partition.specs.Limits.{most_kept}
 use Rattle.hy_partition.specs.Jobs.{DoneState, JobState, Log, refused_answer, share_of, told}
-use Rattle.hy_partition.specs.Partition.{PartitionState, layout_of, projection_of, rows_now}
+use Rattle.hy_partition.specs.Partition.{PartitionState, layout_of, projection_of, replays, rows_now}
 use Rattle.hy_partition.specs.Parts.{DoesPart, HasNoPart, IsWhyUndone, KeepsBeside, KeepsPart, PartLacksFrame, with_part_entered}
 use Rattle.hy_partition.specs.Steps.{Accepts, KeepsNothing, Refuses, is_full}
 use Rattle.hy_crossing.specs.Lists.{InTurn, Pairwise}
@@ -38,14 +38,21 @@ pub record ArePartitions (lists : Lists) (parts : List PartitionState) : Type 0 
   pub count : length parts ≡ length lists.tables.warehouses
   pub each : (place : ℕ) → IfSome (slice_get parts place) (IsPartition lists (suc place))
 
--- by an edition commands may run in all partitions: by the first one only where all replay a log
-abbrev pub AllMayRun : Edition → List PartitionState → Type 0
-AllMayRun editions.First parts = (place : ℕ) → IfSome (slice_get parts place) (λ p. p.replays ≡ true)
-AllMayRun editions.Second parts = ⊤
-
 -- whether a command names the warehouse with a number
 abbrev pub is_named : Command → ℕ → Bool
 is_named command number = list_any (λ named. named == number) (warehouses_of command)
+
+-- a command over several warehouses may run in the one with a number by an edition, if it names that: by the first one only
+-- where nothing runs there and a log is replayed
+abbrev pub MayRunIfNamed : Edition → Command → ℕ → PartitionState → Type 0
+MayRunIfNamed editions.First command number p =
+    is_named command number ≡ true → (p.running ≡ None) × (replays p ≡ true)
+MayRunIfNamed editions.Second command number p = ⊤
+
+abbrev pub AllMayRun : Edition → Command → List PartitionState → Type 0
+AllMayRun editions.First command parts =
+    (place : ℕ) → IfSome (slice_get parts place) (MayRunIfNamed editions.First command (suc place))
+AllMayRun editions.Second command parts = ⊤
 
 -- one thing where a command names the warehouse with a number, and another where it doesn't
 abbrev pub IfNamed : Command → ℕ → Type 0 → Type 0 → Type 0

@@ -24,7 +24,8 @@ fn inform<const N: usize, K: Loaded, P: Parts<Part = Partition<N, K>>>(
     ensures informs { Informs command.now journal.old.list.log journal.new.list.log (P.states parts.old)
         (P.states parts.new) }
     ensures informed { AreInformed K.load command.now journal.new.list.log (P.states parts.new) }
-    ensures editions { (edition : Edition) → AllMayRun edition (P.states parts.old) → AllMayRun edition (P.states parts.new) }
+    ensures editions { (edition : Edition) → AllMayRun edition command.now (P.states parts.old)
+        → AllMayRun edition command.now (P.states parts.new) }
 {
     end_jobs(parts, journal, command);
     tell_named(parts, journal, command);
@@ -40,7 +41,7 @@ fn do_all<const N: usize, K: Loaded, P: Parts<Part = Partition<N, K>>>(
     requires informed { AreInformed K.load job.command journal.old.list.log (P.states parts.old) }
     requires accepted { loaded_refusal K.load job.command (P.states parts.old) ≡ None }
     requires payer { IsPayerIn (P.states parts.old) job.command number }
-    requires edition { AllMayRun job.edition (P.states parts.old) }
+    requires edition { AllMayRun job.edition job.command (P.states parts.old) }
     requires several { nat_lt 1 (length (warehouses_of job.command)) ≡ true }
     ensures does { AcceptsAll K.load job journal.old.list.log journal.new.list.log (P.states parts.old)
         (P.states parts.new) result
@@ -61,7 +62,8 @@ fn do_all<const N: usize, K: Loaded, P: Parts<Part = Partition<N, K>>>(
 
 /// Runs a command over several warehouses. What runs in those that it names is ended first; what runs elsewhere stays as
 /// it is. Then the whole of it is done, or none of it, and the refusal is the reply: the first of E8, E4, E5, E6, E3, E7,
-/// E2, E1. A job of the first edition is run only where all partitions replay a log.
+/// E2, E1. A job of the first edition is run only where nothing runs in the
+/// warehouses that it names and each of them replays a log.
 pub fn cross<const N: usize, K: Loaded, P: Parts<Part = Partition<N, K>>>(
     parts: &mut P,
     journal: &mut Journal<Commit, K>,
@@ -70,7 +72,7 @@ pub fn cross<const N: usize, K: Loaded, P: Parts<Part = Partition<N, K>>>(
     requires parts { ArePartitions K.load (P.states parts.old) }
     requires whole { HaveNoPart (P.states parts.old) }
     requires several { nat_lt 1 (length (warehouses_of job.command)) ≡ true }
-    requires edition { AllMayRun job.edition (P.states parts.old) }
+    requires edition { AllMayRun job.edition job.command (P.states parts.old) }
     ensures crosses { Crosses K.load job journal.old.list.log journal.new.list.log (P.states parts.old)
         (P.states parts.new) result }
     ensures parts { ArePartitions K.load (P.states parts.new) }

@@ -4,8 +4,7 @@ ghost use Rattle.std.specs.Prelude.{◌≡◌, ◌-◌, ◌<◌, true, IfErr, If
 ghost use Rattle.std.specs.Option.{option_or};
 ghost use Rattle.hy_rows.specs.Ranges.{IsBetween};
 ghost use Rattle.hy_commands.specs.Parts.{customer_home_of};
-ghost use Rattle.hy_partition.specs.Partition.{may_run};
-ghost use Rattle.hy_crossing.specs.Crossings.{AllMayRun, ArePartitions, CanDoIfNamed, CanDoParts, DoesHere, DoesIfNamed, FailsHere, IsWhyNotDone, LeavesIfNamed, RepliesFrom};
+ghost use Rattle.hy_crossing.specs.Crossings.{AllMayRun, ArePartitions, CanDoIfNamed, CanDoParts, DoesHere, DoesIfNamed, FailsHere, IsWhyNotDone, LeavesIfNamed, MayRunIfNamed, RepliesFrom};
 ghost use Rattle.hy_crossing.specs.Lists.{ChangesAt, Pairwise};
 
 use crate::parts::Parts;
@@ -23,7 +22,7 @@ fn do_here<const N: usize, K: Loaded, P: Parts<Part = Partition<N, K>>>(
 ) -> Result<Option<Reply>, Refusal>
     requires there { IsBetween 1 (length (P.states parts.old)) number }
     requires can { IfSome (slice_get (P.states parts.old) (number - 1)) (CanDoIfNamed command.now number) }
-    requires edition { IfSome (slice_get (P.states parts.old) (number - 1)) (λ p. may_run p.replays edition ≡ true) }
+    requires edition { IfSome (slice_get (P.states parts.old) (number - 1)) (MayRunIfNamed edition command.now number) }
     ensures done { IfOk result (λ reply. ChangesAt (λ old new. DoesHere edition command.now number old new reply) (number - 1)
         (P.states parts.old) (P.states parts.new)) }
     ensures refused { IfErr result (λ why. ChangesAt (FailsHere command.now why number) (number - 1)
@@ -56,7 +55,7 @@ pub fn do_parts<const N: usize, K: Loaded, P: Parts<Part = Partition<N, K>>>(
 ) -> Result<Reply, Refusal>
     requires parts { ArePartitions K.load (P.states parts.old) }
     requires can { CanDoParts command.now (P.states parts.old) }
-    requires edition { AllMayRun edition (P.states parts.old) }
+    requires edition { AllMayRun edition command.now (P.states parts.old) }
     requires there { IsBetween 1 (length (P.states parts.old)) (customer_home_of command.now) }
     ensures done { OnOk result (Pairwise (DoesIfNamed edition command.now) 1 (P.states parts.old) (P.states parts.new)) }
     ensures reply { IfOk result (λ reply. RepliesFrom edition command.now (P.states parts.old) (Some reply)) }

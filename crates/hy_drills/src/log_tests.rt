@@ -1,6 +1,6 @@
 //! Storms with a log.
 
-ghost use Rattle.std.specs.Prelude.{◌≡◌, ◌+◌};
+ghost use Rattle.std.specs.Prelude.{◌≡◌, ◌+◌, []};
 
 use hy_batches::read_log;
 use hy_engine::Open;
@@ -11,7 +11,7 @@ use hy_storm::{Figures, Size, storm};
 use hy_tables::generate;
 use std::marker::Model;
 use std::process::Abort;
-use std::sync::{Mutex, Wait};
+use std::sync::Wait;
 use std::thread::Threads;
 
 /// How large the storms are.
@@ -66,11 +66,16 @@ impl<'rt, R: Abort> LogOut for Broken<'rt, R> {
 fn logged<W: LogOut + Drop + Send, R: Threads + Wait + Abort + AllocGlobal + Sync>(
     rt: &R,
     out: W,
-) -> (Figures, W) {
+) -> (Figures, W)
+    requires nothing { (W.told out).written ≡ [] }
+{
     let load = generate(rt.alloc(), 2, 3, 20).expect(rt, "a load");
-    let log = Mutex::new(Log::new(rt.alloc(), out));
-    let figures = storm(rt, rt.alloc(), &load, SIZE, Open, Some(&log)).expect(rt, "a storm");
-    (figures, log.into_inner().into_out())
+    let log = Log::new(rt.alloc(), out);
+    let (figures, log) = storm(rt, rt.alloc(), &load, SIZE, Open, Some(log));
+    let Some(log) = log else {
+        panic!(rt; "the log comes back")
+    };
+    (figures.expect(rt, "a storm"), log.into_out())
 }
 
 #[test]

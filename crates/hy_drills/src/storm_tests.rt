@@ -5,7 +5,8 @@ ghost use Rattle.std.specs.Prelude.{◌≡◌, length};
 use crate::gates::Meeting;
 use hy_engine::{Gate, Open};
 use hy_files::MemoryLog;
-use hy_storm::{Figures, Logged, Size, storm};
+use hy_redo::Log;
+use hy_storm::{Figures, Size, storm};
 use hy_tables::generate;
 use std::process::Abort;
 use std::sync::Wait;
@@ -27,7 +28,15 @@ fn figures<G: Gate + Drop + Send + Sync, R: Threads + Wait + Abort + AllocGlobal
         sessions,
         commands,
     };
-    storm(rt, rt.alloc(), &load, size, gate, Logged::<MemoryLog>::None).expect(rt, "a storm")
+    let (figures, _log) = storm(
+        rt,
+        rt.alloc(),
+        &load,
+        size,
+        gate,
+        Option::<Log<MemoryLog>>::None,
+    );
+    figures.expect(rt, "a storm")
 }
 
 /// The sums that are wanted of a storm.

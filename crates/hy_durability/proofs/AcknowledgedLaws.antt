@@ -88,7 +88,7 @@ place-of : (n : ℕ) (log : Log) (whole : Whole) (number : ℕ) (parts : List Pa
 place-of n log whole number [] places are place p at = absurd (cc)
 place-of n log whole number (first ∷ parts) [] are place p at = absurd are
 place-of n log whole number (first ∷ parts) (row ∷ places) are zero p at =
-    (row, refl, are.0.world.kept ∙ ap (λ (one : PartitionState). one.kept) (same_Some first p at))
+    (row, refl, are.0.kept ∙ ap (λ (one : PartitionState). one.kept) (same_Some first p at))
 place-of n log whole number (first ∷ parts) (row ∷ places) are (suc place) p at =
     place-of n log whole (suc number) parts places are.1 place p at
 

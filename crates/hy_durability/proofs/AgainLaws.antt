@@ -1,8 +1,7 @@
 -- A life begins with nothing, or with what was recovered.
-use Rattle.std.proofs.Common.{◌≡◌, ℕ, suc, ◌+◌, ◌<◌, ◌≤◌, true, List, [], ◌∷◌, length, map, Some, None, refl, sym, ap, ◌∙◌, subst, arith}
+use Rattle.std.proofs.Common.{◌≡◌, ℕ, suc, ◌+◌, ◌≤◌, true, List, [], ◌∷◌, length, map, Some, None, refl, sym, ap, ◌∙◌, subst, arith}
 use Rattle.std.specs.Prelude.{IfSome, is_some, slice_get}
 use Rattle.std.specs.Option.{option_map}
-use Rattle.std.proofs.lemmas.List.Elements.{All-nil}
 use Rattle.hy_rows.specs.Tables.{Lists}
 use Rattle.hy_batches.specs.Batches.{Batch}
 use Rattle.hy_batches.specs.Grammar.{are_batches}
@@ -11,8 +10,9 @@ use Rattle.hy_partition.specs.Partition.{PartitionState, projection_of}
 use Rattle.hy_partition.specs.Schedules.{IsTaken, underway}
 use Rattle.hy_space.specs.Space.{child_bytes}
 use Rattle.hy_forks.specs.Histories.{IsOneHistory}
+use Rattle.hy_forks.proofs.LoggedLaws.{nothing-same}
 use Rattle.hy_recovery.specs.Recovering.{AreRecovered, GoesOn, IsRecovered, joined}
-use Rattle.hy_recovery.proofs.PlaceLaws.{at-place, get-some}
+use Rattle.hy_recovery.proofs.LoggedLaws.{recovered-same}
 use Rattle.hy_schedules.specs.Schedules.{ArePlacesOf, IsPlaceOf, IsWholeOf, Place, Whole, fresh_place, fresh_whole, rested_place, rested_places, rested_whole}
 use Rattle.hy_durability.specs.Durability.{BeginsLife}
 
@@ -28,12 +28,7 @@ begins-fresh lists = record {
   log = [];
   known = λ client. 0;
   within = λ client. omega arith;
-  same = record {
-    serial = record { named = All-nil _; marked = All-nil _; numbered = refl; stamped = refl };
-    told = refl;
-    numbers = (0, refl, refl);
-    joined_are = λ place within. refl;
-  };
+  same = nothing-same lists;
   rests = ap (λ (places : List Place). record { load = lists; log = []; known = λ client. 0; places = places })
       (fresh-rests 1 lists.tables.warehouses);
 }
@@ -43,17 +38,6 @@ begins-fresh lists = record {
 module _ (lists : Lists) (frames most : ℕ) (batches : List Batch) (parts : List PartitionState) (log : Log)
     (recovered : AreRecovered lists frames most batches parts)
     (history : IsOneHistory (length lists.tables.warehouses) log parts) where
-  -- what was recovered of a warehouse is what its history has
-  pub joined-is : (place : ℕ) → place < length lists.tables.warehouses
-      → joined batches place ≡ projection_of (suc place) log
-  joined-is place within =
-      let found = get-some parts place (omega (arith, within, recovered.count)) in
-      let here = at-place (IsRecovered lists frames most (joined batches place) (suc place)) parts place found.0 found.1
-      (recovered.each place) in
-      let kept = at-place (λ (p : PartitionState). p.kept ≡ projection_of (suc place) log) parts place found.0 found.1
-      (history.kept place) in
-      sym here.kept ∙ kept
-
   module _ (n : ℕ) (known : ℕ → ℕ) where
     abbrev whole : Whole
     whole = rested_whole lists log known
@@ -62,18 +46,14 @@ module _ (lists : Lists) (frames most : ℕ) (batches : List Batch) (parts : Lis
         → IsRecovered lists frames most (joined commits place) number p → p.kept ≡ projection_of number log
         → IsPlaceOf n log whole number p (rested_place (projection_of number log))
     place-rests number p commits place is kept = record {
-      world = record {
-        load = sym (ap (λ t. t.load) is.terms);
-        warehouse = sym (ap (λ t. t.warehouse) is.terms);
-        live = ap (λ t. t.replays) is.terms;
-        log_is = refl;
-        kept = sym kept;
-        running = sym (ap (option_map underway) is.running);
-        waits = sym (ap is_some is.finished);
-        snapshots = λ child.
-            subst (λ count. IsTaken n count (child_bytes p.space child) None) (sym (is.snapshots child)) refl;
-      };
-      drained = ap length (sym kept) ∙ sym is.drained;
+      load = sym (ap (λ t. t.load) is.terms);
+      warehouse = sym (ap (λ t. t.warehouse) is.terms);
+      log_is = refl;
+      kept = sym kept;
+      running = sym (ap (option_map underway) is.running);
+      waits = sym (ap is_some is.finished);
+      snapshots = λ child.
+          subst (λ count. IsTaken n count (child_bytes p.space child) None) (sym (is.snapshots child)) refl;
     }
 
     places-rest : {Row : Type 0} (rows : List Row) (number before : ℕ) (some : List PartitionState) → number ≡ suc before
@@ -130,6 +110,6 @@ module _ (lists : Lists) (frames most : ℕ) (batches : List Batch) (parts : Lis
       log = log;
       known = known;
       within = within;
-      same = record { serial = history.serial; told = told; numbers = numbers; joined_are = joined-is };
+      same = recovered-same lists frames most batches log parts recovered history told numbers;
       rests = refl;
     }

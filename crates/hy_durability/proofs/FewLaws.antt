@@ -19,8 +19,7 @@ use Rattle.hy_partition.specs.Partition.{projection_of}
 use Rattle.hy_schedules.specs.Schedules.{KeepsEverything, KeepsPlace, Place, Whole}
 use Rattle.hy_recovery.proofs.PlaceLaws.{at-place, get-some}
 use Rattle.hy_durability.specs.Durability.{HasRoom}
-use Rattle.hy_durability.proofs.BatchLaws.{one-of}
-use Rattle.hy_durability.proofs.VerdictLaws.{named-place}
+use Rattle.hy_forks.proofs.NumberLaws.{named-place, one-of}
 
 -- how many commits the first so many warehouses have of a serial list, together
 abbrev total : ℕ → Log → ℕ

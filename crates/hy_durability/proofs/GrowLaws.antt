@@ -29,7 +29,8 @@ use Rattle.hy_schedules.proofs.OrderLaws.{there-between}
 use Rattle.hy_schedules.proofs.PlaceLaws.{each-changed, each-replaced, holds-place, length-each, length-with_place}
 use Rattle.hy_rows.proofs.BetweenLaws.{IsBetween-bounds}
 use Rattle.hy_recovery.proofs.PlaceLaws.{get-set_here, get-set_other, get-within}
-use Rattle.hy_durability.proofs.FitLaws.{AreFit, IsFit, crossing-fit, entered-fit, known-local}
+use Rattle.hy_forks.proofs.FitsLaws.{AreFit, IsFit}
+use Rattle.hy_durability.proofs.FitLaws.{crossing-fit, entered-fit, known-local}
 
 -- whether an event is a drain
 abbrev pub is_drain : EventOfAll → Bool

@@ -1,6 +1,5 @@
 pub mod FitLaws
 pub mod VerdictLaws
-pub mod TellLaws
 pub mod GrowLaws
 pub mod BatchLaws
 pub mod FewLaws

@@ -4,18 +4,16 @@ use Rattle.std.specs.Prelude.{IfSome, slice_get}
 use Rattle.std.specs.Option.{option_map, unwrap_or}
 use Rattle.std.proofs.lemmas.List.{append-nil}
 use Rattle.std.proofs.lemmas.List.Elements.{All-append, All-nil}
-use Rattle.std.proofs.lemmas.Grind.{flat_map-append}
 use Rattle.hy_rows.specs.Tables.{Lists}
 use Rattle.hy_schema.specs.Loads.{IsLoad}
 use Rattle.hy_passes.specs.SerialList.{IsSerial}
 use Rattle.hy_passes.specs.declared.entry.Entry.{Entry}
 use Rattle.hy_commands.specs.declared.command.Commit.{Commit}
-use Rattle.hy_commands.specs.declared.edition.Edition.{Edition}
 use Rattle.hy_commands.specs.declared.edition.Edition.TheVariants as editions
 use Rattle.hy_commands.specs.Commands.{number_of, warehouses_of_commit}
 use Rattle.hy_partition.specs.Jobs.{Log}
 use Rattle.hy_partition.specs.Partition.{projection_of}
-use Rattle.hy_batches.specs.Batches.{Batch, may_follow}
+use Rattle.hy_batches.specs.Batches.{Batch}
 use Rattle.hy_batches.specs.Grammar.{are_batches, last_edition}
 use Rattle.hy_batches.proofs.LogLaws.{batches-more}
 use Rattle.hy_sound.specs.Sound.{AreSound, IsSoundBatch, list_at}
@@ -23,13 +21,15 @@ use Rattle.hy_sound.proofs.SoundLaws.{sound-more}
 use Rattle.hy_schedules.specs.Schedules.{DoesAll, EventOfAll, HappensAll, KeepsEverything, KeepsPlace, Place, RunsAll, Whole, place_at, rested_places, rested_whole, with_drained, with_places}
 use Rattle.hy_schedules.specs.Schedules as all
 use Rattle.hy_schedules.proofs.PlaceLaws.{length-each}
-use Rattle.hy_recovery.specs.Recovering.{joined}
-use Rattle.hy_recovery.specs.inside.Ways.{crossings_in}
+use Rattle.hy_forks.specs.Logged.{crossings_in, joined}
+use Rattle.hy_forks.proofs.BatchLaws.{batch-told, sound-batch}
+use Rattle.hy_forks.proofs.FitsLaws.{AreFit, IsFit}
+use Rattle.hy_forks.proofs.LoggedLaws.{joined-more, second-follows}
+use Rattle.hy_forks.proofs.NumberLaws.{projection-behind}
 use Rattle.hy_recovery.proofs.PlaceLaws.{at-place, each-from, get-some, get-within}
 use Rattle.hy_durability.specs.Durability.{AreDurable, BeginsLife, RunsGiving, batch_of, given}
-use Rattle.hy_durability.proofs.BatchLaws.{batch-told, lists-are, projection-behind, sound-batch}
+use Rattle.hy_durability.proofs.BatchLaws.{lists-are, lists-count}
 use Rattle.hy_durability.proofs.FewLaws.{few-entries}
-use Rattle.hy_durability.proofs.FitLaws.{AreFit, IsFit}
 use Rattle.hy_durability.proofs.GrowLaws.{AllRunNew, RunsNew, drained-all, drained_at, grows, is_drain, new-each}
 
 abbrev Batches : Type 0
@@ -82,11 +82,6 @@ new-rested : {Row : Type 0} (log : Log) (rows : List Row) → AllRunNew (rested_
 new-rested log rows zero = tt
 new-rested log rows (suc place) = rests-from log 1 rows place
 
--- one of the second edition may stand behind any
-second-follows : (edition : Edition) → may_follow edition editions.Second ≡ true
-second-follows editions.First = refl
-second-follows editions.Second = refl
-
 length-rested : {Row : Type 0} (log : Log) (number : ℕ) (rows : List Row)
     → length (rested_places log number rows) ≡ length rows
 length-rested log number [] = refl
@@ -103,12 +98,6 @@ runs-of (event ∷ events) old new batches run =
     (run.0, elim run.3 [ inl same ↦ inl same.0 | inr does ↦ inr does.0 ], runs-of events run.0 new run.2 run.4)
 
 module _ (lists : Lists) where
-  joined-more : (batches : Batches) (batch : Batch) (place : ℕ)
-      → joined (batches ++ batch ∷ []) place ≡ joined batches place ++ list_at batch.lists place
-  joined-more batches batch place =
-      flat_map-append (λ (batch : Batch). list_at batch.lists place) batches (batch ∷ [])
-      ∙ ap (λ rows. joined batches place ++ rows) (append-nil (list_at batch.lists place))
-
   module _ (goes_on : EveryScheduleGoesOn) (is_load : IsLoad lists) where
     -- no batch more
     still : (whole : Whole) (batches : Batches) → IsDrained lists whole batches → IsDrained lists whole (batches ++ [])
@@ -148,9 +137,11 @@ module _ (lists : Lists) where
         let kept = kept-is old everything (is.front ++ is.rest) is.log_is in
         let serial = subst (IsSerial warehouses_of_commit number_of (length lists.tables.warehouses)) is.log_is
         everything.serial in
+        let counted = lists-count lists old.places is.front is.rest is.count kept is.drained in
+        let are = lists-are lists old.places is.front is.rest is.count kept is.drained in
         let one : IsSoundBatch lists (crossings_in is.front) (crossings_in old.log) batch =
         subst (λ n. IsSoundBatch lists (crossings_in is.front) n batch) (ap crossings_in (sym is.log_is))
-        (sound-batch lists old.places is.front is.rest is.count kept is.drained is.fit serial) in
+        (sound-batch lists batch.lists is.front is.rest counted are is.fit serial) in
         let same : length new.places ≡ length old.places =
         ap (λ (w : Whole). length w.places) does ∙ length-each with_drained 1 old.places in
         record {
@@ -171,7 +162,7 @@ module _ (lists : Lists) where
               joined-more batches batch place
               ∙ ap (λ rows. rows ++ list_at batch.lists place) (is.joined_are place inside)
               ∙ ap (λ rows. projection_of (suc place) is.front ++ rows)
-              (lists-are lists old.places is.front is.rest is.count kept is.drained place inside)
+              (are place (omega (arith, inside, counted, is.count)))
               ∙ sym (projection-behind (suc place) is.front is.rest) ∙ ap (projection_of (suc place)) (sym is.log_is);
           fit = All-nil (λ (e : Entry Commit). IsFit lists e.commit);
           new_run = subst (λ (w : Whole). AllRunNew w.places) (sym does)
@@ -180,7 +171,7 @@ module _ (lists : Lists) where
               let within : length (is.front ++ is.rest) < 2 ^ 32 =
               omega (arith, small, ap (λ (w : Whole). length w.log) does, ap length is.log_is) in
               let first = is.told (omega (arith, within, ap length is.log_is)) in
-              let later = batch-told lists old.places is.front is.rest is.count kept is.drained is.fit serial is_load within in
+              let later = batch-told lists batch.lists is.front is.rest counted are is.fit serial is_load within in
               batches-more editions.First batches batch first later (second-follows (last_edition editions.First batches));
         }
 

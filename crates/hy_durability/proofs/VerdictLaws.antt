@@ -1,45 +1,18 @@
 -- No log is both sound and not, and each beginning of a sound one is sound.
-use Rattle.std.proofs.Common.{◌≡◌, ◌⊎◌, ◌||◌, ◌==◌, ℕ, zero, suc, ◌+◌, ◌<◌, ◌≤◌, Bool, true, false, cond, List, [], ◌∷◌, ◌++◌, length, take, inl, inr, refl, sym, ap, ◌∙◌, subst, arith}
-use Rattle.std.specs.Prelude.{All, filter}
-use Rattle.std.specs.List.{filter_map, list_all, list_any, range_with_len}
-use Rattle.std.proofs.lemmas.Bool.{and_parts, eq-eqb, false≢true, or_cases}
-use Rattle.std.proofs.Math.Bool.{or-true}
+use Rattle.std.proofs.Common.{◌≡◌, ◌⊎◌, ℕ, zero, suc, ◌+◌, ◌<◌, ◌≤◌, true, List, [], ◌∷◌, ◌++◌, length, take, inl, inr, refl, sym, ◌∙◌, subst, arith}
+use Rattle.std.specs.Prelude.{All}
+use Rattle.std.specs.List.{filter_map, range_with_len}
 use Rattle.std.proofs.lemmas.List.Elements.{All-cons, All-filter, All-head, All-nil, All-tail}
-use Rattle.hy_rows.specs.Ranges.{is_between}
-use Rattle.hy_rows.proofs.BetweenLaws.{bounds}
 use Rattle.hy_rows.specs.Tables.{Lists}
 use Rattle.hy_passes.specs.SerialList.{names}
 use Rattle.hy_commands.specs.declared.command.Commit.{Commit}
 use Rattle.hy_commands.specs.declared.command.Commit.TheVariants as commits
 use Rattle.hy_commands.specs.Commands.{number_of, warehouses_of_commit}
 use Rattle.hy_batches.specs.Batches.{Batch}
+use Rattle.hy_forks.proofs.NumberLaws.{OnNumber, all-below, all-filtered, named-place, numbers-hold}
 use Rattle.hy_sound.specs.Sound.{AreInStep, AreSound, IsFirstUnsound, IsSoundBatch, IsSoundLog, list_at, names_one_of}
 
--- ---- what holds of those that pass a test
-
-all-passing : {Row : Type 0} (Holds : Row → Type 0) (test : Row → Bool) (rows : List Row) → All Holds (filter test rows)
-    → All (λ row. test row ≡ true → Holds row) rows
-all-passing Holds test [] all = All-nil (λ row. test row ≡ true → Holds row)
-all-passing {Row = Row} Holds test (row ∷ rows) all =
-    All-cons (λ row. test row ≡ true → Holds row) row rows (here (test row) refl all)
-    (all-passing Holds test rows (later (test row) all))
-  where
-    here : (passes : Bool) → test row ≡ passes → All Holds (cond passes (row ∷ filter test rows) (filter test rows))
-        → test row ≡ true → Holds row
-    here true is all passes = All-head Holds row (filter test rows) all
-    here false is all passes = absurd (false≢true (sym is ∙ passes))
-
-    later : (passes : Bool) → All Holds (cond passes (row ∷ filter test rows) (filter test rows))
-        → All Holds (filter test rows)
-    later true all = All-tail Holds row (filter test rows) all
-    later false all = all
-
 -- ---- numbers
-
--- what holds of the number of a commit of several warehouses
-abbrev pub OnNumber : (ℕ → Type 0) → Commit → Type 0
-OnNumber Holds (commits.Local edition command) = Unit {0}
-OnNumber Holds (commits.Cross edition number command) = Holds number
 
 abbrev IsAtMost : ℕ → Commit → Type 0
 IsAtMost most = OnNumber (λ n. n ≤ most)
@@ -64,16 +37,6 @@ hold-numbers Holds (commits.Cross edition number command ∷ rows) all =
     (All-head (OnNumber Holds) (commits.Cross edition number command) rows all)
     (hold-numbers Holds rows (All-tail (OnNumber Holds) (commits.Cross edition number command) rows all))
 
-pub numbers-hold : (Holds : ℕ → Type 0) (rows : List Commit) → All Holds (filter_map number_of rows)
-    → All (OnNumber Holds) rows
-numbers-hold Holds [] all = All-nil (OnNumber Holds)
-numbers-hold Holds (commits.Local edition command ∷ rows) all =
-    All-cons (OnNumber Holds) (commits.Local edition command) rows tt (numbers-hold Holds rows all)
-numbers-hold Holds (commits.Cross edition number command ∷ rows) all =
-    All-cons (OnNumber Holds) (commits.Cross edition number command) rows
-    (All-head Holds number (filter_map number_of rows) all)
-    (numbers-hold Holds rows (All-tail Holds number (filter_map number_of rows) all))
-
 range-most : (low count most : ℕ) → low + count ≤ suc most → All (λ n. n ≤ most) (range_with_len low count)
 range-most low zero most few = All-nil (λ n. n ≤ most)
 range-most low (suc count) most few =
@@ -81,38 +44,6 @@ range-most low (suc count) most few =
     (range-most (low + 1) count most (omega (arith, few)))
 
 -- ---- two accounts of one batch
-
--- a commit that names one of so many warehouses names one at a place
-pub named-place : (count : ℕ) (named : List ℕ) → list_any (is_between 1 count) named ≡ true
-    → (place : ℕ) × (place < count) × (list_any (λ name. name == suc place) named ≡ true)
-named-place count [] there = absurd (false≢true there)
-named-place count (name ∷ named) there =
-    elim (or_cases (is_between 1 count name) (list_any (is_between 1 count) named) there) [
-      | inl here ↦ by name (bounds 1 count name here)
-      | inr later ↦ let found = named-place count named later in (
-        found.0,
-        found.1,
-        ap (λ b. (name == suc found.0) || b) found.2 ∙ or-true (name == suc found.0),
-      )
-    ]
-  where
-    by : (name : ℕ) → (1 ≤ name) × (name ≤ count)
-        → (place : ℕ) × (place < count) × (((name == suc place) || list_any (λ name. name == suc place) named) ≡ true)
-    by zero ends = absurd (omega (arith, ends.0))
-    by (suc place) ends =
-        (place, omega (arith, ends.1), ap (λ b. b || list_any (λ name. name == suc place) named) (eq-eqb (suc place) (suc place) refl))
-
-all-below : {Row : Type 0} (Holds : ℕ → Row → Type 0) (Wanted : Row → Type 0) (test : Row → Bool) (count : ℕ)
-    (rows : List Row)
-    → ((row : Row) → test row ≡ true → (place : ℕ) × (place < count) × (Holds place row → Wanted row))
-    → list_all test rows ≡ true → ((place : ℕ) → place < count → All (Holds place) rows) → All Wanted rows
-all-below Holds Wanted test count [] leads tested all = All-nil Wanted
-all-below Holds Wanted test count (row ∷ rows) leads tested all =
-    let both = and_parts (test row) (list_all test rows) tested in
-    let found = leads row both.0 in
-    All-cons Wanted row rows (found.2 (All-head (Holds found.0) row rows (all found.0 found.1)))
-    (all-below Holds Wanted test count rows leads both.1
-    (λ place within. All-tail (Holds place) row rows (all place within)))
 
 -- the numbers of one account are within those of the other
 module _ (before one other count : ℕ) (lists : ℕ → List Commit) (first : AreInStep before one count lists)
@@ -126,7 +57,7 @@ module _ (before one other count : ℕ) (lists : ℕ → List Commit) (first : A
   passing-most : (place : ℕ) → place < count
       → All (λ commit. names warehouses_of_commit (suc place) commit ≡ true → IsAtMost one commit) second.crossings
   passing-most place within =
-      all-passing (IsAtMost one) (names warehouses_of_commit (suc place)) second.crossings
+      all-filtered (IsAtMost one) (names warehouses_of_commit (suc place)) second.crossings
       (subst (All (IsAtMost one)) (sym (first.each place within) ∙ second.each place within)
       (All-filter (names warehouses_of_commit (suc place)) (IsAtMost one) first.crossings first-most))
 

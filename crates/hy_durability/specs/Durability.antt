@@ -1,35 +1,24 @@
 -- What the drains of a database give, one behind another, in whatever order its calls are made: in the life that begins with
 -- the load, and in each one that begins with what was recovered.
-use Rattle.std.specs.Prelude.{◌≡◌, ◌⊎◌, ℕ, suc, true, ◌+◌, ◌<◌, ◌≤◌, List, [], ◌∷◌, ◌++◌, drop, length, map, take, IfSome, Result, Ok, Err}
+use Rattle.std.specs.Prelude.{◌≡◌, ◌⊎◌, ℕ, suc, true, ◌+◌, ◌≤◌, List, [], ◌∷◌, ◌++◌, drop, length, map, take, IfSome, Result, Ok, Err}
 use mathlib.Core.List.{IsPrefix}
 use Rattle.hy_schema.specs.declared.refusal.Refusal.{Refusal}
 use Rattle.hy_schema.specs.declared.refusal.Refusal.TheVariants as refusals
 use Rattle.hy_rows.specs.Tables.{Lists}
-use Rattle.hy_passes.specs.SerialList.{IsSerial}
 use Rattle.hy_commands.specs.declared.edition.Edition.TheVariants as editions
-use Rattle.hy_commands.specs.Commands.{number_of, warehouses_of_commit}
 use Rattle.hy_batches.specs.Batches.{Batch}
 use Rattle.hy_batches.specs.Grammar.{are_batches}
 use Rattle.hy_batches.specs.Logs.{IsLog, Reads}
 use Rattle.hy_partition.specs.Jobs.{Log}
 use Rattle.hy_partition.specs.Limits.{most_kept}
-use Rattle.hy_partition.specs.Partition.{projection_of}
 use Rattle.hy_redo.specs.Calls.{AreCalls, Call, LogState, acknowledged, handed, log_behind}
 use Rattle.hy_redo.specs.Disk.{BeginsBehind, MayLeave}
 use Rattle.hy_sound.specs.Sound.{IsSoundLog}
-use Rattle.hy_recovery.specs.Recovering.{GoesOn, IsWhyUnrecovered, joined}
+pub use Rattle.hy_forks.specs.Logged.{SaySame}
+use Rattle.hy_recovery.specs.Recovering.{IsWhyUnrecovered, joined}
 use Rattle.hy_schedules.specs.Schedules.{DoesAll, EventOfAll, Place, Whole, drains, place_at, rested_whole}
 
 -- ---- lives
-
--- the whole batches of a log and a serial list say the same: both are in order, and of each warehouse they have the same
--- commits
-pub record SaySame (lists : Lists) (batches : List Batch) (log : Log) : Type 0 where
-  pub serial : IsSerial warehouses_of_commit number_of (length lists.tables.warehouses) log
-  pub told : are_batches batches ≡ true
-  pub numbers : GoesOn lists batches log
-  pub joined_are : (place : ℕ) → place < length lists.tables.warehouses
-      → joined batches place ≡ projection_of (suc place) log
 
 -- a life of a database begins behind these batches of its log: it is at rest behind a serial list that says the same
 pub record BeginsLife (lists : Lists) (batches : List Batch) (whole : Whole) : Type 0 where

@@ -16,7 +16,7 @@ ghost use Rattle.hy_redo.specs.Calls.{AreCalls, Call, LogState, acknowledged, ha
 ghost use Rattle.hy_redo.specs.Disk.{BeginsBehind, MayLeave};
 ghost use Rattle.hy_sound.specs.Sound.{IsSoundLog};
 ghost use Rattle.hy_recovery.specs.Recovering.{AreRecovered, GoesOn};
-ghost use Rattle.hy_schedules.specs.Schedules.{DoesAll, EventOfAll, IsWholeOf, Whole, drains, fresh_whole, rested_whole};
+ghost use Rattle.hy_schedules.specs.Schedules.{DoesAll, EventOfAll, IsDrainedTo, IsWholeOf, Whole, drains, fresh_whole, rested_whole};
 ghost use Rattle.hy_durability.specs.Durability.{AllAreThere, AreDurable, AreLed, BeginsLife, HasRoom, IsRecoverable, Life, RunsGiving, batch_of, last_of};
 
 use hy_redo::stops_leave_batches;
@@ -99,9 +99,10 @@ pub fn lives_are_recovered()
     stops_leave_batches();
 }
 
-/// Does nothing: its contract says that what `drain` of hy_forks answers, the commits of each partition since the last
-/// drain, is the batch that the model's drain gives.
+/// Does nothing: its contract says that what `drain` of hy_forks answers, the commits of each partition behind the place of a
+/// cursor, is the batch that the model's drain gives where it was drained up to that place (`drains_come_to_the_end` of
+/// hy_schedules).
 pub fn drains_give_batches()
-    ensures { (n : ℕ) (log : Log) (parts : List PartitionState) (whole : Whole) → IsWholeOf n log parts whole
-        → drained_of parts ≡ batch_of whole.places }
+    ensures { (n : ℕ) (log seen : Log) (parts : List PartitionState) (whole : Whole) → IsWholeOf n log parts whole
+        → IsDrainedTo seen whole → drained_of seen parts ≡ batch_of whole.places }
 {}

@@ -1,5 +1,5 @@
 -- What clauses see of an engine, and what its calls answer.
-use Rattle.std.specs.Prelude.{◌≡◌, ◌⊎◌, ◌<◌, ◌≤◌, ℕ, Bool, true, false, List, None, Some, Result, Err, length, nat_lt}
+use Rattle.std.specs.Prelude.{◌≡◌, ◌⊎◌, ◌<◌, ◌≤◌, ℕ, Bool, true, false, List, None, Some, Result, Ok, Err, length, nat_lt}
 use mathlib.Core.List.{IsPrefix}
 use Rattle.hy_rows.specs.Tables.{Lists}
 use Rattle.hy_schema.specs.Conditions.{first_broken}
@@ -9,16 +9,16 @@ use Rattle.hy_database.specs.Database.{all_rows}
 use Rattle.hy_commands.specs.declared.command.Command.{Command}
 use Rattle.hy_commands.specs.declared.command.Commit.{Commit}
 use Rattle.hy_commands.specs.Commands.{home_of, warehouses_of}
-use Rattle.hy_batches.specs.Batches.{Batch}
 use Rattle.hy_passes.specs.Worlds.{PassState}
 use Rattle.hy_partition.specs.Jobs.{DoneState, JobState, Log, RunningJob, begun, refused_answer, told}
 use Rattle.hy_partition.specs.Partition.{PartitionState}
 use Rattle.hy_partition.specs.Snapshots.{SnapshotState}
 use Rattle.hy_partition.specs.Steps.{Accepts, IsUnbegun, Refuses, begin_refusal, with_job}
 use Rattle.hy_crossing.specs.Crossings.{ArePartitions, database_behind}
-use Rattle.hy_redo.specs.Calls.{Answers, LogState}
+use Rattle.hy_redo_drains.specs.Following.{DrainState, WritesDue}
 use Rattle.hy_forks.specs.Drains.{are_new, drained_of}
 use Rattle.hy_forks.specs.Forks.{SpellsDatabase, are_from}
+use Rattle.hy_forks.specs.Histories.{IsOneHistory}
 use Rattle.hy_forks.specs.Origins.{Origin}
 
 -- how many warehouses an engine has, and how many clients
@@ -101,21 +101,29 @@ IsWhyNotAgain kit lists all why =
 
 -- ---- drains
 
--- a batch has what some partitions of a load had kept since a drain, whatever that is, all of it of the second edition: so
--- a list for each warehouse
-abbrev pub IsDrainOf : Lists → Batch → Type 0
-IsDrainOf lists batch =
-    (are_new batch ≡ true) × (parts : List PartitionState) × ArePartitions lists parts × (batch ≡ drained_of parts)
+-- what was committed behind a beginning of the serial list, in partitions of a load, of which each has kept all that the list
+-- has of it by then: all of it of the second edition, and due to be written
+pub record DrainsAll (partitions : ℕ) (lists : Lists) (old new : DrainState) : Type 0 where
+  pub begins : IsPrefix old.seen new.seen
+  pub log : new.log ≡ old.log
+  pub parts : List PartitionState
+  pub are : ArePartitions lists parts
+  pub history : IsOneHistory partitions new.seen parts
+  pub due : new.due ≡ Some (drained_of old.seen parts)
+  pub new_ones : are_new (drained_of old.seen parts) ≡ true
 
 -- why nothing was drained
 abbrev pub IsWhyUndrained : Refusal → Type 0
 IsWhyUndrained why = (why ≡ refusals.NoSuchWarehouse) ⊎ (why ≡ refusals.NoMemory)
 
--- a drain into a log: nothing was drained, and the log stays as it is; or a batch was, and the log answers it
-abbrev pub DrainsInto : Lists → LogState → LogState → Result (Unit {0}) Refusal → Type 0
-DrainsInto lists old new answer =
-    ((why : Refusal) × (answer ≡ Err why) × IsWhyUndrained why × (new ≡ old))
-    ⊎ ((batch : Batch) × IsDrainOf lists batch × Answers old new batch answer)
+-- a drain into a log: what was due is written first, where something was. Then nothing is drained, and the log stays as it
+-- is; or what was committed is, and it is written
+pub data DrainsInto (partitions : ℕ) (lists : Lists) (old new : DrainState) (answer : Result (Unit {0}) Refusal) : Type 0 where
+  stays_due : WritesDue old new answer → ((why : Refusal) × (answer ≡ Err why)) → DrainsInto partitions lists old new answer
+  undrained : (why : Refusal) → WritesDue old new (Ok tt) → answer ≡ Err why → IsWhyUndrained why
+      → DrainsInto partitions lists old new answer
+  drained : (mid due : DrainState) → WritesDue old mid (Ok tt) → DrainsAll partitions lists mid due
+      → WritesDue due new answer → DrainsInto partitions lists old new answer
 
 -- why nothing was acknowledged: nothing was drained, or the log's writer has failed
 abbrev pub IsWhyUnlogged : Refusal → Type 0

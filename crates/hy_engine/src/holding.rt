@@ -1,6 +1,6 @@
 //! Calls on all partitions, with all locks.
 
-ghost use Rattle.std.specs.Prelude.{◌≡◌, ◌⊎◌, ◌≤◌, [], IfErr, IfOk, OnErr, map, vec_capacity};
+ghost use Rattle.std.specs.Prelude.{◌≡◌, ◌⊎◌, ◌≤◌, [], IfErr, IfOk, OnErr, length, map, vec_capacity};
 ghost use Rattle.hy_schema.specs.declared.refusal.Refusal.{Refusal};
 ghost use Rattle.hy_crossing.specs.Crossings.{ArePartitions, HaveNoPart};
 ghost use Rattle.hy_crossing.specs.inside.Guards.{values_of};
@@ -42,6 +42,7 @@ impl<const N: usize, K: Loaded, G: Gate + Drop> Engine<N, K, G> {
     ) -> Result<Held<'a, N, K>, Refusal>
         requires empty { room.items ≡ [] }
         requires room { self.now.warehouses ≤ vec_capacity room }
+        ensures some { IfOk result (λ held. 1 ≤ length (values_of held.items)) }
         ensures parts { IfOk result (λ held. ArePartitions K.load (values_of held.items)) }
         ensures whole { IfOk result (λ held. HaveNoPart (values_of held.items)) }
         ensures refused { IfErr result (λ why. why ≡ Refusal.NoSuchWarehouse) }

@@ -1,6 +1,6 @@
 -- Snapshots of what other ones see, of all partitions.
-use Rattle.std.proofs.Common.{◌≡◌, ◌∙◌, ◌≤◌, ◌<◌, ◌+◌, ◌-◌, ◌==◌, ◌&&◌, ◌++◌, ℕ, zero, suc, true, List, [], ◌∷◌, Some, inl, inr, length, map, refl, ap, ap₂, arith, subst, sym}
-use Rattle.std.specs.Prelude.{IfSome, IsSomeAnd, slice_get}
+use Rattle.std.proofs.Common.{◌≡◌, ◌∙◌, ◌<◌, ◌+◌, ◌-◌, ◌==◌, ◌++◌, ℕ, zero, suc, true, List, [], ◌∷◌, Some, inl, inr, length, map, refl, ap, ap₂, arith, subst, sym}
+use Rattle.std.specs.Prelude.{IsSomeAnd, slice_get}
 use Rattle.std.proofs.lemmas.Bool.{and_from, and_parts, eq-eqb, true≢false}
 use Rattle.hy_worlds.specs.Origins.{Origin, desk_of}
 use Rattle.hy_rows.specs.Tables.{Lists}
@@ -11,7 +11,7 @@ use Rattle.hy_partition.proofs.ForkLaws.{warehouse-from}
 use Rattle.hy_crossing.specs.Crossings.{ArePartitions, HaveNoPart}
 use Rattle.hy_crossing.specs.Lists.{ChangesAt, Pairwise}
 use Rattle.hy_crossing.specs.Pairs.{Before}
-use Rattle.hy_forks.specs.Forks.{AreOfKit, ForksAllFrom, ForksFromHere, IsUnforked, IsUnforkedUntold, Shown, are_from, shown}
+use Rattle.hy_forks.specs.Forks.{AreOfKit, ForksAllFrom, ForksFromHere, IsUnforked, IsUnforkedUntold, are_from, shown}
 use Rattle.hy_forks.specs.inside.Places.{AreOf, ClosesExactlyHere, ForksFromExactly, ForksFromExactlyHere, IsOf}
 use Rattle.hy_forks.proofs.ForkLaws.{unforked-again, unforked-same, unforked-stays}
 use Rattle.hy_forks.proofs.TakenLaws.{Taking, of-taken, taken-more, taken-undone}

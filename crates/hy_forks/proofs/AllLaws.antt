@@ -1,5 +1,5 @@
 -- All partitions were forked, or those before one that refused it were closed again.
-use Rattle.std.proofs.Common.{◌≡◌, ◌∙◌, ◌⊎◌, ◌≤◌, ◌<◌, ◌+◌, ◌-◌, ◌==◌, ℕ, zero, suc, List, [], ◌∷◌, ◌++◌, Some, inl, inr, length, ap, arith, subst, sym}
+use Rattle.std.proofs.Common.{◌≡◌, ◌∙◌, ◌<◌, ◌+◌, ◌-◌, ◌==◌, ℕ, zero, suc, List, [], ◌∷◌, ◌++◌, Some, inl, inr, length, ap, arith, subst, sym}
 use Rattle.std.specs.Prelude.{IfSome, IsSomeAnd, slice_get}
 use Rattle.std.proofs.lemmas.Bool.{and_from, eq-eqb}
 use mathlib.Core.List.{IsPrefix}
@@ -20,17 +20,16 @@ use Rattle.hy_partition.specs.Snapshots.{SnapshotState}
 use Rattle.hy_partition.specs.Steps.{Forks}
 use Rattle.hy_crossing.specs.Crossings.{ArePartitions, HaveNoPart, IsPartition, commits_in, database_behind}
 use Rattle.hy_crossing.specs.Lists.{ChangesAt, Pairwise}
-use Rattle.hy_crossing.specs.Pairs.{At, Before}
-use Rattle.hy_crossing.proofs.PairLaws.{pairs-then}
+use Rattle.hy_crossing.specs.Pairs.{Before}
 use Rattle.hy_forks.specs.Forks.{AreOfKit, ForksAll, ForksHere, IsUnforked, IsWhyUnforked, SomeLacks, SpellsDatabase}
-use Rattle.hy_forks.specs.inside.Places.{AreOf, ClosesExactly, ClosesExactlyHere, ForksExactly, ForksExactlyHere, IsOf, RefusesFork}
+use Rattle.hy_forks.specs.inside.Places.{AreOf, ClosesExactlyHere, ForksExactly, ForksExactlyHere, IsOf, RefusesFork}
 use Rattle.hy_forks.proofs.DatabaseLaws.{rows-behind}
 use Rattle.hy_forks.proofs.ForkLaws.{unforked-closed, unforked-same, unforked-stays}
 use Rattle.hy_forks.proofs.KnownLaws.{forks-known}
 use Rattle.hy_forks.proofs.TakenLaws.{of-taken, taken-more, taken-undone}
-use Rattle.hy_forks.proofs.RelationLaws.{before-all, before-more, before-still, changes-get, changes-pairs, pairs-get, pairs-length, pairs-map, pairs-same}
+use Rattle.hy_forks.proofs.RelationLaws.{before-all, before-still, changes-get, pairs-get, pairs-length, pairs-map, pairs-same}
 use Rattle.hy_forks.proofs.PartsLaws.{KeepsPlace, numbered-hold, partition-at, still-partitions, still-whole}
-use Rattle.hy_forks.proofs.PlaceLaws.{front-holds, get-last, get-within, some-both, some-each, some-is, some-map, some-out, some-this}
+use Rattle.hy_forks.proofs.PlaceLaws.{get-within, some-each, some-map, some-out, some-this}
 
 -- a snapshot of a partition that was forked
 of-fork : (n : ℕ) (kit : Origin) (log known : Log) (snapshot : SnapshotState) (old new : PartitionState)

@@ -18,7 +18,6 @@ keeps-then : (old middle new : PartitionState) → KeepsJob old middle → Keeps
 keeps-then old middle new first next = record {
   terms = next.terms ∙ first.terms;
   kept = next.kept ∙ first.kept;
-  drained = next.drained ∙ first.drained;
   book = next.book ∙ first.book;
   running = next.running ∙ first.running;
   part = next.part ∙ first.part;
@@ -32,7 +31,6 @@ unforked-same log p = record {
   job = record {
     terms = refl;
     kept = refl;
-    drained = refl;
     book = refl;
     running = refl;
     part = refl;

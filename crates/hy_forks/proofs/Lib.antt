@@ -15,3 +15,7 @@ pub mod LackLaws
 pub mod ForkedLaws
 pub mod DrainLaws
 pub mod SendLaws
+pub mod NumberLaws
+pub mod FitsLaws
+pub mod BatchLaws
+pub mod LoggedLaws

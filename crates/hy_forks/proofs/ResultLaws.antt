@@ -14,6 +14,11 @@ pub ok-map : {T E : Type 0} (F G : T → Type 0) (result : Result T E) → ((val
 ok-map F G (Ok value) leads holds = leads value holds
 ok-map F G (Err error) leads holds = tt
 
+pub ok-both : {T E : Type 0} (F G H : T → Type 0) (result : Result T E)
+    → ((value : T) → F value → G value → H value) → IfOk result F → IfOk result G → IfOk result H
+ok-both F G H (Ok value) leads one other = leads value one other
+ok-both F G H (Err error) leads one other = tt
+
 pub err-holds : {T E : Type 0} (P : Type 0) (result : Result T E) → P → OnErr result P
 err-holds P (Ok value) holds = tt
 err-holds P (Err error) holds = holds

@@ -6,7 +6,7 @@ use Rattle.hy_partition.specs.Jobs.{Log}
 use Rattle.hy_partition.specs.Partition.{PartitionState, projection_of, terms_of}
 use Rattle.hy_crossing.specs.Crossings.{ArePartitions, HaveNoPart, IsPartition}
 use Rattle.hy_crossing.specs.Lists.{Pairwise}
-use Rattle.hy_forks.specs.Drains.{DrainsHere, TellsHere}
+use Rattle.hy_forks.specs.Drains.{TellsHere}
 use Rattle.hy_forks.proofs.PartsLaws.{KeepsPlace, numbered-hold, still-partitions, still-whole}
 
 module _ (lists : Lists) (log : Log) (olds news : List PartitionState) (are : ArePartitions lists olds) where
@@ -26,19 +26,3 @@ module _ (lists : Lists) (log : Log) (olds news : List PartitionState) (are : Ar
 
     pub told-whole : HaveNoPart olds → HaveNoPart news
     told-whole none = still-whole (TellsHere log) keeps-told olds news pairs none
-
-  module _ (pairs : Pairwise (DrainsHere log) 1 olds news) where
-    pub drained-kept : (place : ℕ) → IfSome (slice_get news place) (λ p. p.kept ≡ projection_of (suc place) log)
-    drained-kept =
-        numbered-hold (DrainsHere log) olds news pairs (IsPartition lists)
-        (λ number p. p.kept ≡ projection_of number log) (λ number old new drains is.
-        ap (λ (p : PartitionState). p.kept) drains.0 ∙ drains.1 ∙ ap (λ w. projection_of w log) is.1) are.each
-
-    keeps-drained : (number : ℕ) (old new : PartitionState) → DrainsHere log number old new → KeepsPlace old new
-    keeps-drained number old new drains = (ap terms_of drains.0, ap (λ (p : PartitionState). p.part) drains.0)
-
-    pub drained-partitions : ArePartitions lists news
-    drained-partitions = still-partitions (DrainsHere log) keeps-drained olds news pairs lists are
-
-    pub drained-whole : HaveNoPart olds → HaveNoPart news
-    drained-whole none = still-whole (DrainsHere log) keeps-drained olds news pairs none

@@ -6,4 +6,5 @@ pub use Rattle.hy_crossing.specs.Lists
 pub mod Forks
 pub mod Drains
 pub mod Histories
+pub mod Logged
 pub mod inside

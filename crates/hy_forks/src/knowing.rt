@@ -1,6 +1,7 @@
 //! What is known of the partitions of a load, and of the serial list.
 
-ghost use Rattle.std.specs.Prelude.{◌≡◌, ◌≤◌, length};
+ghost use Rattle.std.specs.Prelude.{◌≡◌, ◌≤◌, ℕ, IfSome, length, slice_get};
+ghost use Rattle.hy_worlds.specs.Origins.{replayed_of};
 ghost use Rattle.hy_schema.specs.Loads.{IsLoad};
 ghost use Rattle.hy_passes.specs.Agreement.{Agree};
 ghost use Rattle.hy_passes.specs.SerialList.{IsSerial};
@@ -27,6 +28,17 @@ pub(crate) fn know_load<const N: usize, K: Loaded, P: Parts<Part = Partition<N, 
         let last = parts.part(count - 1);
         last.ties();
         let _number = last.warehouse();
+    }
+}
+
+/// Of how many commits each partition knows that they come from a log. Changes nothing.
+pub fn know_replayed<const N: usize, K: Loaded, P: Parts<Part = Partition<N, K>>>(parts: &mut P)
+    ensures known { (place : ℕ) → IfSome (slice_get (P.states parts.old) place)
+        (λ p. p.replayed ≡ replayed_of K.passes p.warehouse) }
+    ensures same { P.states parts.new ≡ P.states parts.old }
+{
+    for place in 0..parts.len() {
+        parts.part(place).ties();
     }
 }
 

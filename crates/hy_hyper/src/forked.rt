@@ -351,16 +351,6 @@ impl<const N: usize, K: Loaded> Forked<N, K> {
         self.passes.kept_now(client)
     }
 
-    /// The commits since the last drain.
-    pub fn undrained(&self) -> &[Commit] {
-        self.partition.undrained()
-    }
-
-    /// Notes that all commits were drained.
-    pub fn mark_drained(&mut self) {
-        self.partition.mark_drained();
-    }
-
     /// The partition, of which no snapshot is open any more, is given up. Answers how many frames are free.
     pub fn end(self, rt: &impl Abort) -> u64 {
         let Forked {

@@ -22,7 +22,6 @@ use std::thread::{Threads, join};
 #[derive(Drop)]
 enum Case {
     ReadsItsWrite,
-    DrainedOnce,
 }
 
 impl<const N: usize> Body for On<N, Case> {
@@ -38,7 +37,6 @@ impl<const N: usize> Body for On<N, Case> {
         let forked = Forked::<N, K>::new(rt, load, kit, size)?;
         match &self.case {
             Case::ReadsItsWrite => sees_its_payment(rt, forked),
-            Case::DrainedOnce => drains(rt, forked),
         }
         Ok(())
     }
@@ -91,38 +89,6 @@ fn reads_its_write(rt: HostRuntime) {
             of_items(1),
             &On::<4096, _> {
                 case: Case::ReadsItsWrite
-            }
-        )
-        .is_ok()
-    );
-}
-
-/// All commits are drained, then none, and then the one that came.
-fn drains<const N: usize, K: Loaded>(rt: &impl Abort, mut forked: Forked<N, K>) {
-    pay(rt, &mut forked, 100);
-    pay(rt, &mut forked, 200);
-    let [first, second] = forked.undrained() else {
-        panic!(rt; "two commits")
-    };
-    assert!(rt; paid(first) == Some((1, 100)) && paid(second) == Some((1, 200)));
-    forked.mark_drained();
-    assert!(rt; forked.undrained().is_empty());
-    pay(rt, &mut forked, 300);
-    let [last] = forked.undrained() else {
-        panic!(rt; "one commit")
-    };
-    assert!(rt; paid(last) == Some((1, 300)) && forked.kept() == 3);
-    forked.end(rt);
-}
-
-#[test]
-fn drained_once(rt: HostRuntime) {
-    assert!(rt;
-        run(
-            &rt,
-            of_items(1),
-            &On::<4096, _> {
-                case: Case::DrainedOnce
             }
         )
         .is_ok()

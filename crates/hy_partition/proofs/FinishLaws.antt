@@ -46,7 +46,6 @@ Reached before after old now =
 keeps_rest-then : (old now new : PartitionState) → KeepsRest old now → KeepsRest now new → KeepsRest old new
 keeps_rest-then old now new first second = record {
   terms = second.terms ∙ first.terms;
-  drained = second.drained ∙ first.drained;
   part = second.part ∙ first.part;
   snapshots = second.snapshots ∙ first.snapshots;
   max_frames = second.max_frames ∙ first.max_frames;
@@ -90,7 +89,6 @@ reached-start log p = at p.running refl
             bytes = refl;
             rest = record {
               terms = refl;
-              drained = refl;
               part = refl;
               snapshots = refl;
               max_frames = refl;
@@ -147,7 +145,6 @@ module _ (old now new : PartitionState) (first job : RunningJob) (way : IsOnItsW
         finished = ends.finished;
         rest = record {
           terms = ends.rest.terms ∙ ap (λ (t : Terms). record t { load = now.load; warehouse = now.warehouse }) way.rest.terms;
-          drained = ends.rest.drained ∙ way.rest.drained;
           part = ends.rest.part ∙ way.rest.part;
           snapshots = ends.rest.snapshots ∙ way.rest.snapshots;
           max_frames = ends.rest.max_frames ∙ way.rest.max_frames;

@@ -78,7 +78,6 @@ module _ (n room : ℕ) (executor : ExecutorState) (p : PartitionState) (sound :
     job = record {
       terms = refl;
       kept = refl;
-      drained = refl;
       book = refl;
       running = refl;
       part = refl;
@@ -101,7 +100,6 @@ stays-same p space snapshots same stay = record {
   job = record {
     terms = refl;
     kept = refl;
-    drained = refl;
     book = refl;
     running = refl;
     part = refl;
@@ -227,7 +225,6 @@ module _ (n room : ℕ) (executor : ExecutorState) (p : PartitionState) (sound :
         job = record {
           terms = refl;
           kept = refl;
-          drained = refl;
           book = refl;
           running = refl;
           part = refl;
@@ -274,7 +271,6 @@ module _ (n room : ℕ) (executor : ExecutorState) (p : PartitionState) (sound :
       job = record {
         terms = refl;
         kept = refl;
-        drained = refl;
         book = refl;
         running = refl;
         part = refl;
@@ -344,7 +340,6 @@ module _ (n room : ℕ) (executor : ExecutorState) (p : PartitionState) (sound :
         job = record {
           terms = refl;
           kept = refl;
-          drained = refl;
           book = refl;
           running = refl;
           part = refl;

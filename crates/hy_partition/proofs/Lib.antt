@@ -7,6 +7,7 @@ pub mod StepsToLaws
 pub mod FinishLaws
 pub mod ForkLaws
 pub mod AccountLaws
+pub mod KnownLaws
 pub mod TieLaws
 pub mod MadeLaws
 pub mod ScheduleLaws

@@ -1,8 +1,10 @@
 -- Why a partition isn't made.
-use Rattle.std.proofs.Common.{◌≡◌, ◌≤◌, ℕ, [], None, Result, Err, inl, inr, refl, sym, ap, ◌∙◌, subst, arith, true, false, true≢false}
+use Rattle.std.proofs.Common.{◌≡◌, ◌≤◌, ℕ, [], drop, None, Result, Err, inl, inr, refl, sym, ap, ◌∙◌, subst, arith, true, false, true≢false}
 use Rattle.std.proofs.lemmas.Int.{ints}
 use Rattle.std.specs.Prelude.{length}
 use Rattle.std.specs.List.{list_all}
+use Rattle.std.proofs.lemmas.List.{drop_all}
+use Rattle.hy_worlds.specs.Origins.{Origin, replayed_of}
 use Rattle.hy_frames.specs.declared.errors.Shortage.{Shortage}
 use Rattle.hy_frames.specs.declared.errors.Shortage.TheVariants as shortages
 use Rattle.hy_rows.specs.Tables.{Lists}
@@ -20,7 +22,7 @@ use Rattle.hy_tpcc.specs.Executor.{ExecutorState}
 use Rattle.hy_commands.specs.Replay.{rows_after}
 use Rattle.hy_partition.specs.Accounts.{home_commits, taken_in}
 use Rattle.hy_partition.specs.Limits.{IsWhyUnmade, most_kept}
-use Rattle.hy_partition.specs.Partition.{PartitionState, is_new, projection_of}
+use Rattle.hy_partition.specs.Partition.{PartitionState, is_new, may_be_kept, projection_of}
 use Rattle.hy_partition.specs.Steps.{Begins}
 use Rattle.hy_partition.specs.inside.Soundness.{IsLaid, IsSound, IsTied}
 use Rattle.hy_partition.proofs.SoundLaws.{sound-new}
@@ -35,7 +37,7 @@ why_unmade n lists number frames layout filled shortages.NoFrame is failed bound
     inl (refl, subst (λ (l : LayoutState). frames ≤ frames_for n (own_rows l)) is (bound failed))
 
 -- a partition whose rows were laid on pages, with nothing told and nothing kept
-module _ (n : ℕ) (lists : Lists) (number frames most : ℕ) (executor : ExecutorState) (space : SpaceState) (undo : UndoLog)
+module _ (n : ℕ) (lists : Lists) (number frames most replayed : ℕ) (executor : ExecutorState) (space : SpaceState) (undo : UndoLog)
     (laid : IsLaid n lists number frames executor space undo) (list : KeptState Commit) (desk : DeskState) (book : BookState)
     (list_of : list.warehouse ≡ number) (untold : list.seen ≡ []) (desk_is : desk ≡ record { warehouse = number; out = [] })
     (book_is : book ≡ new_book number) where
@@ -44,10 +46,9 @@ module _ (n : ℕ) (lists : Lists) (number frames most : ℕ) (executor : Execut
     load = executor.layout.load;
     warehouse = executor.layout.warehouse;
     max_kept = most;
-    replays = false;
+    replayed = replayed;
     seen = list.seen;
     kept = projection_of list.warehouse list.seen;
-    drained = 0;
     book = book;
     running = None;
     part = None;
@@ -73,14 +74,16 @@ module _ (n : ℕ) (lists : Lists) (number frames most : ℕ) (executor : Execut
       (rw load_is laid.load) (rw (load_is, number_is) between) refl
       (rw (load_is, number_is) laid.store)
 
-  pub tied-made : (world : Lists) → lists ≡ world → IsTied world list desk made
-  tied-made world same = record {
+  pub tied-made : (world : Lists) (kit : Origin) → lists ≡ world → replayed ≡ replayed_of kit number
+      → IsTied world kit list desk made
+  tied-made world kit same from = record {
     load_is = load_is ∙ same;
     list_of = list_of ∙ sym number_is;
     desk_of = ap (λ (d : DeskState). d.warehouse) desk_is ∙ sym number_is;
     tickets = λ child out. absurd (true≢false (sym out ∙ ap (λ (d : DeskState). is_out d.out child) desk_is));
-    within = omega arith;
-    new = ap (list_all is_new) none_kept;
+    replayed_is = from ∙ ap (replayed_of kit) (sym number_is);
+    new = ap (λ commits. list_all is_new (drop replayed commits)) none_kept ∙ ap (list_all is_new) (drop_all replayed [] (omega arith));
+    known = ap (list_all (may_be_kept executor.layout.load executor.layout.warehouse)) none_kept;
     book = record {
       warehouse_is = ap (λ (b : BookState). b.warehouse) book_is ∙ sym number_is;
       commits_are = ap (λ (b : BookState). b.commits) book_is
@@ -92,10 +95,9 @@ module _ (n : ℕ) (lists : Lists) (number frames most : ℕ) (executor : Execut
 
   pub begins-made : Begins lists number frames most made
   begins-made = record {
-    terms = ap (λ l. record { load = l.load; warehouse = l.warehouse; max_kept = most; replays = false }) laid.layout;
+    terms = ap (λ l. record { load = l.load; warehouse = l.warehouse; max_kept = most; replayed = replayed }) laid.layout;
     seen = untold;
     kept = none_kept;
-    drained = refl;
     book = book_is;
     running = refl;
     part = refl;

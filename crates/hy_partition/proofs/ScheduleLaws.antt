@@ -305,7 +305,6 @@ module _ (n : ℕ) (log after : Log) (p q : PartitionState) (world : World) (job
       step_to (with_refused world) (inr (inr refl)) (record {
         load = is.load ∙ sym (ap (λ t. t.load) ends.2.terms);
         warehouse = is.warehouse ∙ sym (ap (λ t. t.warehouse) ends.2.terms);
-        live = ap (λ t. t.replays) ends.2.terms ∙ is.live;
         log_is = is.log_is ∙ sym same;
         kept = is.kept ∙ sym refuses.nothing.kept;
         running = sym (ap (option_map underway) ends.0);
@@ -317,7 +316,6 @@ module _ (n : ℕ) (log after : Log) (p q : PartitionState) (world : World) (job
   leads-step progress.More did = step_to (with_slice world (underway job)) (inl (did.0, refl)) (record {
     load = is.load ∙ sym (ap (λ t. t.load) did.2.rest.terms);
     warehouse = is.warehouse ∙ sym (ap (λ t. t.warehouse) did.2.rest.terms);
-    live = ap (λ t. t.replays) did.2.rest.terms ∙ is.live;
     log_is = is.log_is ∙ sym (some_same did.1);
     kept = is.kept ∙ sym did.2.nothing.kept;
     running = sym (ap (option_map underway) did.2.running);
@@ -338,7 +336,6 @@ module _ (n : ℕ) (log after : Log) (p q : PartitionState) (world : World) (job
         step_to (with_accepted world (underway job)) (inr (inl (last.0, accepted, refl))) (record {
           load = is.load ∙ sym (ap (λ t. t.load) does.ends.rest.terms);
           warehouse = is.warehouse ∙ sym (ap (λ t. t.warehouse) does.ends.rest.terms);
-          live = ap (λ t. t.replays) does.ends.rest.terms ∙ is.live;
           log_is = sym grown;
           kept = sym kept;
           running = sym (ap (option_map underway) does.ends.running);

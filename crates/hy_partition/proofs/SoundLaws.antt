@@ -34,7 +34,7 @@ use Rattle.hy_partition.specs.Headline.{SpellsBeginning}
 use Rattle.hy_ledger.specs.Books.{BookState}
 use Rattle.hy_partition.specs.Jobs.{DoneState, Log, RunningJob, with_slice_done}
 use Rattle.hy_partition.specs.Limits.{most_kept}
-use Rattle.hy_partition.specs.Partition.{PartState, PartitionState, commits_of, layout_of, may_run, outcome_now, refusal_now, rows_after, rows_now}
+use Rattle.hy_partition.specs.Partition.{PartState, PartitionState, commits_of, layout_of, may_run, replays, outcome_now, refusal_now, rows_after, rows_now}
 use Rattle.hy_partition.specs.Parts.{rows_with_part}
 use Rattle.hy_partition.specs.inside.Soundness.{HoldsPart, IsIdle, IsSound, IsStoreOf, Rests, Runs}
 use Rattle.hy_partition.proofs.ReplayLaws.{bounds-rows, grown-now, places-rows, replay-crossed, replay-kept_of, sound-rows, stays_in_bounds}
@@ -159,7 +159,7 @@ module _ (n room : ℕ) (executor : ExecutorState) (p : PartitionState) (sound :
       → begin_refusal_of executor.layout.warehouse job.command (stored n (owner_bytes p.space)).tables ≡ None
       → (StaysInBounds executor.layout job.edition job.command (stored n (owner_bytes p.space)).tables
       → IsUnderWay executor' job.edition job.command 0 (stored n (owner_bytes p.space)).tables (stored n (owner_bytes p.space)))
-      → (is_reader job.command ≡ false → (length p.kept ≢ p.max_kept) × (1 ≤ room')) → may_run p.replays job.edition ≡ true
+      → (is_reader job.command ≡ false → (length p.kept ≢ p.max_kept) × (1 ≤ room')) → may_run (replays p) job.edition ≡ true
       → IsSound n room' executor' (record p { running = Some job })
   sound-begun room' executor' job idle no_part no_reply fresh layout begins under_way room_for may =
       let pages = (rests idle no_part).pages in
@@ -510,7 +510,7 @@ module _ (n room : ℕ) (executor : ExecutorState) (p : PartitionState) (sound :
       → HasStore n (owner_bytes space) → DoesPart executor.layout part.edition part.command (stored n (owner_bytes p.space))
       (stored n (owner_bytes space)) → IsUndoLog n space undo
       → undone (owner_bytes space) undo ≡ undone (owner_bytes p.space) p.undo → SameForChildren p.space space
-      → 1 ≤ room' → length p.kept < p.max_kept → may_run p.replays part.edition ≡ true
+      → 1 ≤ room' → length p.kept < p.max_kept → may_run (replays p) part.edition ≡ true
       → IsSound n room' executor' (record p { part = Some part; undo = undo; space = space })
   sound-parted room' executor' space undo part idle no_part has_part layout store does log bytes children some_room few may =
       let after : PartitionState = record p { part = Some part; undo = undo; space = space } in

@@ -140,7 +140,6 @@ module _ (n room : ℕ) (executor : ExecutorState) (p : PartitionState) (sound :
         bytes = writes.undoes.undone;
         rest = record {
           terms = refl;
-          drained = refl;
           part = refl;
           snapshots = refl;
           children = writes.children;
@@ -201,7 +200,6 @@ module _ (n room : ℕ) (executor : ExecutorState) (p : PartitionState) (sound :
                     (serial ++ entered_by job.edition job.command job.pass)) replied);
                 rest = record {
                   terms = refl;
-                  drained = refl;
                   part = refl;
                   snapshots = refl;
                   children = writes.children;
@@ -238,7 +236,6 @@ module _ (n room : ℕ) (executor : ExecutorState) (p : PartitionState) (sound :
           finished = ap Some is;
           rest = record {
             terms = refl;
-            drained = refl;
             part = refl;
             snapshots = refl;
             max_frames = gives_up.limit ∙ writes.limit;

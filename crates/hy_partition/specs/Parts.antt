@@ -26,11 +26,10 @@ use Rattle.hy_partition.specs.Steps.{KeepsNothing}
 abbrev pub rows_with_part : PartitionState → Edition → Command → Tables
 rows_with_part p edition command = part p.load.items p.warehouse edition command (rows_now p)
 
--- what no part changes: the load, the warehouse, the limits, what was drained, the job that runs, the answer that
--- wasn't taken, and every snapshot with its bytes
+-- what no part changes: the load, the warehouse, the limits, the job that runs, the answer that wasn't taken, and
+-- every snapshot with its bytes
 pub record KeepsBeside (old new : PartitionState) : Type 0 where
   pub terms : terms_of new ≡ terms_of old
-  pub drained : new.drained ≡ old.drained
   pub running : new.running ≡ old.running
   pub finished : new.finished ≡ old.finished
   pub snapshots : new.snapshots ≡ old.snapshots

@@ -207,11 +207,10 @@ underway job = record {
   stamp = length job.pass.seen;
 }
 
--- a world is that of a partition that replays no log, beside a journal with this serial list
+-- a world is that of a partition, beside a journal with this serial list
 pub record IsWorldOf (n : ℕ) (log : Log) (p : PartitionState) (world : World) : Type 0 where
   pub load : world.load ≡ p.load
   pub warehouse : world.warehouse ≡ p.warehouse
-  pub live : p.replays ≡ false
   pub log_is : world.log ≡ log
   pub kept : world.kept ≡ p.kept
   pub running : world.running ≡ option_map underway p.running

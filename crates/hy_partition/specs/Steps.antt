@@ -50,11 +50,9 @@ IsUnbegun p command why = (begin_refusal p command ≡ Some why)
 abbrev pub with_job : PartitionState → JobState → PartitionState
 with_job p job = record p { running = Some (begun job) }
 
--- what no job changes: the load, the warehouse, the limits, what was drained, the part of another command, and every
--- snapshot with its bytes
+-- what no job changes: the load, the warehouse, the limits, the part of another command, and every snapshot with its bytes
 pub record KeepsRest (old new : PartitionState) : Type 0 where
   pub terms : terms_of new ≡ terms_of old
-  pub drained : new.drained ≡ old.drained
   pub part : new.part ≡ old.part
   pub snapshots : new.snapshots ≡ old.snapshots
   pub children : SameForChildren old.space new.space
@@ -147,7 +145,6 @@ StepsTo job before after old new progress.Finished =
 pub record KeepsJob (old new : PartitionState) : Type 0 where
   pub terms : terms_of new ≡ terms_of old
   pub kept : new.kept ≡ old.kept
-  pub drained : new.drained ≡ old.drained
   pub book : new.book ≡ old.book
   pub running : new.running ≡ old.running
   pub part : new.part ≡ old.part
@@ -237,10 +234,9 @@ pub record Closes (old new : PartitionState) (child : ℕ) : Type 0 where
 
 -- a partition with the rows of one warehouse of a load, with nothing kept and no snapshot
 pub record Begins (lists : Lists) (number frames commits : ℕ) (p : PartitionState) : Type 0 where
-  pub terms : terms_of p ≡ record { load = lists; warehouse = number; max_kept = commits; replays = false }
+  pub terms : terms_of p ≡ record { load = lists; warehouse = number; max_kept = commits; replayed = p.replayed }
   pub seen : p.seen ≡ []
   pub kept : p.kept ≡ []
-  pub drained : p.drained ≡ 0
   pub book : p.book ≡ new_book number
   pub running : p.running ≡ None
   pub part : p.part ≡ None

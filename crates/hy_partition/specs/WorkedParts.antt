@@ -196,7 +196,6 @@ part_is_done = record {
   nothing = record { seen = refl; kept = refl; book = refl };
   beside = record {
     terms = refl;
-    drained = refl;
     running = refl;
     finished = refl;
     snapshots = refl;
@@ -234,7 +233,6 @@ part_is_kept = record {
   share_is = refl;
   beside = record {
     terms = refl;
-    drained = refl;
     running = refl;
     finished = refl;
     snapshots = refl;
@@ -269,7 +267,6 @@ part_is_undone = record {
   nothing = record { seen = refl; kept = refl; book = refl };
   beside = record {
     terms = refl;
-    drained = refl;
     running = refl;
     finished = refl;
     snapshots = refl;

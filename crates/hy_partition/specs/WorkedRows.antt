@@ -34,7 +34,7 @@ use Rattle.hy_ledger.specs.Books.{new_book}
 use Rattle.hy_passes.specs.Worlds.{PassState, new_client}
 use Rattle.hy_partition.specs.Accounts.{with_command}
 use Rattle.hy_partition.specs.Jobs.{RunningJob, begun, entered_by, is_last, refused_answer, share_of}
-use Rattle.hy_partition.specs.Partition.{PartitionState, is_new, may_run, outcome_now, rows_now, undrained}
+use Rattle.hy_partition.specs.Partition.{PartitionState, is_new, may_run, outcome_now, own_commits, replays, rows_now}
 use Rattle.hy_partition.specs.Headline.{Headline, SpellsBeginning}
 use Rattle.hy_partition.specs.Steps.{begin_refusal}
 
@@ -51,10 +51,9 @@ with_kept kept max_kept = record {
   load = record { items = items; tables = sample };
   warehouse = 1;
   max_kept = max_kept;
-  replays = false;
+  replayed = 0;
   seen = map (λ commit. record { commit = commit; stamp = 0 }) kept;
   kept = kept;
-  drained = 0;
   book = new_book 1;
   running = None;
   part = None;
@@ -115,18 +114,20 @@ by_which_it_replays = refl
 
 -- ---- what is kept and answered
 
--- of three commits of which one was drained two are left, and none while a log is replayed
+-- of three commits of which one comes from a log two don't; the log is replayed until that one is kept
 abbrev thrice : PartitionState
 thrice = record (with_kept
     (commits.Local editions.First pay ∷ commits.Local editions.Second pay ∷ commits.Cross editions.Second 1 pay ∷ []) 5) {
-      drained = 1;
+      replayed = 1;
     }
 
-undrained_of_thrice : undrained thrice ≡ commits.Local editions.Second pay ∷ commits.Cross editions.Second 1 pay ∷ []
-undrained_of_thrice = refl
+own_commits_of_thrice : own_commits thrice
+    ≡ commits.Local editions.Second pay ∷ commits.Cross editions.Second 1 pay ∷ []
+own_commits_of_thrice = refl
 
-undrained_while_replayed : undrained (record thrice { replays = true }) ≡ []
-undrained_while_replayed = refl
+replays_until_kept : map (λ kept. replays (record thrice { kept = kept }))
+    ([] ∷ (commits.Local editions.First pay ∷ []) ∷ thrice.kept ∷ []) ≡ true ∷ false ∷ false ∷ []
+replays_until_kept = refl
 
 new_of_thrice : map is_new thrice.kept ≡ false ∷ true ∷ true ∷ []
 new_of_thrice = refl
@@ -254,10 +255,9 @@ small = record {
   load = record { items = []; tables = record no_rows { warehouses = before ∷ [] } };
   warehouse = 1;
   max_kept = 5;
-  replays = false;
+  replayed = 0;
   seen = [];
   kept = [];
-  drained = 0;
   book = new_book 1;
   running = Some (job half_paid 1);
   part = None;

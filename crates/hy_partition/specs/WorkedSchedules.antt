@@ -203,7 +203,6 @@ small_is : IsWorldOf 64 [] small small_world
 small_is = record {
   load = refl;
   warehouse = refl;
-  live = refl;
   log_is = refl;
   kept = refl;
   running = refl;

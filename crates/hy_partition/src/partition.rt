@@ -3,7 +3,7 @@
 ghost use Rattle.std.specs.Prelude.{◌≡◌, ◌≢◌, ℕ, ◌+◌, ◌++◌, ◌∷◌, ◌<◌, ◌≤◌, ◌==◌, not, filter, true, false, vec_capacity, slice_index_or, ◌↔◌, ◌⊎◌, IsTrue, IsSome, IsSomeAnd, IfSome, List, [], length, take, Option, Some, None, Ok, Err, IfOk, IfErr, IsOk, IsOkAnd, OnOk, OnErr, MatchOption, MatchResult};
 ghost use Rattle.std.specs.List.{list_all};
 ghost use mathlib.Core.List.{IsPrefix};
-ghost use Rattle.hy_worlds.specs.Origins.{desk_of};
+ghost use Rattle.hy_worlds.specs.Origins.{desk_of, replayed_of};
 ghost use Rattle.hy_rows.specs.Spelling.{Spells};
 ghost use Rattle.hy_ledger.specs.Books.{with_book};
 ghost use Rattle.hy_frames.specs.FrameTable.{free_of, shared_of, IsLimitFor, IsPageSize, max_frames as most_frames};
@@ -21,7 +21,7 @@ ghost use Rattle.hy_writers.specs.Waiting.{IsSoundStore};
 ghost use Rattle.hy_space.specs.Space.{SameForChildren, owner_bytes};
 ghost use Rattle.hy_partition.specs.Accounts.{IsBookOf};
 ghost use Rattle.hy_partition.specs.Headline.{Headline};
-ghost use Rattle.hy_partition.specs.Partition.{PartitionState, is_new, layout_of, may_run, projection_of, rows_now, undrained};
+ghost use Rattle.hy_partition.specs.Partition.{PartitionState, is_new, layout_of, may_be_kept, may_run, own_commits, projection_of, replays, rows_now};
 ghost use Rattle.hy_partition.specs.Limits.{IsWhyUnmade, most_kept};
 ghost use Rattle.hy_partition.specs.inside.Soundness.{IsLaid};
 ghost use Rattle.hy_partition.specs.inside.Room.{IsUndone, LacksRoom, room_refusal};
@@ -58,8 +58,7 @@ pub struct Partition<const N: usize, K: Loaded> {
     desk: Desk<K>,
     book: Book<K>,
     max_kept: u64,
-    replays: bool,
-    drained: usize,
+    replayed: u64,
     running: Option<Running<K>>,
     part: Option<Part>,
     undo: Undo<N>,
@@ -79,7 +78,7 @@ impl<const N: usize, K: Loaded> Model for Partition<N, K> {
 
     ghost view = { partition_of };
 
-    ghost invariant = { λ p. IsSound N p.kept.room p.executor (partition_of p) × IsTied K.load p.kept p.desk (partition_of p) };
+    ghost invariant = { λ p. IsSound N p.kept.room p.executor (partition_of p) × IsTied K.load K.passes p.kept p.desk (partition_of p) };
 }
 
 impl<const N: usize, K: Loaded> Partition<N, K> {
@@ -110,14 +109,14 @@ impl<const N: usize, K: Loaded> Partition<N, K> {
         match rows_on_pages(alloc, load, warehouse, max_frames) {
             Ok((executor, space, undo)) => {
                 let (list, desk, book) = seat.part();
+                let replayed = list.replayed();
                 Ok(Partition {
                     executor,
                     kept: KeptList::new(alloc, list),
                     desk,
                     book,
                     max_kept,
-                    replays: false,
-                    drained: 0,
+                    replayed,
                     running: None,
                     part: None,
                     undo,
@@ -137,21 +136,22 @@ impl<const N: usize, K: Loaded> Partition<N, K> {
         self.space.sound();
     }
 
-    /// That the load is a load, and the one that the world names, and the warehouse one of the kit; that no more was
-    /// drained than is kept, and no more is kept than may be; that what isn't drained is of the second edition; and that the
-    /// book has what was taken in.
+    /// That the load is a load, and the one that the world names, and the warehouse one of the kit; that as many commits
+    /// come from a log as the kit says, the others are of the second edition, all are such as may be kept, and no more are
+    /// kept than may be; and that the book has what was taken in.
     pub fn ties(&self)
         ensures load { self.now.load ≡ K.load }
         ensures sound { IsLoad self.now.load }
         ensures range { (1 ≤ self.now.warehouse) × (self.now.warehouse ≤ K.passes.partitions) }
-        ensures drained { self.now.drained ≤ length self.now.kept }
-        ensures new { list_all is_new (undrained self.now) ≡ true }
+        ensures replayed { self.now.replayed ≡ replayed_of K.passes self.now.warehouse }
+        ensures new { list_all is_new (own_commits self.now) ≡ true }
+        ensures known { list_all (may_be_kept self.now.load self.now.warehouse) self.now.kept ≡ true }
         ensures few { length self.now.kept ≤ self.now.max_kept }
         ensures limit { self.now.max_kept ≤ most_kept }
         ensures book { IsBookOf self.now.load self.now.warehouse self.now.kept self.now.book }
     {
         let _number = self.kept.warehouse();
-        let _drained = self.drained;
+        let _replayed = self.replayed;
     }
 
     /// Begins a job, and makes room for its commit, if it will have one. A job of the first edition begins only while a log
@@ -159,7 +159,7 @@ impl<const N: usize, K: Loaded> Partition<N, K> {
     /// runs, the part of a command over several warehouses is done, or an answer wasn't taken; E8, E4, E5, E6 of the
     /// command; E3 where the command doesn't only read and as many commits are kept as may be; E1.
     pub fn begin(&mut self, job: Job<K>) -> Result<(), (Job<K>, Refusal)>
-        requires edition { may_run self.old.replays job.edition ≡ true }
+        requires edition { may_run (replays self.old) job.edition ≡ true }
         ensures begun { OnOk result (self.new ≡ with_job self.old job) }
         ensures accepted { OnOk result (begin_refusal self.old job.command ≡ None) }
         ensures refused { IfErr result (λ refused. IsUnbegun self.old job.command refused.1) }
@@ -426,7 +426,7 @@ impl<const N: usize, K: Loaded> Partition<N, K> {
         requires idle { (self.old.running ≡ None) × (self.old.part ≡ None) }
         requires has_part { HasPart (layout_of self.old) command }
         requires few { length self.old.kept < self.old.max_kept }
-        requires edition { may_run self.old.replays edition ≡ true }
+        requires edition { may_run (replays self.old) edition ≡ true }
         ensures done { IfOk result (DoesPart edition command self.old self.new) }
         ensures pages { OnOk result (Spells N (owner_bytes self.new.space) (rows_with_part self.old edition command)) }
         ensures undone { OnErr result (HasNoPart self.old self.new) }
@@ -518,41 +518,6 @@ impl<const N: usize, K: Loaded> Partition<N, K> {
         ensures { result.now ≡ self.now.kept }
     {
         self.kept.list()
-    }
-
-    /// The commits since the last drain, in order. There are none while a log is replayed.
-    pub fn undrained(&self) -> &[Commit]
-        ensures { result.now ≡ undrained self.now }
-    {
-        if self.replays {
-            return &[];
-        }
-        &self.kept.list()[self.drained..]
-    }
-
-    /// Notes that all commits were drained. Takes no memory.
-    pub fn mark_drained(&mut self)
-        ensures { self.new ≡ record self.old { drained = length self.old.kept } }
-    {
-        self.drained = self.kept.list().len();
-    }
-
-    /// Begins the replay of a log, whose commits may be of the first edition. They come from the log, so that none of them is
-    /// drained into one again.
-    pub fn begin_replay(&mut self)
-        requires { self.old.kept ≡ [] }
-        ensures { self.new ≡ record self.old { replays = true } }
-    {
-        self.replays = true;
-    }
-
-    /// Ends it: all commits count as drained, and new ones are of the second edition.
-    pub fn end_replay(&mut self)
-        requires { (self.old.running ≡ None) × (self.old.part ≡ None) }
-        ensures { self.new ≡ record self.old { drained = length self.old.kept; replays = false } }
-    {
-        self.mark_drained();
-        self.replays = false;
     }
 
     /// The accounts: the commits of this warehouse, and the cents that it took in since the load.

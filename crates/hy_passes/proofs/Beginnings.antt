@@ -1,6 +1,7 @@
 -- Beginnings of one list.
-use Rattle.std.proofs.Common.{◌≤◌, List, [], ◌++◌, length, ap, sym, ◌∙◌, arith, append_assoc, append-nil, length-append}
+use Rattle.std.proofs.Common.{◌≤◌, ℕ, List, [], ◌++◌, drop, length, take, ap, sym, ◌∙◌, arith, append_assoc, append-nil, length-append}
 use mathlib.Core.List.{IsPrefix}
+use Rattle.std.proofs.lemmas.List.{take-append-drop}
 
 module _ {A : Type 0} where
   pub begins_itself : (xs : List A) → IsPrefix xs xs
@@ -14,3 +15,6 @@ module _ {A : Type 0} where
 
   pub begins_shorter : (xs ys : List A) → IsPrefix xs ys → length xs ≤ length ys
   begins_shorter xs ys p = omega (arith, sym (ap length p.1) ∙ length-append xs p.0)
+
+  pub begins_taken : (n : ℕ) (xs : List A) → IsPrefix (take n xs) xs
+  begins_taken n xs = (drop n xs, take-append-drop n xs)

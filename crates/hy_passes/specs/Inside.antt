@@ -1,7 +1,7 @@
--- What always holds inside the journal.
+-- What always holds inside the journal and a cursor.
 use Rattle.std.specs.Prelude.{◌≡◌, ℕ, ◌+◌, ◌<◌, ◌≤◌, List, length, slice_index, Option}
 use Rattle.atomic_table.specs.Seated.{TableId}
-use Rattle.hy_worlds.specs.Origins.{Origin}
+use Rattle.hy_worlds.specs.Origins.{Origin, replayed_of}
 use Rattle.hy_passes.specs.declared.entry.Entry.{Entry}
 use Rattle.hy_passes.specs.SerialList.{kept_of, max_commits, max_partitions, numbers_of, IsSerial}
 
@@ -16,3 +16,9 @@ pub record IsCounted {C : Type 0} (warehouses : C → List ℕ) (number : C → 
   pub counted : (k : ℕ) → k < length counts → slice_index counts k ≡ length (kept_of warehouses (k + 1) log)
   pub room : (k : ℕ) → k < length counts → slice_index counts k ≤ max_commits
   pub serial : IsSerial warehouses number origin.partitions log
+
+-- what stands before the place of a cursor is counted, and has all that comes from a log
+pub record IsPassed {C : Type 0} (warehouses : C → List ℕ) (origin : Origin) (log : List (Entry C)) (counts : List ℕ) : Type 0 where
+  pub places : length counts ≡ origin.partitions
+  pub counted : (k : ℕ) → k < length counts → slice_index counts k ≡ length (kept_of warehouses (k + 1) log)
+  pub replayed : (k : ℕ) → k < length counts → replayed_of origin (k + 1) ≤ slice_index counts k

@@ -82,6 +82,15 @@ impl<C: Commits, K: World> SerialList<C, K> {
         self.counts[warehouse as usize - 1]
     }
 
+    /// How many commits name each warehouse, that of warehouse 1 first.
+    pub(crate) fn counts(&self) -> &[u64]
+        ensures places { length result.now ≡ K.passes.partitions }
+        ensures counted { (k : ℕ) → k < length result.now
+            → slice_index result.now k ≡ length (kept_of C.warehouses (k + 1) self.now.log) }
+    {
+        self.counts.as_slice()
+    }
+
     /// The number of the next commit that names several warehouses, from 1.
     pub fn next_crossing(&self) -> u64
         ensures { result ≡ length (numbers_of C.warehouses C.number self.now.log) + 1 }

@@ -2,6 +2,7 @@
 
 ghost use Rattle.std.specs.Prelude.{◌≡◌, ℕ, suc, ◌+◌, ◌-◌, ◌≤◌, ◌<◌, ◌==◌, [], ◌∷◌, ◌++◌, filter, length, not, None, OnOk};
 ghost use mathlib.Core.List.{IsPrefix};
+ghost use Rattle.hy_worlds.specs.Origins.{replayed_of};
 ghost use Rattle.hy_passes.specs.SerialList.{kept_of, max_commits};
 
 use crate::entry::{Commits, Entry};
@@ -50,6 +51,13 @@ impl<C: Commits, K: World> KeptList<C, K> {
         ensures range { (1 ≤ result) × (result ≤ K.passes.partitions) }
     {
         self.seat.warehouse()
+    }
+
+    /// How many commits of the warehouse come from a log.
+    pub fn replayed(&self) -> u64
+        ensures { result ≡ replayed_of K.passes self.now.warehouse }
+    {
+        self.seat.replayed()
     }
 
     /// The commits, in their order.

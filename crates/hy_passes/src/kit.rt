@@ -1,6 +1,6 @@
 //! How passes, the journal and the seats are made.
 
-ghost use Rattle.std.specs.Prelude.{◌≡◌, ℕ, ◌+◌, ◌≤◌, [], map, length, IfOk, vec_len};
+ghost use Rattle.std.specs.Prelude.{◌≡◌, ℕ, ◌+◌, ◌-◌, ◌≤◌, [], map, length, IfOk, slice_index_or, vec_len};
 ghost use Rattle.std.specs.List.{range_with_len};
 ghost use Rattle.hy_passes.specs.SerialList.{max_clients, max_partitions};
 ghost use Rattle.hy_passes.specs.Law.{beginner};
@@ -38,6 +38,7 @@ pub struct Kit<C: Commits> {
     name: u64,
     partitions: u8,
     clients: u32,
+    replayed: Vec<u64>,
 }
 
 impl<C: Commits> Model for Kit<C> {
@@ -55,13 +56,14 @@ impl<C: Commits> Model for Kit<C> {
       name = k.name;
       partitions = k.partitions;
       clients = k.clients;
+      replayed = k.replayed.items;
     } };
 
     ghost invariant = { λ k. (k.table.shared.table_id.words ≡ 1) × (k.seat.table_id ≡ k.table.shared.table_id) × (k.seat.id ≡ 0) × (k.seat.me ≡ (beginner, [])) × (length k.desks.items ≡ k.partitions) × (k.partitions ≤ max_partitions) × (k.clients ≤ max_clients) };
 }
 
 /// Makes the shared word for the partitions of warehouses 1, 2, 3 and so on, and for clients that are numbered from 0.
-/// The name is the caller's choice.
+/// The name is the caller's choice. No commit comes from a log.
 pub fn make<C: Commits>(
     alloc: Global,
     partitions: u8,
@@ -70,7 +72,8 @@ pub fn make<C: Commits>(
 ) -> Result<Kit<C>, AllocError>
     requires partitions { (1 ≤ partitions) × (partitions ≤ max_partitions) }
     requires clients { (1 ≤ clients) × (clients ≤ max_clients) }
-    ensures { IfOk result (λ k. (k.partitions ≡ partitions) × (k.clients ≡ clients) × (k.name ≡ name)) }
+    ensures made { IfOk result (λ k. (k.partitions ≡ partitions) × (k.clients ≡ clients) × (k.name ≡ name)) }
+    ensures new { IfOk result (λ k. k.replayed ≡ []) }
 {
     let desks = blank_desks(alloc, partitions)?;
     let accounts = Accounts::new(alloc)?;
@@ -84,6 +87,7 @@ pub fn make<C: Commits>(
         name,
         partitions,
         clients,
+        replayed: Vec::new(alloc),
     })
 }
 
@@ -99,6 +103,17 @@ fn blank_desks(alloc: Global, partitions: u8) -> Result<Vec<Blank>, AllocError>
     Ok(desks)
 }
 
+// How many commits of a warehouse come from a log.
+fn replayed_at(replayed: &[u64], warehouse: u8) -> u64
+    requires { 1 ≤ warehouse }
+    ensures { result ≡ slice_index_or replayed.now (warehouse - 1) 0 }
+{
+    match replayed.get(usize::from(warehouse) - 1) {
+        Some(count) => *count,
+        None => 0,
+    }
+}
+
 // The seats of the partitions of warehouses 1 to the last.
 fn deal_seats<C: Commits, K: World>(
     alloc: Global,
@@ -107,12 +122,14 @@ fn deal_seats<C: Commits, K: World>(
     journal: &mut Seat<Entry<C>, View<C>>,
     mut desks: Vec<Blank>,
     partitions: u8,
+    replayed: &[u64],
 ) -> Result<Vec<PartitionSeat<C, K>>, AllocError>
     requires journal { (journal.old.table_id ≡ K.passes.word) × (journal.old.id ≡ 0) }
     requires ledger { ledger.old ≡ 0 }
     requires desks { desks.items ≡ K.passes.desks }
     requires count { length desks.items ≡ partitions }
     requires partitions { partitions ≡ K.passes.partitions }
+    requires replayed { replayed.now ≡ K.passes.replayed }
     requires new { journal.old.me.0 ≡ beginner }
     ensures place { (journal.new.table_id ≡ journal.old.table_id) × (journal.new.id ≡ journal.old.id) }
     ensures journal { (journal.new.me.0.mine.seen ≡ []) × (journal.new.me.0.behind ≡ []) }
@@ -120,7 +137,8 @@ fn deal_seats<C: Commits, K: World>(
 {
     let mut seats = Vec::with_capacity(alloc, partitions as usize)?;
     for before in 0..partitions {
-        let list = passes.deal(journal, before + 1);
+        let count = replayed_at(replayed, before + 1);
+        let list = passes.deal(journal, before + 1, count);
         let desk = desks.take_last().open(before + 1, passes.name());
         let book = ledger.deal(before + 1)?;
         seats.push_reserved(PartitionSeat { list, desk, book });
@@ -149,6 +167,34 @@ fn admit_clients<C: Commits, K: World>(
 }
 
 impl<C: Commits> Kit<C> {
+    /// The kit of a database that is recovered from a log, which has so many commits of the warehouses 1, 2, 3 and so on.
+    pub fn replaying(self, replayed: Vec<u64>) -> Kit<C>
+        ensures { result ≡ record self { replayed = replayed.items } }
+    {
+        let Kit {
+            alloc,
+            table,
+            seat,
+            accounts,
+            desks,
+            name,
+            partitions,
+            clients,
+            replayed: _,
+        } = self;
+        Kit {
+            alloc,
+            table,
+            seat,
+            accounts,
+            desks,
+            name,
+            partitions,
+            clients,
+            replayed,
+        }
+    }
+
     /// Opens the kit in the world that names it: the word that all threads share, the journal, the seats of the
     /// partitions of warehouses 1, 2, 3 and so on, and the passes of the clients from 0. E1.
     pub fn open<K: World>(
@@ -176,6 +222,7 @@ impl<C: Commits> Kit<C> {
             name,
             partitions,
             clients,
+            replayed,
         } = self;
         let mut ledger = accounts.open();
         let passes = Passes {
@@ -183,7 +230,15 @@ impl<C: Commits> Kit<C> {
             name,
             purses: ledger.purses()?,
         };
-        let seats = deal_seats(alloc, &passes, &mut ledger, &mut seat, desks, partitions)?;
+        let seats = deal_seats(
+            alloc,
+            &passes,
+            &mut ledger,
+            &mut seat,
+            desks,
+            partitions,
+            &replayed,
+        )?;
         let clients = admit_clients(alloc, &passes, &mut seat, clients)?;
         let counts = Vec::from_elem(alloc, 0u64, partitions as usize)?;
         let passes = Arc::new(alloc, passes)?;

@@ -1,6 +1,7 @@
 //! The one serial list of commits, and what each client has seen of it.
 #![tactic(auto)]
 
+mod cursor;
 mod entry;
 mod journal;
 mod kept;
@@ -12,6 +13,7 @@ mod passes;
 mod seat;
 mod view;
 
+pub use cursor::Cursor;
 pub use entry::{Commits, Entry};
 pub use journal::{Journal, MAX_COMMITS, SerialList};
 pub use kept::KeptList;

@@ -2,6 +2,7 @@
 
 ghost use Rattle.std.specs.Prelude.{suc, ◌≡◌, ℕ, ◌+◌, ◌≤◌, ◌<◌, ◌^◌, [], ◌∷◌, length, true, Some, IfOk};
 ghost use mathlib.Core.List.{IsPrefix};
+ghost use Rattle.hy_worlds.specs.Origins.{replayed_of};
 ghost use Rattle.hy_passes.specs.SerialList.{kept_of};
 ghost use Rattle.hy_passes.specs.Law.{after_dealing, after_leaving, appended, boarded, is_told, leaving, Looks};
 ghost use Rattle.hy_passes.specs.Worlds.{new_client, new_partition};
@@ -88,10 +89,12 @@ impl<C: Commits, K: World> Passes<C, K> {
         &self,
         journal: &mut Seat<Entry<C>, View<C>>,
         warehouse: u8,
+        replayed: u64,
     ) -> SerialSeat<C, K>
         requires journal { (journal.old.table_id ≡ K.passes.word) × (journal.old.id ≡ 0) }
         requires next { warehouse ≡ suc journal.old.me.0.dealt }
         requires range { warehouse ≤ K.passes.partitions }
+        requires replayed { replayed ≡ replayed_of K.passes warehouse }
         requires empty { journal.old.me.0.mine.seen ≡ [] }
         ensures place { (journal.new.table_id ≡ journal.old.table_id) × (journal.new.id ≡ journal.old.id) }
         ensures journal { journal.new.me.0 ≡ after_dealing journal.old.me.0 }
@@ -102,6 +105,7 @@ impl<C: Commits, K: World> Passes<C, K> {
             seat,
             warehouse,
             commits: 0,
+            replayed,
             name: self.name,
             of: PhantomData,
         }

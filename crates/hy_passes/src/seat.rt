@@ -1,6 +1,7 @@
 //! What a partition has been told.
 
 ghost use Rattle.std.specs.Prelude.{◌≡◌, ℕ, ◌≤◌, [], length};
+ghost use Rattle.hy_worlds.specs.Origins.{replayed_of};
 ghost use Rattle.hy_ledger.specs.Books.{new_book};
 ghost use Rattle.hy_passes.specs.SerialList.{kept_of};
 
@@ -18,12 +19,14 @@ pub struct SerialSeat<C: Commits, K: World> {
     pub(crate) seat: Seat<Entry<C>, View<C>>,
     pub(crate) warehouse: u8,
     pub(crate) commits: u64,
+    pub(crate) replayed: u64,
     pub(crate) name: u64,
     pub(crate) of: PhantomData<K>,
 }
 
 impl<C: Commits, K: World> Model for SerialSeat<C, K> {
     ghost use Rattle.std.specs.Prelude.{◌≡◌, ◌≤◌, [], length, Some};
+    ghost use Rattle.hy_worlds.specs.Origins.{replayed_of};
     ghost use Rattle.hy_passes.specs.SerialList.{kept_of};
     ghost use Rattle.hy_passes.specs.Worlds.{SeatState};
 
@@ -31,7 +34,7 @@ impl<C: Commits, K: World> Model for SerialSeat<C, K> {
 
     ghost view = { λ s. record { warehouse = s.warehouse; seen = s.seat.me.0.mine.seen } };
 
-    ghost invariant = { λ s. (s.seat.table_id ≡ K.passes.word) × (s.seat.me.1 ≡ []) × (s.seat.me.0.mine.serves ≡ Some s.warehouse) × (1 ≤ s.warehouse) × (s.warehouse ≤ K.passes.partitions) × (s.commits ≡ length (kept_of C.warehouses s.warehouse s.seat.me.0.mine.seen)) × (s.name ≡ K.passes.name) };
+    ghost invariant = { λ s. (s.seat.table_id ≡ K.passes.word) × (s.seat.me.1 ≡ []) × (s.seat.me.0.mine.serves ≡ Some s.warehouse) × (1 ≤ s.warehouse) × (s.warehouse ≤ K.passes.partitions) × (s.commits ≡ length (kept_of C.warehouses s.warehouse s.seat.me.0.mine.seen)) × (s.name ≡ K.passes.name) × (s.replayed ≡ replayed_of K.passes s.warehouse) };
 }
 
 impl<C: Commits, K: World> SerialSeat<C, K> {
@@ -48,6 +51,13 @@ impl<C: Commits, K: World> SerialSeat<C, K> {
         ensures { result ≡ length (kept_of C.warehouses self.now.warehouse self.now.seen) }
     {
         self.commits
+    }
+
+    /// How many commits of the warehouse come from a log.
+    pub fn replayed(&self) -> u64
+        ensures { result ≡ replayed_of K.passes self.now.warehouse }
+    {
+        self.replayed
     }
 
     /// The kit's name.

@@ -1,16 +1,21 @@
--- Why `storm` isn't done.
-use Rattle.std.proofs.Common.{◌≡◌, ℕ, List, Option, None, Result, Ok, Err, IfErr, inl, inr, subst, sym}
+-- What `storm` has done, and why it isn't done.
+use Rattle.std.proofs.Common.{◌≡◌, ◌∙◌, ℕ, List, Option, None, Some, Result, Ok, Err, IfErr, IfOk, ap, inl, inr, subst, sym}
+use Rattle.std.specs.Io.KnownBytes.{Appends}
 use Rattle.hy_rows.specs.Tables.{Lists}
 use Rattle.hy_files.specs.declared.directory.FileFault.{FileFault}
 use Rattle.hy_files.specs.declared.directory.FileFault.TheVariants as files
-use Rattle.hy_files.specs.Files.{FilesByPath, KnownPaths}
+use Rattle.hy_files.specs.Files.{FilesByPath, HasFile, KnownPaths}
 use Rattle.hy_files.specs.Loads.{IsReadFault}
 use Rattle.hy_rows.specs.declared.catalogue.Table.{Table}
+use Rattle.hy_redo.specs.Calls.{LogState}
+use Rattle.hy_redo.specs.Writers.{Told}
+use Rattle.hy_storm.specs.declared.ending.Figures.{Figures}
+use Rattle.hy_storm.specs.Storms.{AreLogged}
 use Rattle.hy_program.specs.declared.fault.RunFault.{RunFault}
 use Rattle.hy_program.specs.declared.fault.RunFault.TheVariants as fault
 use Rattle.hy_program.specs.Check.{HasLoad}
 use Rattle.hy_program.specs.Faults.{IsAboutFiles}
-use Rattle.hy_program.specs.Storm.{IsNoStorm, IsStormFault}
+use Rattle.hy_program.specs.Storm.{IsNoStorm, IsStormDone, IsStormFault, IsStormKept, storm_text}
 
 module _ (directory : List ℕ) (log : Option (List ℕ)) (known : Option FilesByPath) (unwritten : KnownPaths × KnownPaths)
     (old new : Option (List ℕ)) (Unprinted : Type 0) where
@@ -55,3 +60,42 @@ pub unlogged : {X : Type 0} (log : Option (List ℕ)) (unwritten : KnownPaths ×
     → IfErr result (IsNoStorm log unwritten)
 unlogged log unwritten (Ok done) none is = tt
 unlogged log unwritten (Err why) none is = subst (λ (it : Option (List ℕ)). IsNoStorm it unwritten why) (sym is) (none unwritten)
+
+-- ---- what a storm has kept
+
+-- the file of a log that came back
+pub stored : (lists : Lists) (figures : Figures) (log : LogState) (told : Told) (files : Option FilesByPath) (path : List ℕ)
+    → AreLogged lists figures (Some log) → told ≡ log.told → HasFile files path told.written
+    → IsStormKept lists (Some path) files figures
+stored lists figures log told files path logged is has = (
+  logged.0,
+  logged.1,
+  λ nothing.
+      let all = logged.2 nothing in (
+        all.0,
+        all.1,
+        subst (λ (bytes : List ℕ). HasFile files path bytes) (ap (λ (it : Told). it.written) is ∙ all.2.written) has,
+      ),
+)
+
+-- where no log is named, its file may be any
+pub kept-unlogged : (lists : Lists) (log : Option (List ℕ)) (files : Option FilesByPath) (result : Result Figures RunFault)
+    → IfOk result (IsStormKept lists None None) → log ≡ None → IfOk result (IsStormKept lists log files)
+kept-unlogged lists log files (Ok figures) kept is =
+    subst (λ (it : Option (List ℕ)). IsStormKept lists it files figures) (sym is) (kept.0, kept.1, λ nothing. tt)
+kept-unlogged lists log files (Err why) kept is = tt
+
+-- a storm that was printed, with no refusal
+pub storm-done : (directory : List ℕ) (log : Option (List ℕ)) (before after : Option FilesByPath) (old new : Option (List ℕ))
+    (lists : Lists) (figures : Figures) → HasLoad before directory lists → IsStormKept lists log after figures
+    → figures.refusal ≡ None → Appends old new (storm_text figures) → IsStormDone directory log before after old new
+storm-done directory log before after old new lists figures load kept nothing printed = record {
+  lists = lists;
+  load = load;
+  figures = figures;
+  serial = kept.0;
+  are = kept.1;
+  refusal = nothing;
+  file = kept.2 nothing;
+  printed = printed;
+}

@@ -54,7 +54,7 @@ IsDone (line.Script directory file frames kept) files bytes =
     IsScriptDone directory.now file.now (limits_of frames kept) files.0 bytes.0 bytes.1
 IsDone (line.Query directory text) files bytes = IsQueryDone directory.now text.now files.0 bytes.0 bytes.1
 IsDone (line.Storm directory terminals sessions commands log) files bytes =
-    IsStormDone directory.now files.0 bytes.0 bytes.1
+    IsStormDone directory.now (option_copied log) files.0 files.1 bytes.0 bytes.1
 IsDone (line.Recover directory log out) files bytes =
     IsRecoverDone directory.now log.now (option_copied out) files bytes
 

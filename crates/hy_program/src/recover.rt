@@ -7,6 +7,7 @@ ghost use Rattle.hy_loads.specs.Checks.{IsRefusalOf};
 ghost use Rattle.hy_tables.specs.Files.{texts_of};
 ghost use Rattle.hy_files.specs.Directory.{AreFiles, KeepsOtherFiles, tables as tables_in_order};
 ghost use Rattle.hy_files.specs.Files.{AddsPath};
+ghost use Rattle.hy_recovery.specs.Recovering.{Counts};
 ghost use Rattle.hy_program.specs.Faults.{IsBlamedRightly};
 ghost use Rattle.hy_program.specs.Recover.{IsBehind, IsRecoverDone, IsRecoverFault, IsReplayed, IsSaveFault, IsSaved, IsUnsaved, IsWhyLost, IsWhyUnreplayed, KeepsFolder, Makes, batches_text, recovered_text, with_rows};
 
@@ -21,8 +22,8 @@ use hy_forks::fork_all;
 use hy_loads::Load;
 use hy_output::Output;
 use hy_partition::Loaded;
-use hy_passes::{Kit, make};
-use hy_recovery::{check_batches, recover};
+use hy_passes::Kit;
+use hy_recovery::{check_batches, kit_for, recover};
 use hy_rows::{Lists, Tables};
 use hy_schema::Refusal;
 use hy_session::Session;
@@ -92,9 +93,7 @@ fn recovered_from(alloc: Global, load: &Load, bytes: &[u8]) -> Result<Recovered,
     ensures refused { IfErr result (IsWhyLost load.now bytes.now) }
 {
     let batches = read_log(alloc, bytes)?;
-    load.sound();
-    let count = load.tables().warehouses.len();
-    let Ok(kit) = make::<Commit>(alloc, count as u8, 1, KIT) else {
+    let Ok(kit) = kit_for(alloc, load, &batches, 1, KIT) else {
         return Err(shortage_on(alloc, load, &batches));
     };
     let tables = tables_behind::<Brand>(alloc, load, kit, &batches)?;
@@ -115,6 +114,7 @@ fn tables_behind<K: Loaded>(
     requires load { load.now ≡ K.load }
     requires partitions { kit.partitions ≡ length load.now.tables.warehouses }
     requires clients { kit.clients ≡ 1 }
+    requires counts { Counts kit load.now batches.now }
     ensures rows { IfOk result (IsReplayed load.now batches.now) }
     ensures refused { IfErr result (IsWhyUnreplayed load.now batches.now) }
 {

@@ -1,11 +1,10 @@
 //! The command `storm`: terminals and sessions on the database in the files of a folder.
 
-ghost use Rattle.std.specs.Prelude.{◌≡◌, ◌≤◌, Bool, IfErr, IfOk, None, OnOk, Some, string_bytes};
+ghost use Rattle.std.specs.Prelude.{◌≡◌, ◌≤◌, [], Bool, IfErr, IfOk, None, OnOk, Some, string_bytes};
 ghost use Rattle.std.specs.Option.{option_copied};
 ghost use Rattle.hy_files.specs.Files.{KeepsOthers, KnownPaths};
-ghost use Rattle.hy_storm.specs.Storms.{AreFigures};
 ghost use Rattle.hy_program.specs.Faults.{IsBlamedRightly};
-ghost use Rattle.hy_program.specs.Storm.{IsNoStorm, IsStormDone, IsStormFault, IsWhyUnwritten, KeepsAllBut, rounds_text, storm_text, sums_text};
+ghost use Rattle.hy_program.specs.Storm.{IsNoStorm, IsStormDone, IsStormFault, IsStormKept, IsWhyUnwritten, KeepsAllBut, rounds_text, storm_text, sums_text};
 
 use crate::fault::RunFault;
 use hy_files::{FileSystem, MemoryLog, new_log, read_load};
@@ -13,14 +12,16 @@ use hy_loads::Load;
 use hy_output::Output;
 use hy_redo::Log;
 use hy_schema::Refusal;
-use hy_storm::{Figures, Logged, Open, Size, storm};
+use hy_storm::{Figures, Open, Size, storm};
 use std::alloc::{AllocError, Global};
 use std::io;
-use std::sync::{Mutex, Wait};
+use std::sync::Wait;
 use std::thread::Threads;
 
 /// Runs a storm on the load in the files of a folder, and writes what it came to; with a log in a new file, where one is
 /// named. Where a thread ended early or the log's writer failed, this is written too, and then the refusal ends the command.
+/// Else the file has whole batches, which joined are what each warehouse has kept of the serial list whose figures were
+/// written.
 pub fn run_storm<'a, F: FileSystem, O: Output, R: Threads + Wait + Sync>(
     rt: &R,
     alloc: Global,
@@ -35,8 +36,8 @@ pub fn run_storm<'a, F: FileSystem, O: Output, R: Threads + Wait + Sync>(
     requires commands { size.commands ≤ 100000 }
     ensures files { KeepsAllBut (option_copied log.entry) (F.files system.old) (F.files system.new) }
     ensures folders { F.folders system.new ≡ F.folders system.old }
-    ensures done { OnOk result (IsStormDone directory.entry.now (F.files system.old)
-        (O.contents out.old) (O.contents out.new)) }
+    ensures done { OnOk result (IsStormDone directory.entry.now (option_copied log.entry) (F.files system.old)
+        (F.files system.new) (O.contents out.old) (O.contents out.new)) }
     ensures fault { IfErr result (IsStormFault directory.entry.now (option_copied log.entry) (F.files system.old)
         (F.unwritten system.old, F.unwritten system.new) (O.contents out.old) (O.contents out.new)
         (out.new ≡ out.old)) }
@@ -67,7 +68,7 @@ fn run_on<'a, F: FileSystem, R: Threads + Wait + Sync>(
     requires terminals { (1 ≤ size.terminals) × (size.terminals ≤ 64) }
     requires sessions { size.sessions ≤ 16 }
     requires commands { size.commands ≤ 100000 }
-    ensures figures { IfOk result (AreFigures load.now) }
+    ensures kept { IfOk result (IsStormKept load.now (option_copied log.entry) (F.files system.new)) }
     ensures files { KeepsAllBut (option_copied log.entry) (F.files system.old) (F.files system.new) }
     ensures folders { F.folders system.new ≡ F.folders system.old }
     ensures fault { IfErr result
@@ -90,12 +91,12 @@ fn run_unlogged<'a, R: Threads + Wait + Sync>(
     requires terminals { (1 ≤ size.terminals) × (size.terminals ≤ 64) }
     requires sessions { size.sessions ≤ 16 }
     requires commands { size.commands ≤ 100000 }
-    ensures figures { IfOk result (AreFigures load.now) }
+    ensures kept { IfOk result (IsStormKept load.now None None) }
     ensures fault { IfErr result (λ why. (unwritten : KnownPaths × KnownPaths) → IsNoStorm None unwritten why) }
     ensures unblamed { IfErr result (λ why. (has_failed : Bool) → IsBlamedRightly has_failed why) }
 {
-    let figures = storm(rt, alloc, load, size, Open, Logged::<MemoryLog>::None)?;
-    Ok(figures)
+    let (figures, _log) = storm(rt, alloc, load, size, Open, Option::<Log<MemoryLog>>::None);
+    Ok(figures?)
 }
 
 /// The same with a log.
@@ -110,7 +111,7 @@ fn run_logged<'a, F: FileSystem, R: Threads + Wait + Sync>(
     requires terminals { (1 ≤ size.terminals) × (size.terminals ≤ 64) }
     requires sessions { size.sessions ≤ 16 }
     requires commands { size.commands ≤ 100000 }
-    ensures figures { IfOk result (AreFigures load.now) }
+    ensures kept { IfOk result (IsStormKept load.now (Some path.entry.now) (F.files system.new)) }
     ensures files { KeepsOthers (F.files system.old) (F.files system.new) path.entry.now }
     ensures folders { F.folders system.new ≡ F.folders system.old }
     ensures fault { IfErr result
@@ -121,10 +122,10 @@ fn run_logged<'a, F: FileSystem, R: Threads + Wait + Sync>(
         Ok(out) => out,
         Err(error) => return Err(why_unwritten(path, error)),
     };
-    let log = Mutex::new(Log::new(alloc, out));
-    let figures = storm(rt, alloc, load, size, Open, Some(&log));
-    let out = log.into_inner().into_out();
-    if let Err(error) = system.end_log(path, out) {
+    let (figures, Some(log)) = storm(rt, alloc, load, size, Open, Some(Log::new(alloc, out))) else {
+        unreachable!();
+    };
+    if let Err(error) = system.end_log(path, log.into_out()) {
         return Err(why_unwritten(path, error));
     }
     Ok(figures?)

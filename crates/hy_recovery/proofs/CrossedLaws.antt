@@ -27,11 +27,12 @@ use Rattle.hy_space.specs.Space.{SpaceState}
 use Rattle.hy_partition.specs.Headline.{Headline}
 use Rattle.hy_partition.specs.Jobs.{DoneState, JobState, Log, RunningJob, told}
 use Rattle.hy_partition.specs.Parts.{PartLacksFrame}
-use Rattle.hy_partition.specs.Partition.{PartitionState, terms_of}
+use Rattle.hy_partition.specs.Partition.{PartitionState, replays, terms_of}
 use Rattle.hy_partition.specs.Steps.{is_full}
-use Rattle.hy_crossing.specs.Crossings.{AcceptsAll, AllMayRun, Crosses, EndsIfNamed, KeepsIfNamed, RefusesAll, SomeLacksFrame, TellsIfNamed, crossing_refusal, database_behind, entry_of, is_named, next_number, some_is_full, with_full}
+use Rattle.hy_crossing.specs.Crossings.{AcceptsAll, AllMayRun, Crosses, EndsIfNamed, KeepsIfNamed, RefusesAll, SomeLacksFrame, TellsIfNamed, MayRunIfNamed, crossing_refusal, database_behind, entry_of, is_named, next_number, some_is_full, with_full}
 use Rattle.hy_crossing.specs.Lists.{InTurn, Pairwise}
 use Rattle.hy_crossing.proofs.AcceptLaws.{same-refusal}
+use Rattle.hy_crossing.proofs.InformLaws.{some-two}
 use Rattle.hy_crossing.proofs.PairLaws.{pairs-then}
 use Rattle.hy_recovery.specs.inside.Ways.{CanRunCrossing, Enters, IsAlone, IsAtRest, IsShortage, KeepsWhereNamed, SomeHasNoFrame}
 use Rattle.hy_recovery.proofs.FrameLaws.{part-no-frame, some-lacks}
@@ -65,11 +66,16 @@ still-all command number before after (old ∷ olds) [] rest turn = absurd turn
 
 -- ---- a command that names its customer by number is kept as it is
 
--- where all partitions replay a log, commands may run in all by either edition
-pub all-may : (edition : Edition) (parts : List PartitionState)
-    → ((place : ℕ) → IfSome (slice_get parts place) (λ p. p.replays ≡ true)) → AllMayRun edition parts
-all-may editions.First parts all = all
-all-may editions.Second parts all = tt
+-- where the partitions that it names are at rest and replay a log, a command may run by either edition
+pub all-may : (edition : Edition) (command : Command) (parts : List PartitionState)
+    → ((place : ℕ) → IfSome (slice_get parts place) IsAtRest)
+    → ((place : ℕ) → IfSome (slice_get parts place) (λ p. names command (suc place) ≡ true → replays p ≡ true))
+    → AllMayRun edition command parts
+all-may editions.First command parts rest all =
+    λ place. some-two (slice_get parts place) IsAtRest (λ p. names command (suc place) ≡ true → replays p ≡ true)
+    (MayRunIfNamed editions.First command (suc place)) (rest place) (all place)
+    (λ p at_rest replays named. (at_rest.running, replays named))
+all-may editions.Second command parts rest all = tt
 
 module _ (database : Database) (command : Command) (unrefused : refusal_in database command ≡ None) where
   abbrev rows : Tables
@@ -267,7 +273,6 @@ module _ (lists : Lists) (edition : Edition) (number : ℕ) (command : Command) 
                     kept =
                         k.kept ∙ ap (λ (p : PartitionState). p.kept ++ (entry_of lists job before).commit ∷ []) told
                         ∙ ap (λ commit. old.kept ++ commit ∷ []) entry-commit;
-                    drained = k.beside.drained ∙ ap (λ (p : PartitionState). p.drained) told;
                     rest = record {
                       running = k.beside.running ∙ ap (λ (p : PartitionState). p.running) told ∙ rest.running;
                       part = k.part;
@@ -288,7 +293,6 @@ module _ (lists : Lists) (edition : Edition) (number : ℕ) (command : Command) 
               record {
                 terms = ap terms_of all;
                 kept = ap (λ (p : PartitionState). p.kept) all;
-                drained = ap (λ (p : PartitionState). p.drained) all;
                 rest = subst IsAtRest (sym all) rest;
                 max_frames = ap (λ (p : PartitionState). p.space.frames.max) all;
                 snapshots = ap (λ (p : PartitionState). p.snapshots) all;

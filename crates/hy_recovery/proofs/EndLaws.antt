@@ -1,5 +1,5 @@
 -- The end of a recovery: the replay ends in all partitions, and why there is none.
-use Rattle.std.proofs.Common.{◌≡◌, ◌<◌, ℕ, zero, suc, List, [], ◌∷◌, ◌++◌, length, take, Err, Some, inl, inr, refl, sym, ap, ◌∙◌, subst, arith, append_assoc}
+use Rattle.std.proofs.Common.{◌≡◌, ℕ, zero, suc, List, [], ◌∷◌, ◌++◌, take, Err, None, inl, inr, refl, sym, ap, ◌∙◌, subst, append_assoc}
 use Rattle.std.specs.Prelude.{slice_get}
 use mathlib.Core.List.{IsPrefix}
 use Rattle.std.proofs.lemmas.List.Concat.{flat_map-cons}
@@ -11,41 +11,27 @@ use Rattle.hy_commands.specs.declared.command.Commit.{Commit}
 use Rattle.hy_batches.specs.Batches.{Batch}
 use Rattle.hy_partition.specs.Jobs.{Log}
 use Rattle.hy_partition.specs.Partition.{PartitionState}
-use Rattle.hy_crossing.specs.Crossings.{ArePartitions, HaveNoPart}
+use Rattle.hy_crossing.specs.Crossings.{ArePartitions, HaveNoPart, IsPartition}
 use Rattle.hy_crossing.specs.Making.{IsWhyNoneMade}
+use Rattle.hy_crossing.proofs.InformLaws.{some-then}
 use Rattle.hy_sound.specs.Sound.{IsSoundLog, Looks, list_at}
 use Rattle.hy_recovery.specs.Recovering.{IsUnfit, IsWhyUnrecovered, LacksFrame, NoneAreTooMany, StopsAtCommit, joined}
-use Rattle.hy_recovery.specs.inside.Ways.{Aim, AreThere, IsBound, IsShortage, Becomes, replayed}
-use Rattle.hy_recovery.proofs.PlaceLaws.{at-place, each-from, get-some, get-within}
+use Rattle.hy_recovery.specs.inside.Ways.{Aim, AreThere, IsBound, IsShortage}
 
 -- ---- the partitions are those of the load still
 
 module _ (lists : Lists) (aim : Aim) (log : Log) (parts : List PartitionState) (there : AreThere lists aim log parts)
-    (ended : List PartitionState) (becomes : Becomes replayed parts ended) where
-  bound-before : (place : ℕ) (new : PartitionState) → slice_get ended place ≡ Some new
-      → (old : PartitionState) × IsBound lists aim [] place old × (new ≡ replayed old)
-  bound-before place new at =
-      let within : place < length parts = omega (arith, get-within ended place new at, becomes.count) in
-      let first = get-some parts place within in (
-        first.0,
-        at-place (IsBound lists aim [] place) parts place first.0 first.1 (there.each place),
-        becomes.each place first.0 new first.1 at,
-      )
+  where
+    pub ended-partitions : ArePartitions lists parts
+    ended-partitions = record {
+      count = there.count;
+      each = λ place. some-then (slice_get parts place) (IsBound lists aim [] place) (IsPartition lists (suc place))
+          (there.each place) (λ p is. (ap (λ t. t.load) is.terms, ap (λ t. t.warehouse) is.terms));
+    }
 
-  pub ended-partitions : ArePartitions lists ended
-  ended-partitions = record {
-    count = becomes.count ∙ there.count;
-    each = λ place. each-from _ (slice_get ended place) (λ new at.
-        let before = bound-before place new at in (
-          ap (λ (p : PartitionState). p.load) before.2 ∙ ap (λ t. t.load) before.1.terms,
-          ap (λ (p : PartitionState). p.warehouse) before.2 ∙ ap (λ t. t.warehouse) before.1.terms,
-        ));
-  }
-
-  pub ended-whole : HaveNoPart ended
-  ended-whole place = each-from _ (slice_get ended place) (λ new at.
-      let before = bound-before place new at in
-      ap (λ (p : PartitionState). p.part) before.2 ∙ before.1.rest.part)
+    pub ended-whole : HaveNoPart parts
+    ended-whole place = some-then (slice_get parts place) (IsBound lists aim [] place) (λ p. p.part ≡ None)
+        (there.each place) (λ p is. is.rest.part)
 
 -- ---- why there is no recovery
 

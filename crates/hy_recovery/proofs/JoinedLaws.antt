@@ -1,6 +1,6 @@
 -- The batches of a log one behind another.
-use Rattle.std.proofs.Common.{◌≡◌, ◌<◌, ◌≤◌, ◌+◌, ◌&&◌, ℕ, zero, suc, true, false, List, [], ◌∷◌, ◌++◌, take, drop, length, Option, Some, None, refl, sym, ap, ◌∙◌, subst, arith, length-append}
-use Rattle.std.specs.Prelude.{IsSomeAnd, slice_get, slice_index_or}
+use Rattle.std.proofs.Common.{◌≡◌, ◌<◌, ◌≤◌, ◌+◌, ◌&&◌, ℕ, zero, suc, true, List, [], ◌∷◌, ◌++◌, take, drop, length, Option, Some, None, refl, sym, ap, ◌∙◌, subst, arith, length-append}
+use Rattle.std.specs.Prelude.{IfSome, IsSomeAnd, slice_get, slice_index_or}
 use Rattle.std.specs.List.{list_all}
 use Rattle.std.proofs.lemmas.Bool.{and_parts}
 use Rattle.std.proofs.lemmas.List.{append-nil}
@@ -18,10 +18,11 @@ use Rattle.hy_batches.specs.Batches.{Batch, is_edition, may_follow}
 use Rattle.hy_batches.specs.Grammar.{are_batches, are_batches_behind, are_lists, commit_fits, fits, is_allowed, is_batch, is_commit, is_list}
 use Rattle.hy_batches.proofs.ListLaws.{flat_map-taken}
 use Rattle.hy_partition.specs.Jobs.{Log}
-use Rattle.hy_partition.specs.Partition.{PartitionState, Terms, terms_of}
+use Rattle.hy_partition.specs.Partition.{PartitionState, terms_of}
 use Rattle.hy_partition.specs.Steps.{Begins}
 use Rattle.hy_crossing.specs.Lists.{Pairwise}
 use Rattle.hy_crossing.specs.Making.{AllBegin}
+use Rattle.hy_crossing.proofs.InformLaws.{some-then, some-two}
 use Rattle.hy_forks.specs.Drains.{TellsHere}
 use Rattle.hy_sound.specs.Sound.{AreSound, list_at}
 use Rattle.hy_sound.specs.Merges.{left_of}
@@ -33,8 +34,8 @@ use Rattle.hy_sound.proofs.SoundLaws.{sound-from}
 use Rattle.hy_recovery.specs.Recovering.{AreRecovered, GoesOn, IsRecovered, LacksFrame, NoneAreTooMany, StopsAtCommit, joined}
 use Rattle.hy_recovery.proofs.EndLaws.{stops-more}
 use Rattle.hy_recovery.proofs.FrameLaws.{shortage-then}
-use Rattle.hy_recovery.specs.inside.Ways.{Aim, AreOnWay, AreThere, IsBound, IsShortage, Becomes, crossings_in, may_stand, replayed, replaying, untouched}
-use Rattle.hy_recovery.proofs.PlaceLaws.{at-place, each-from, get-some, get-within, pairs-at}
+use Rattle.hy_recovery.specs.inside.Ways.{Aim, AreOnWay, AreThere, IsBound, IsShortage, crossings_in, may_stand, untouched}
+use Rattle.hy_recovery.proofs.PlaceLaws.{at-place, each-from, pairs-at}
 
 -- ---- lists
 
@@ -128,7 +129,13 @@ few-lists batches place batch are at =
 
 abbrev pub aim_of : List Batch → ℕ → ℕ → ℕ → ℕ → Aim
 aim_of batches frames most count last =
-    record { frames = frames; most = most; goal = joined (take count batches); last = last }
+    record {
+      frames = frames;
+      most = most;
+      goal = joined (take count batches);
+      replayed = λ place. length (joined batches place);
+      last = last;
+    }
 
 -- the batches before a place were run
 pub record AreRun (lists : Lists) (batches : List Batch) (frames most place : ℕ) (log : Log)
@@ -139,31 +146,23 @@ pub record AreRun (lists : Lists) (batches : List Batch) (frames most place : �
   pub done : AreSound lists 0 last (take place batches)
   pub later : AreSound lists last total (drop place batches)
 
-pub run-none : (lists : Lists) (batches : List Batch) (frames most total : ℕ) (log : Log)
-    (first parts : List PartitionState) → AllBegin lists frames most first → Becomes replaying first parts → log ≡ []
-    → AreSound lists 0 total batches
-    → AreRun lists batches frames most 0 log parts
-run-none lists batches frames most total log first parts begin becomes none sound = record {
+pub run-none : (lists : Lists) (batches : List Batch) (frames most total : ℕ) (log : Log) (parts : List PartitionState)
+    → AllBegin lists frames most parts
+    → ((place : ℕ) → IfSome (slice_get parts place) (λ p. p.replayed ≡ length (joined batches place)))
+    → log ≡ [] → AreSound lists 0 total batches → AreRun lists batches frames most 0 log parts
+run-none lists batches frames most total log parts begin from none sound = record {
   last = 0;
   total = total;
   there = record {
-    count = becomes.count ∙ begin.count;
-    each = λ place. each-from _ (slice_get parts place) (λ p at.
-        let within : place < length first = omega (arith, get-within parts place p at, becomes.count) in
-        let old = get-some first place within in
-        let was = at-place (Begins lists (suc place) frames most) first place old.0 old.1 (begin.each place) in
-        let same : p ≡ replaying old.0 = becomes.each place old.0 p old.1 at in
-        record {
-          terms = ap terms_of same ∙ ap (λ (t : Terms). record t { replays = true }) was.terms;
-          kept = append-nil p.kept ∙ ap (λ (p : PartitionState). p.kept) same ∙ was.kept;
-          drained = ap (λ (p : PartitionState). p.drained) same ∙ was.drained;
-          rest = record {
-            running = ap (λ (p : PartitionState). p.running) same ∙ was.running;
-            part = ap (λ (p : PartitionState). p.part) same ∙ was.part;
-            finished = ap (λ (p : PartitionState). p.finished) same ∙ was.finished;
-          };
-          max_frames = ap (λ (p : PartitionState). p.space.frames.max) same ∙ was.max_frames;
-          snapshots = λ child. ap (λ (p : PartitionState). slice_index_or p.snapshots child None) same ∙ was.snapshots child;
+    count = begin.count;
+    each = λ place. some-two (slice_get parts place) (Begins lists (suc place) frames most)
+        (λ p. p.replayed ≡ length (joined batches place)) (IsBound lists (aim_of batches frames most 0 0) [] place)
+        (begin.each place) (from place) (λ p was is. record {
+          terms = was.terms ∙ ap (λ n. record { load = lists; warehouse = suc place; max_kept = most; replayed = n }) is;
+          kept = append-nil p.kept ∙ was.kept;
+          rest = record { running = was.running; part = was.part; finished = was.finished };
+          max_frames = was.max_frames;
+          snapshots = was.snapshots;
         });
     last = ap crossings_in none;
   };
@@ -201,7 +200,6 @@ module _ (lists : Lists) (batches : List Batch) (frames most place : ℕ) (log :
               ap (λ rows. p.kept ++ rows) (left-is k)
               ∙ ap (λ rows. rows ++ list_at batch.lists k) (sym (append-nil p.kept) ∙ is.kept)
               ∙ sym (goal-is k);
-          drained = is.drained;
           rest = is.rest;
           max_frames = is.max_frames;
           snapshots = is.snapshots;
@@ -210,6 +208,7 @@ module _ (lists : Lists) (batches : List Batch) (frames most place : ℕ) (log :
         let whole = few k (omega (arith, within, run.there.count)) in
         let less = joined-taken (place + 1) batches k in
         omega arith;
+    from_log = λ k within. joined-taken (place + 1) batches k;
     allowed = λ k within.
         ap (list_all (may_stand (suc k))) (left-is k)
         ∙ batch-allowed batch k (batch-at editions.First batches place batch are at) within;
@@ -252,51 +251,57 @@ module _ (lists : Lists) (batches : List Batch) (frames most place : ℕ) (log :
     (omega (arith, run.there.last)),
   )
 
-  pub recovered : (ended told : List PartitionState) → Becomes replayed parts ended → Pairwise (TellsHere log) 1 ended told
-      → length told ≡ length ended → AreRecovered lists frames most batches told
-  recovered ended told becomes tells count = record {
-    count = count ∙ becomes.count ∙ run.there.count;
+  pub recovered : (told : List PartitionState) → Pairwise (TellsHere log) 1 parts told → length told ≡ length parts
+      → AreRecovered lists frames most batches told
+  recovered told tells count = record {
+    count = count ∙ run.there.count;
     each = λ k. each-from _ (slice_get told k) (λ new there.
-        by k new there (slice_get ended k) refl
-        (at-place (λ new. IsSomeAnd (slice_get ended k) (λ old. TellsHere log (1 + k) old new)) told k new there
-        (pairs-at (TellsHere log) 1 ended told tells k)));
+        by k new (slice_get parts k) refl
+        (at-place (λ new. IsSomeAnd (slice_get parts k) (λ old. TellsHere log (1 + k) old new)) told k new there
+        (pairs-at (TellsHere log) 1 parts told tells k)));
   }
     where
-      by : (k : ℕ) (new : PartitionState) → slice_get told k ≡ Some new → (found : Option PartitionState)
-          → slice_get ended k ≡ found → IsSomeAnd found (λ old. TellsHere log (1 + k) old new)
+      by : (k : ℕ) (new : PartitionState) (found : Option PartitionState) → slice_get parts k ≡ found
+          → IsSomeAnd found (λ old. TellsHere log (1 + k) old new)
           → IsRecovered lists frames most (joined batches k) (suc k) new
-      by k new there None at has = absurd has
-      by k new there (Some middle) at has =
-          let within : k < length parts = omega (arith, get-within ended k middle at, becomes.count) in
-          let first = get-some parts k within in
-          let is = at-place (IsBound lists (aim_of batches frames most place run.last) [] k) parts k first.0 first.1
+      by k new None at has = absurd has
+      by k new (Some first) at has =
+          let is = at-place (IsBound lists (aim_of batches frames most place run.last) [] k) parts k first at
           (run.there.each k) in
-          let mark : middle ≡ replayed first.0 = becomes.each k first.0 middle first.1 at in
-          let same : new ≡ record first.0 { seen = log; drained = length first.0.kept; replays = false } =
-          has.0 ∙ ap (λ (p : PartitionState). record p { seen = log }) mark in
-          let goal : first.0.kept ≡ joined batches k =
-          sym (append-nil first.0.kept) ∙ is.kept ∙ ap (λ rows. joined rows k) whole in
+          let goal : first.kept ≡ joined batches k =
+          sym (append-nil first.kept) ∙ is.kept ∙ ap (λ rows. joined rows k) whole in
           record {
-            terms = ap terms_of same ∙ ap (λ (t : Terms). record t { replays = false }) is.terms;
-            kept = ap (λ (p : PartitionState). p.kept) same ∙ goal;
-            drained =
-                ap (λ (p : PartitionState). p.drained) same
-                ∙ sym (ap (λ (p : PartitionState). length p.kept) same);
-            running = ap (λ (p : PartitionState). p.running) same ∙ is.rest.running;
-            part = ap (λ (p : PartitionState). p.part) same ∙ is.rest.part;
-            finished = ap (λ (p : PartitionState). p.finished) same ∙ is.rest.finished;
-            max_frames = ap (λ (p : PartitionState). p.space.frames.max) same ∙ is.max_frames;
+            terms = ap terms_of has.0 ∙ is.terms;
+            kept = ap (λ (p : PartitionState). p.kept) has.0 ∙ goal;
+            running = ap (λ (p : PartitionState). p.running) has.0 ∙ is.rest.running;
+            part = ap (λ (p : PartitionState). p.part) has.0 ∙ is.rest.part;
+            finished = ap (λ (p : PartitionState). p.finished) has.0 ∙ is.rest.finished;
+            max_frames = ap (λ (p : PartitionState). p.space.frames.max) has.0 ∙ is.max_frames;
             snapshots = λ child.
-                ap (λ (p : PartitionState). slice_index_or p.snapshots child None) same ∙ is.snapshots child;
+                ap (λ (p : PartitionState). slice_index_or p.snapshots child None) has.0 ∙ is.snapshots child;
           }
 
--- the commits of the batches before, and of the one at a place, are no more than all
-pub joined-next : (batches : List Batch) (number place : ℕ) (batch : Batch)
-    → slice_get batches number ≡ Some batch
+-- ---- how many they are
+
+-- those of the batches before, and of the one at a place
+pub joined-then : (batches : List Batch) (number place : ℕ) (batch : Batch) → slice_get batches number ≡ Some batch
+    → length (joined (take (number + 1) batches) place)
+    ≡ length (joined (take number batches) place) + length (list_at batch.lists place)
+joined-then batches number place batch at =
+    ap length (flat_map-taken (λ (batch : Batch). list_at batch.lists place) batches number batch at)
+    ∙ length-append (joined (take number batches) place) (list_at batch.lists place)
+
+-- are no more than all
+pub joined-next : (batches : List Batch) (number place : ℕ) (batch : Batch) → slice_get batches number ≡ Some batch
     → length (joined (take number batches) place) + length (list_at batch.lists place) ≤ length (joined batches place)
 joined-next batches number place batch at =
-    let whole : length (joined (take (number + 1) batches) place)
-    ≡ length (joined (take number batches) place) + length (list_at batch.lists place) =
-    ap length (flat_map-taken (λ (batch : Batch). list_at batch.lists place) batches number batch at)
-    ∙ length-append (joined (take number batches) place) (list_at batch.lists place) in
-    omega (arith, whole, joined-taken (number + 1) batches place)
+    omega (arith, joined-then batches number place batch at, joined-taken (number + 1) batches place)
+
+-- each partition that was recovered has kept all that comes from the log
+pub all-replayed : (lists : Lists) (frames most : ℕ) (batches : List Batch) (parts : List PartitionState)
+    → AreRecovered lists frames most batches parts
+    → (place : ℕ) → IfSome (slice_get parts place) (λ p. p.replayed ≤ length p.kept)
+all-replayed lists frames most batches parts are place =
+    some-then (slice_get parts place) (IsRecovered lists frames most (joined batches place) (suc place))
+    (λ p. p.replayed ≤ length p.kept) (are.each place) (λ p is.
+    omega (arith, ap (λ t. t.replayed) is.terms, ap length is.kept))

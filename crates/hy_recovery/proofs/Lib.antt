@@ -5,5 +5,5 @@ pub mod CrossedLaws
 pub mod WayLaws
 pub mod JoinedLaws
 pub mod ResultLaws
-pub mod BecomeLaws
 pub mod EndLaws
+pub mod LoggedLaws

@@ -243,7 +243,6 @@ module _ (edition : Edition) (command : Command) (pass : PassState Commit) (p en
               kept =
                   ap (λ (p : PartitionState). p.kept) taken ∙ does.kept
                   ∙ ap (λ rows. p.kept ++ rows) (kept-one edition command (writes edition command p can));
-              drained = ap (λ (p : PartitionState). p.drained) taken ∙ does.ends.rest.drained;
               rest = record {
                 running = ap (λ (p : PartitionState). p.running) taken ∙ does.ends.running;
                 part = ap (λ (p : PartitionState). p.part) taken ∙ does.ends.rest.part ∙ can.rest.part;

@@ -3,7 +3,7 @@ use Rattle.std.proofs.Common.{◌≡◌, ◌≢◌, ◌<◌, ◌==◌, ◌&&◌,
 use Rattle.std.specs.Prelude.{IfSome, nat_le, slice_get, slice_index_or, slice_set}
 use Rattle.std.specs.List.{filter_map, list_all}
 use mathlib.Core.List.{IsPrefix}
-use Rattle.std.proofs.lemmas.Bool.{and_parts, eqb-false, eqb-true}
+use Rattle.std.proofs.lemmas.Bool.{and_parts, eqb-false, eqb-true, lt-ltb}
 use Rattle.std.proofs.lemmas.List.Elements.{filter_map-append}
 use Rattle.hy_rows.specs.Tables.{Lists}
 use Rattle.hy_passes.specs.declared.entry.Entry.{Entry}
@@ -15,7 +15,7 @@ use Rattle.hy_commands.specs.Commands.{is_in_range, number_of}
 use Rattle.hy_commands.specs.Parts.{is_by_number}
 use Rattle.hy_batches.specs.Grammar.{commit_fits, is_allowed, names, names_several}
 use Rattle.hy_partition.specs.Jobs.{Log}
-use Rattle.hy_partition.specs.Partition.{PartitionState}
+use Rattle.hy_partition.specs.Partition.{PartitionState, replays}
 use Rattle.hy_crossing.specs.Crossings.{ArePartitions, HaveNoPart}
 use Rattle.hy_crossing.specs.Lists.{Pairwise}
 use Rattle.hy_crossing.proofs.InformLaws.{pairs-count}
@@ -69,10 +69,17 @@ module _ (lists : Lists) (aim : Aim) (merge : MergeState) (log : Log) (parts : L
   way-rest place = each-from IsAtRest (slice_get parts place) (λ p at.
       (at-place (IsBound lists aim (left_of merge place) place) parts place p at (way.each place)).rest)
 
-  way-replays : (place : ℕ) → IfSome (slice_get parts place) (λ p. p.replays ≡ true)
-  way-replays place = each-from (λ p. p.replays ≡ true) (slice_get parts place) (λ p at.
-      ap (λ t. t.replays)
-      (at-place (IsBound lists aim (left_of merge place) place) parts place p at (way.each place)).terms)
+  -- where a commit is left, the log is replayed
+  way-replays : (place : ℕ) (p : PartitionState) (commit : Commit) → slice_get parts place ≡ Some p
+      → next_of (left_of merge place) ≡ Some commit → replays p ≡ true
+  way-replays place p commit at next =
+      let bound = at-place (IsBound lists aim (left_of merge place) place) parts place p at (way.each place) in
+      let rest = next-first (left_of merge place) commit next in
+      let whole : length (aim.goal place) ≡ length p.kept + length (left_of merge place) =
+      sym (ap length bound.kept) ∙ length-append p.kept (left_of merge place) in
+      let some : length (left_of merge place) ≡ suc (length (drop 1 (left_of merge place))) = ap length rest in
+      let few = way.from_log place (get-within parts place p at) in
+      lt-ltb (length p.kept) p.replayed (omega (arith, whole, some, few, ap (λ t. t.replayed) bound.terms))
 
   way-alone : (place : ℕ) → IfSome (slice_get parts place) IsAlone
   way-alone place = each-from IsAlone (slice_get parts place) (λ p at.
@@ -144,7 +151,7 @@ module _ (lists : Lists) (aim : Aim) (merge : MergeState) (log : Log) (parts : L
     pub can-local : CanRunLocal edition command p
     can-local = record {
       rest = bound.rest;
-      replays = ap (λ t. t.replays) bound.terms;
+      replays = way-replays place p (commits.Local edition command) at next;
       allowed =
           ap (λ t. may_stand t.warehouse (commits.Local edition command)) bound.terms
           ∙ allowed-next place (commits.Local edition command) within next;
@@ -183,7 +190,6 @@ module _ (lists : Lists) (aim : Aim) (merge : MergeState) (log : Log) (parts : L
             ∙ append_assoc p.kept (commits.Local edition command ∷ []) (left_of after place)
             ∙ ap (λ rows. p.kept ++ commits.Local edition command ∷ rows) left
             ∙ ap (λ rows. p.kept ++ rows) (sym first) ∙ bound.kept;
-        drained = keeps.drained ∙ bound.drained;
         rest = keeps.rest;
         max_frames = keeps.max_frames ∙ bound.max_frames;
         snapshots = λ child. ap (λ rows. slice_index_or rows child None) keeps.snapshots ∙ bound.snapshots child;
@@ -210,6 +216,7 @@ module _ (lists : Lists) (aim : Aim) (merge : MergeState) (log : Log) (parts : L
             parts place new inside way.each bound-new
             (λ k p apart is. subst (λ rows. IsBound lists aim rows k p) (sym (others k apart)) is);
         few = λ k inside. way.few k (omega (arith, inside, length-set parts place new));
+        from_log = λ k inside. way.from_log k (omega (arith, inside, length-set parts place new));
         allowed = λ k inside. allowed-left k inside (k == place) refl;
         sound =
             subst (λ n. IsSoundFrom lists n aim.last after) (sym (crossings-local edition command log later enters))
@@ -253,7 +260,9 @@ module _ (lists : Lists) (aim : Aim) (merge : MergeState) (log : Log) (parts : L
       known = known-crossing lists (crossings_in log) edition number command merge finds aim.last way.sound;
       next = finds.0;
       rest = way-rest;
-      replays = way-replays;
+      replays = λ place. each-from _ (slice_get parts place) (λ p at named.
+          way-replays place p (commits.Cross edition number command) at
+          (next-here place (omega (arith, get-within parts place p at, way.lists_are)) named));
       few = λ place. each-from _ (slice_get parts place) (λ p at named.
           room place p (commits.Cross edition number command) at
           (next-here place (omega (arith, get-within parts place p at, way.lists_are)) named));
@@ -299,7 +308,6 @@ module _ (lists : Lists) (aim : Aim) (merge : MergeState) (log : Log) (parts : L
                   ap (λ rows. rows ++ left_of after place) k.kept
                   ∙ append_assoc old.kept (commits.Cross edition number command ∷ []) (left_of after place)
                   ∙ ap (λ rows. old.kept ++ rows) (sym (passes.named place within named.0)) ∙ was.kept;
-              drained = k.drained ∙ was.drained;
               rest = k.rest;
               max_frames = k.max_frames ∙ was.max_frames;
               snapshots = λ child. ap (λ rows. slice_index_or rows child None) k.snapshots ∙ was.snapshots child;
@@ -311,7 +319,6 @@ module _ (lists : Lists) (aim : Aim) (merge : MergeState) (log : Log) (parts : L
               kept =
                   ap (λ rows. rows ++ left_of after place) k.kept
                   ∙ ap (λ rows. old.kept ++ rows) (passes.others place within other.0) ∙ was.kept;
-              drained = k.drained ∙ was.drained;
               rest = k.rest;
               max_frames = k.max_frames ∙ was.max_frames;
               snapshots = λ child. ap (λ rows. slice_index_or rows child None) k.snapshots ∙ was.snapshots child;
@@ -336,6 +343,7 @@ module _ (lists : Lists) (aim : Aim) (merge : MergeState) (log : Log) (parts : L
             bound-after place old new keeps (omega (arith, get-within parts place old at, way.lists_are)) was)
             keeps way.each;
         few = λ k inside. way.few k (omega (arith, inside, same-count));
+        from_log = λ k inside. way.from_log k (omega (arith, inside, same-count));
         allowed = λ k within. allowed-after k (omega (arith, within, passes.count)) (names command (suc k)) refl;
         sound =
             let next : number ≡ crossings_in later = finds.0 ∙ sym (crossings-next edition number command log later enters) in
@@ -370,6 +378,7 @@ module _ (lists : Lists) (aim : Aim) (merge : MergeState) (log : Log) (parts : L
         subst (λ rows. IsBound lists aim rows place p) (sym (left place))
         (at-place (IsBound lists aim (left_of merge place) place) parts place p at (way.each place)));
     few = way.few;
+    from_log = way.from_log;
     allowed = λ k within. ap (list_all (may_stand (suc k))) (left k) ∙ way.allowed k (omega (arith, within, count));
     sound = record {
       in_step = record {

@@ -1,7 +1,7 @@
 -- What is recovered from the batches of a log.
 use Rattle.std.specs.Prelude.{◌≡◌, ◌⊎◌, false, ℕ, suc, ◌<◌, ◌≤◌, List, [], ◌∷◌, ◌++◌, length, slice_get, IfSome, None}
-use Rattle.std.specs.List.{flat_map}
 use mathlib.Core.List.{IsPrefix}
+use Rattle.hy_worlds.specs.Origins.{Origin, replayed_of}
 use Rattle.hy_rows.specs.Spelling.{Spells}
 use Rattle.hy_rows.specs.Tables.{Lists}
 use Rattle.hy_schema.specs.declared.refusal.Refusal.{Refusal}
@@ -14,23 +14,18 @@ use Rattle.hy_space.specs.Space.{CountsAreExact, SpaceState, child_table, owner_
 use Rattle.hy_undo.specs.UndoLog.{UndoLog, undone}
 use Rattle.hy_tpcc.specs.Shortages.{adds_no_page}
 use Rattle.hy_batches.specs.Batches.{Batch}
-use Rattle.hy_partition.specs.Jobs.{Log}
+use Rattle.hy_partition.specs.Limits.{most_kept}
 use Rattle.hy_partition.specs.Partition.{PartitionState, commits_of, terms_of}
-use Rattle.hy_crossing.specs.Crossings.{next_number}
 use Rattle.hy_crossing.specs.Making.{SomeIsShort}
-use Rattle.hy_sound.specs.Sound.{AreSound, IsFirstUnsound, IsSoundLog, list_at}
+pub use Rattle.hy_forks.specs.Logged.{GoesOn, joined}
+use Rattle.hy_sound.specs.Sound.{IsFirstUnsound, IsSoundLog}
 
--- the lists at a place of all batches, one behind another
-abbrev pub joined : List Batch → ℕ → List Commit
-joined batches place = flat_map (λ batch. list_at batch.lists place) batches
-
--- the partition of the warehouse with a number of a load, with these commits kept and drained; no log is replayed any
--- more, nothing runs there, no answer waits, no snapshot is open
+-- the partition of the warehouse with a number of a load, with these commits kept, all from the log; nothing runs there, no
+-- answer waits, no snapshot is open
 pub record IsRecovered (lists : Lists) (frames most : ℕ) (commits : List Commit) (number : ℕ) (p : PartitionState)
     : Type 0 where
-  pub terms : terms_of p ≡ record { load = lists; warehouse = number; max_kept = most; replays = false }
+  pub terms : terms_of p ≡ record { load = lists; warehouse = number; max_kept = most; replayed = length commits }
   pub kept : p.kept ≡ commits
-  pub drained : p.drained ≡ length p.kept
   pub running : p.running ≡ None
   pub part : p.part ≡ None
   pub finished : p.finished ≡ None
@@ -43,10 +38,6 @@ pub record AreRecovered (lists : Lists) (frames most : ℕ) (batches : List Batc
   pub count : length parts ≡ length lists.tables.warehouses
   pub each : (place : ℕ) → IfSome (slice_get parts place) (IsRecovered lists frames most (joined batches place) (suc place))
 
--- the numbers of commits of several warehouses go on behind those of the batches
-abbrev pub GoesOn : Lists → List Batch → Log → Type 0
-GoesOn lists batches log = (last : ℕ) × AreSound lists 0 last batches × (next_number log ≡ suc last)
-
 -- the commits of some warehouse are more than may be kept, or those of none
 abbrev pub SomeAreTooMany : Lists → List Batch → ℕ → Type 0
 SomeAreTooMany lists batches most =
@@ -55,6 +46,13 @@ SomeAreTooMany lists batches most =
 abbrev pub NoneAreTooMany : Lists → List Batch → ℕ → Type 0
 NoneAreTooMany lists batches most =
     (place : ℕ) → place < length lists.tables.warehouses → length (joined batches place) ≤ most
+
+-- a kit knows how many commits of each warehouse come from batches; where some warehouse has more than any partition may
+-- keep, it may know anything
+abbrev pub Counts : Origin → Lists → List Batch → Type 0
+Counts kit lists batches =
+    (most : ℕ) → most ≤ most_kept → NoneAreTooMany lists batches most → (place : ℕ)
+    → place < length lists.tables.warehouses → replayed_of kit (suc place) ≡ length (joined batches place)
 
 -- why no database is recovered from batches, whatever there is of frames and memory: one isn't sound; or all are, and some
 -- warehouse would keep too many commits

@@ -3,9 +3,12 @@
 
 mod checking;
 mod counting;
+mod logged;
 mod recovering;
 mod replaying;
 mod running;
 
 pub use checking::check_batches;
+pub use counting::kit_for;
+pub use logged::recovered_say_the_same;
 pub use recovering::recover;

@@ -7,11 +7,9 @@ ghost use Rattle.hy_passes.specs.Worlds.{new_partition};
 ghost use Rattle.hy_schema.specs.Conditions.{first_broken};
 ghost use Rattle.hy_database.specs.Database.{all_rows};
 ghost use Rattle.hy_partition.specs.Limits.{most_kept};
-ghost use Rattle.hy_partition.specs.Partition.{PartitionState};
 ghost use Rattle.hy_crossing.specs.Crossings.{ArePartitions, HaveNoPart, database_behind};
 ghost use Rattle.hy_forks.specs.Histories.{IsOneHistory};
-ghost use Rattle.hy_recovery.specs.Recovering.{AreRecovered, GoesOn, IsWhyUnrecovered, NoneAreTooMany};
-ghost use Rattle.hy_recovery.specs.inside.Ways.{Becomes, replayed, replaying};
+ghost use Rattle.hy_recovery.specs.Recovering.{AreRecovered, Counts, GoesOn, IsWhyUnrecovered, NoneAreTooMany};
 
 use crate::checking::check_batches;
 use crate::replaying::run_batch;
@@ -19,36 +17,16 @@ use hy_batches::Batches;
 use hy_commands::Commit;
 use hy_crossing::partitions_of;
 use hy_database::every_database_is_consistent;
-use hy_forks::find_history;
+use hy_forks::{find_history, know_replayed};
 use hy_loads::Load;
 use hy_partition::{Loaded, Partition};
 use hy_passes::{Journal, PartitionSeat, Pass};
 use hy_schema::Refusal;
 use std::alloc::Global;
 
-/// Begins the replay in each partition.
-fn begin_all<const N: usize, K: Loaded>(parts: &mut Vec<Partition<N, K>>)
-    requires { (place : ℕ) → IfSome (slice_get parts.old.items place) (λ p. p.kept ≡ []) }
-    ensures { Becomes replaying parts.old.items parts.new.items }
-{
-    for place in 0..parts.len() {
-        parts[place].begin_replay();
-    }
-}
-
-/// Ends it in each.
-fn end_all<const N: usize, K: Loaded>(parts: &mut Vec<Partition<N, K>>)
-    requires { (place : ℕ) → IfSome (slice_get parts.old.items place) (λ p. (p.running ≡ None) × (p.part ≡ None)) }
-    ensures { Becomes replayed parts.old.items parts.new.items }
-{
-    for place in 0..parts.len() {
-        parts[place].end_replay();
-    }
-}
-
 /// The partitions of all warehouses of a load once the batches of a log were run again, each by its edition, with the
-/// journal and the pass of the client who runs them. Each partition has kept its lists of all batches, one behind another,
-/// as drained. Refused by the first of these: E15 (`LogMalformed`) and then E3, as `check_batches` says; E2 where
+/// journal and the pass of the client who runs them. Each partition has kept its lists of all batches, one behind another.
+/// The kit has to know how many these are (`kit_for`). Refused by the first of these: E15 (`LogMalformed`) and then E3, as `check_batches` says; E2 where
 /// `max_frames` are too few for the rows of a warehouse or for one of its commits; E1, where memory lacks before a frame
 /// does. Takes time in proportion to the commits, beside what `check_batches` and `partitions_of` take.
 pub fn recover<const N: usize, K: Loaded>(
@@ -69,8 +47,11 @@ pub fn recover<const N: usize, K: Loaded>(
     requires load { load.now ≡ K.load }
     requires seats { seats.items ≡ map new_partition (range_with_len 1 (length load.now.tables.warehouses)) }
     requires log { journal.list.log ≡ [] }
+    requires replayed { Counts K.passes load.now batches.now }
     ensures recovered { IfOk result
         (λ made. AreRecovered load.now max_frames max_kept batches.now made.0.items) }
+    ensures replayed { IfOk result (λ made. (place : ℕ)
+        → IfSome (slice_get made.0.items place) (λ p. p.replayed ≤ length p.kept)) }
     ensures history { IfOk result
         (λ made. IsOneHistory K.passes.partitions made.1.list.log made.0.items) }
     ensures goes_on { IfOk result (λ made. GoesOn load.now batches.now made.1.list.log) }
@@ -85,11 +66,10 @@ pub fn recover<const N: usize, K: Loaded>(
     batches.sound();
     check_batches(alloc, load, batches, max_kept)?;
     let mut parts = partitions_of::<N, K>(alloc, load, seats, max_frames, max_kept)?;
-    begin_all(&mut parts);
+    know_replayed(&mut parts);
     for place in 0..batches.count() as usize {
         pass = run_batch(&mut parts, &mut journal, batches.batch(place), pass)?;
     }
-    end_all(&mut parts);
     find_history(&mut parts, &mut journal);
     load.sound();
     every_database_is_consistent();

@@ -197,7 +197,7 @@ few (call ∷ calls) =
 
 -- ---- more calls
 
-handed-append : (calls more : List Call) → handed (calls ++ more) ≡ handed calls ++ handed more
+pub handed-append : (calls more : List Call) → handed (calls ++ more) ≡ handed calls ++ handed more
 handed-append [] more = refl
 handed-append (call ∷ calls) more = ap (λ batches. call.batch ∷ batches) (handed-append calls more)
 
@@ -208,6 +208,14 @@ split log [] more are = (tt, are, refl)
 split log (call ∷ calls) more are =
     let later = split call.log calls more are.1 in
     ((are.0, later.0), later.1, later.2)
+
+-- calls behind calls
+pub join : (log : LogState) (calls more : List Call) → AreCalls log calls → AreCalls (log_behind log calls) more
+    → AreCalls log (calls ++ more) × (log_behind log (calls ++ more) ≡ log_behind (log_behind log calls) more)
+join log [] more are later = (later, refl)
+join log (call ∷ calls) more are later =
+    let joined = join call.log calls more are.1 later in
+    ((are.0, joined.0), joined.1)
 
 grows_by : (failed : Bool) (old new : LogState) (batch : Batch) (answer : Result (Unit {0}) Refusal)
     → AnswersBy failed old new batch answer → length old.told.written ≤ length new.told.written
@@ -229,6 +237,36 @@ grows log (call ∷ calls) are =
     let one = grows_by log.has_failed log call.log call.batch call.answer are.0 in
     let later = grows call.log calls are.1 in
     omega arith
+
+-- ---- a log that hasn't failed
+
+-- all that it was handed is written and synced behind what was there, and each call was acknowledged
+pub none_lost : (first : List Batch) (log : LogState) (calls : List Call) → BeginsBehind first log → AreCalls log calls
+    → (log_behind log calls).has_failed ≡ false
+    → BeginsBehind (first ++ handed calls) (log_behind log calls) × (acknowledged calls ≡ length (handed calls))
+none_lost first log [] begins are well =
+    (subst (λ batches. BeginsBehind batches log) (sym (append-nil first)) begins, refl)
+none_lost first log (call ∷ calls) begins are well =
+    next (λ begins. none_lost (first ++ call.batch ∷ []) call.log calls begins are.1 well) call.answer
+    (answers_well log call.log call.batch call.answer begins.not_failed are.0)
+  where
+    next : (BeginsBehind (first ++ call.batch ∷ []) call.log
+        → BeginsBehind ((first ++ call.batch ∷ []) ++ handed calls) (log_behind call.log calls)
+        × (acknowledged calls ≡ length (handed calls)))
+        → (answer : Result (Unit {0}) Refusal) → AnswersBy false log call.log call.batch answer
+        → BeginsBehind (first ++ call.batch ∷ handed calls) (log_behind call.log calls)
+        × (once answer + acknowledged calls ≡ suc (length (handed calls)))
+    next behind (Ok done) by =
+        let later = behind (begins_behind first log call.log call.batch begins by) in
+        let count = later.1 in (
+          subst (λ batches. BeginsBehind batches (log_behind call.log calls)) (pushed first call.batch (handed calls)) later.0,
+          omega arith,
+        )
+    next behind (Err refusal) by =
+        let same = stays call.log calls (ap (λ (log : LogState). log.has_failed) by.changed) are.1 in
+        let failed : (log_behind call.log calls).has_failed ≡ true =
+        ap (λ (log : LogState). log.has_failed) (same.0 ∙ by.changed) in
+        absurd (false≢true (sym well ∙ failed))
 
 -- ---- the theorem
 

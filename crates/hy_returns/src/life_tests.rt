@@ -1,17 +1,18 @@
 //! A log that is cut anywhere, and one that goes on behind a recovery.
 
 ghost use Rattle.std.specs.Prelude.{◌≡◌, length};
+ghost use Rattle.hy_recovery.specs.Recovering.{Counts};
 
 use crate::logs::{payment, read, written};
 use crate::recovery_tests::{WIDE, recovered_of};
 use hy_batches::{Batches, Text, write_batch};
 use hy_commands::{Commit, Edition, Reply};
 use hy_crossing::are_partitions;
-use hy_forks::drain;
+use hy_forks::{drain, end_of};
 use hy_loads::Load;
 use hy_partition::{Job, Loaded, Partition};
-use hy_passes::{Journal, Kit, Pass, make};
-use hy_recovery::recover;
+use hy_passes::{Cursor, Journal, Kit, Pass};
+use hy_recovery::{kit_for, recover};
 use hy_tables::generate;
 use std::marker::Brand;
 use std::process::Abort;
@@ -38,14 +39,15 @@ fn pay_again<K: Loaded>(
     }
 }
 
-/// The bytes of what was kept since the last drain.
+/// The bytes of what was kept behind a place.
 fn drained_bytes<K: Loaded, R: Abort + AllocGlobal>(
     rt: &R,
     parts: &mut Vec<Partition<4096, K>>,
     journal: &mut Journal<Commit, K>,
+    cursor: &mut Cursor<Commit, K>,
 ) -> Text {
     assert!(rt; are_partitions(parts));
-    let batch = drain(rt.alloc(), parts, journal).expect(rt, "a batch");
+    let batch = drain(rt.alloc(), parts, journal, cursor).expect(rt, "a batch");
     let mut text = Text::new(rt.alloc());
     write_batch(&mut text, &batch);
     text
@@ -61,10 +63,11 @@ fn live_on<K: Loaded, R: Abort + AllocGlobal>(
     requires load { load.now ≡ K.load }
     requires kit { kit ≡ K.passes }
     requires partitions { kit.partitions ≡ length load.now.tables.warehouses }
+    requires counts { Counts kit load.now batches.now }
 {
     let (_passes, journal, seats, mut clients) = kit.open::<K>().expect(rt, "passes");
-    let Some(pass) = clients.pop() else {
-        panic!(rt; "a client")
+    let (Some(pass), Some(place)) = (clients.pop(), clients.pop()) else {
+        panic!(rt; "two clients")
     };
     let Ok((mut parts, mut journal, pass)) = recover::<4096, K>(
         rt.alloc(),
@@ -78,16 +81,16 @@ fn live_on<K: Loaded, R: Abort + AllocGlobal>(
     ) else {
         panic!(rt; "it is recovered")
     };
+    let mut cursor = end_of(rt.alloc(), &mut parts, &mut journal, place).expect(rt, "a place");
     assert!(rt; 0 < parts.len());
     pay_again(rt, &mut parts[0], &mut journal, pass);
-    drained_bytes(rt, &mut parts, &mut journal)
+    drained_bytes(rt, &mut parts, &mut journal, &mut cursor)
 }
 
 /// The same on a generated load of two warehouses.
 fn second_batch<R: Abort + AllocGlobal>(rt: &R, batches: &Batches) -> Text {
     let load = generate(rt.alloc(), 2, 3, 20).expect(rt, "a load");
-    assert!(rt; load.tables().warehouses.len() == 2);
-    let kit = make::<Commit>(rt.alloc(), 2, 1, 1).expect(rt, "a kit");
+    let kit = kit_for(rt.alloc(), &load, batches, 2, 1).expect(rt, "a kit");
     live_on::<Brand, R>(rt, &load, kit, batches)
 }
 

@@ -1,20 +1,27 @@
 //! For tests: logs of payments, orders and deliveries.
 
-use hy_batches::{Batch, Batches, Text, read_log, write_batch};
+use hy_batches::{Batches, Text, read_log, write_lists};
 use hy_commands::{
     Command, Commit, Delivery, Edition, Payment, Purchase, PurchaseLine, PurchaseLines, Who,
 };
 use std::alloc::Global;
 use std::process::Abort;
 
-/// A batch of an edition and of so many warehouses, with these commits, each in the list of a warehouse.
+/// Lists that are written as a batch of an edition is, whatever stands in them.
+#[derive(Drop)]
+pub struct LogPage {
+    edition: Edition,
+    lists: Vec<Vec<Commit>>,
+}
+
+/// The page of an edition and of so many warehouses, with these commits, each in the list of a warehouse.
 pub fn page(
     rt: &impl Abort,
     alloc: Global,
     edition: Edition,
     count: u64,
     commits: Vec<(u64, Commit)>,
-) -> Batch {
+) -> LogPage {
     let mut lists = Vec::new(alloc);
     for _ in 0..count {
         lists.push(Vec::new(alloc)).expect(rt, "a list");
@@ -24,12 +31,12 @@ pub fn page(
         assert!(rt; place < lists.len());
         lists[place].push(commit).expect(rt, "a commit");
     }
-    Batch::new(edition, lists)
+    LogPage { edition, lists }
 }
 
-/// Writes a batch behind others.
-pub fn write(text: &mut Text, page: &Batch) {
-    write_batch(text, page);
+/// Writes a page behind others.
+pub fn write(text: &mut Text, page: &LogPage) {
+    write_lists(text, page.edition, &page.lists);
 }
 
 /// A payment of so many cents in district 1 of a warehouse, by a customer of district 1 of another or of the same.

@@ -1,14 +1,15 @@
 //! Databases that are recovered from logs, and logs that are refused.
 
 ghost use Rattle.std.specs.Prelude.{◌≡◌, length};
+ghost use Rattle.hy_recovery.specs.Recovering.{Counts};
 
-use crate::logs::{delivery, order, page, payment, read, write};
-use hy_batches::{Batch, Batches, Text};
+use crate::logs::{LogPage, delivery, order, page, payment, read, write};
+use hy_batches::{Batches, Text};
 use hy_commands::{Command, Commit, Edition};
 use hy_loads::Load;
 use hy_partition::{Loaded, Partition};
-use hy_passes::{Journal, Kit, Pass, make};
-use hy_recovery::recover;
+use hy_passes::{Journal, Kit, Pass};
+use hy_recovery::{kit_for, recover};
 use hy_rows::Warehouse;
 use hy_schema::Refusal;
 use hy_tables::generate;
@@ -65,6 +66,7 @@ fn recover_in<K: Loaded, R: Abort + AllocGlobal>(
     requires load { load.now ≡ K.load }
     requires kit { kit ≡ K.passes }
     requires partitions { kit.partitions ≡ length load.now.tables.warehouses }
+    requires counts { Counts kit load.now batches.now }
 {
     let alloc = rt.alloc();
     assert!(rt; (1..=10_000).contains(&limits.frames));
@@ -91,7 +93,6 @@ fn recover_in<K: Loaded, R: Abort + AllocGlobal>(
     for place in 0..parts.len() {
         assert!(rt; place < parts.len());
         let part = &mut parts[place];
-        assert!(rt; part.undrained().is_empty());
         seen.kept
             .push(part.kept().len() as u64)
             .expect(rt, "a place");
@@ -101,10 +102,10 @@ fn recover_in<K: Loaded, R: Abort + AllocGlobal>(
     Ok(seen)
 }
 
-/// Recovers a log of these batches on a load of three warehouses, three customers a district, and 20 items.
+/// Recovers a log of these pages on a load of three warehouses, three customers a district, and 20 items.
 fn recovered<R: Abort + AllocGlobal>(
     rt: &R,
-    pages: &[Batch],
+    pages: &[LogPage],
     limits: Limits,
 ) -> Result<Seen, Refusal> {
     let mut text = Text::new(rt.alloc());
@@ -124,8 +125,7 @@ pub fn recovered_of<R: Abort + AllocGlobal>(
 ) -> Result<Seen, Refusal> {
     assert!(rt; (1..=16).contains(&warehouses));
     let load = generate(rt.alloc(), u64::from(warehouses), 3, 20).expect(rt, "a load");
-    assert!(rt; load.tables().warehouses.len() == warehouses as usize);
-    let kit = make::<Commit>(rt.alloc(), warehouses, 1, 1).expect(rt, "a kit");
+    let kit = kit_for(rt.alloc(), &load, batches, 1, 1).expect(rt, "a kit");
     recover_in::<Brand, R>(rt, &load, kit, batches, limits)
 }
 
@@ -139,18 +139,18 @@ fn numbered(number: u64, command: Command) -> Commit {
     Commit::Cross(Edition::Second, number, command)
 }
 
-/// A batch with these commits.
+/// A page with these commits.
 fn batch<R: Abort + AllocGlobal, const N: usize>(
     rt: &R,
     count: u64,
     commits: [(u64, Commit); N],
-) -> Batch {
+) -> LogPage {
     let commits = Vec::from_array(rt.alloc(), commits).expect(rt, "commits");
     page(rt, rt.alloc(), Edition::Second, count, commits)
 }
 
 /// A payment over warehouses 1 and 2 with a number, in both lists.
-fn crossing<R: Abort + AllocGlobal>(rt: &R, number: u64) -> Batch {
+fn crossing<R: Abort + AllocGlobal>(rt: &R, number: u64) -> LogPage {
     batch(
         rt,
         3,
@@ -162,7 +162,7 @@ fn crossing<R: Abort + AllocGlobal>(rt: &R, number: u64) -> Batch {
 }
 
 /// A payment in warehouse 1.
-fn local<R: Abort + AllocGlobal>(rt: &R, customer: u64) -> Batch {
+fn local<R: Abort + AllocGlobal>(rt: &R, customer: u64) -> LogPage {
     batch(rt, 3, [(1, alone(payment(1, 1, customer, 100)))])
 }
 
@@ -212,8 +212,8 @@ fn lists_are_merged(rt: HostRuntime) {
     assert!(&rt; some == Ok(expected(&rt, [3, 2, 3], [30000, 30100, 30250], 3)));
 }
 
-/// A log of these batches is refused at a place.
-fn fails_at<R: Abort + AllocGlobal>(rt: &R, pages: &[Batch], place: u64) {
+/// A log of these pages is refused at a place.
+fn fails_at<R: Abort + AllocGlobal>(rt: &R, pages: &[LogPage], place: u64) {
     assert!(rt; recovered(rt, pages, WIDE) == Err(Refusal::LogMalformed(place)));
 }
 

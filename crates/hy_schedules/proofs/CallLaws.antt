@@ -1,24 +1,22 @@
 -- Calls on one partition, and on each, as events of the whole.
 use Rattle.std.proofs.Common.{◌≡◌, ℕ, zero, suc, ◌+◌, ◌-◌, ◌<◌, true, inl, inr, List, [], ◌∷◌, length, Option, Some, None, refl, sym, ap, ◌∙◌, subst, arith}
-use Rattle.std.specs.Prelude.{IfSome, IsSome, IsSomeAnd, MatchOption, is_some, map, slice_get, slice_index_or, slice_set}
+use Rattle.std.specs.Prelude.{⊤, IfSome, IsSome, IsSomeAnd, MatchOption, is_some, map, slice_get, slice_index_or, slice_set}
 use Rattle.std.specs.Option.{option_map, unwrap_or}
 use Rattle.hy_worlds.specs.Origins.{Origin}
 use Rattle.hy_rows.specs.Tables.{Lists}
 use Rattle.hy_commands.specs.declared.command.Commit.{Commit}
 use Rattle.hy_space.specs.Space.{child_bytes}
-use Rattle.hy_partition.specs.Jobs.{Log, RunningJob}
+use Rattle.hy_partition.specs.Jobs.{Log}
 use Rattle.hy_partition.specs.Partition.{PartitionState, commits_of, terms_of}
 use Rattle.hy_partition.specs.Parts.{KeepsBeside}
 use Rattle.hy_partition.specs.Schedules as one
 use Rattle.hy_partition.specs.Schedules.{Does, DoesStep, Event, IsTaken, IsWorldOf, Leads, Taken, Underway, World, begins, closes, enters, forks, forks_from, fresh_world, rows_of, steps, takes, underway, with_known, with_open}
 use Rattle.hy_partition.specs.Snapshots.{SnapshotState}
-use Rattle.hy_partition.specs.Steps.{Begins, Closes, Forks, ForksFrom, KeepsJob, RefusesAt, StepsTo}
-use Rattle.hy_partition.specs.declared.job.Progress.{Progress}
-use Rattle.hy_partition.specs.declared.job.Progress.TheVariants as progress
+use Rattle.hy_partition.specs.Steps.{Begins, Closes, Forks, ForksFrom, KeepsJob}
 use Rattle.hy_crossing.specs.Lists.{Pairwise}
-use Rattle.hy_forks.specs.Drains.{DrainsHere, TellsHere}
+use Rattle.hy_forks.specs.Drains.{TellsHere}
 use Rattle.hy_forks.specs.Forks.{ClosesHere, ForksAll, ForksAllFrom, ForksFromHere, ForksHere, IsUnforked}
-use Rattle.hy_schedules.specs.Schedules.{ArePlacesOf, IsPlaceOf, IsWholeOf, LeadsAll, Place, Whole, at, children_of, closes_all, drains, each_changed, forks_all, forks_all_from, fresh_place, fresh_whole, is_local, looks, place_at, with_drained, with_places, with_snapshot, with_snapshot_from, without_snapshot, world_at}
+use Rattle.hy_schedules.specs.Schedules.{ArePlacesOf, DoesAll, EventOfAll, IsPlaceOf, IsWholeOf, LeadsAll, Place, Whole, at, children_of, closes_all, drains, each_changed, forks_all, forks_all_from, fresh_place, fresh_whole, is_local, looks, place_at, with_drained, with_places, with_snapshot, with_snapshot_from, without_snapshot, world_at}
 
 -- ---- the places of partitions
 
@@ -46,17 +44,13 @@ pub place-carried : (n : ℕ) (log after : Log) (whole next : Whole) (number : �
     → next.load ≡ whole.load → next.log ≡ after → IsPlaceOf n log whole number p place
     → IsPlaceOf n after next number p place
 place-carried n log after whole next number p place load log_is is = record {
-  world = record {
-    load = load ∙ is.world.load;
-    warehouse = is.world.warehouse;
-    live = is.world.live;
-    log_is = log_is;
-    kept = is.world.kept;
-    running = is.world.running;
-    waits = is.world.waits;
-    snapshots = is.world.snapshots;
-  };
-  drained = is.drained;
+  load = load ∙ is.load;
+  warehouse = is.warehouse;
+  log_is = log_is;
+  kept = is.kept;
+  running = is.running;
+  waits = is.waits;
+  snapshots = is.snapshots;
 }
 
 pub places-carried : (n : ℕ) (log after : Log) (whole next : Whole) → next.load ≡ whole.load → next.log ≡ after
@@ -171,10 +165,9 @@ beside-job p q job commits bytes = record {
   bytes = bytes;
 }
 
--- a partition that was told a serial list, or of which more counts as drained
-pub beside-told : (p : PartitionState) (log : Log) (drained : ℕ)
-    → IsBeside p (record p { seen = log; drained = drained })
-beside-told p log drained = record {
+-- a partition that was told a serial list
+pub beside-told : (p : PartitionState) (log : Log) → IsBeside p (record p { seen = log })
+beside-told p log = record {
   terms = refl;
   running = refl;
   finished = refl;
@@ -192,31 +185,25 @@ taken-same n p q child taken commits bytes is =
 
 pub place-beside : (n : ℕ) (log after : Log) (whole next : Whole) (number : ℕ) (p q : PartitionState)
     (place : Place) (kept : List Commit) (drained : ℕ) → IsBeside p q → next.load ≡ whole.load → next.log ≡ after
-    → kept ≡ q.kept → drained ≡ q.drained → IsPlaceOf n log whole number p place
+    → kept ≡ q.kept → IsPlaceOf n log whole number p place
     → IsPlaceOf n after next number q (record place { kept = kept; drained = drained })
-place-beside n log after whole next number p q place kept drained beside load log_is kept_is drained_is is = record {
-  world = record {
-    load = load ∙ is.world.load ∙ sym (ap (λ t. t.load) beside.terms);
-    warehouse = is.world.warehouse ∙ sym (ap (λ t. t.warehouse) beside.terms);
-    live = ap (λ t. t.replays) beside.terms ∙ is.world.live;
-    log_is = log_is;
-    kept = kept_is;
-    running = is.world.running ∙ sym (ap (option_map underway) beside.running);
-    waits = is.world.waits ∙ sym (ap is_some beside.finished);
-    snapshots = λ child.
-        taken-same n p q child (place.open_at child) (beside.commits child) (beside.bytes child)
-        (is.world.snapshots child);
-  };
-  drained = drained_is;
+place-beside n log after whole next number p q place kept drained beside load log_is kept_is is = record {
+  load = load ∙ is.load ∙ sym (ap (λ t. t.load) beside.terms);
+  warehouse = is.warehouse ∙ sym (ap (λ t. t.warehouse) beside.terms);
+  log_is = log_is;
+  kept = kept_is;
+  running = is.running ∙ sym (ap (option_map underway) beside.running);
+  waits = is.waits ∙ sym (ap is_some beside.finished);
+  snapshots = λ child.
+      taken-same n p q child (place.open_at child) (beside.commits child) (beside.bytes child) (is.snapshots child);
 }
 
 -- nothing that the model sees changed
 pub place-stays : (n : ℕ) (log : Log) (whole : Whole) (number : ℕ) (p q : PartitionState) (place : Place)
-    → IsBeside p q → q.kept ≡ p.kept → q.drained ≡ p.drained → IsPlaceOf n log whole number p place
-    → IsPlaceOf n log whole number q place
-place-stays n log whole number p q place beside kept drained is =
-    place-beside n log log whole whole number p q place place.kept place.drained beside refl is.world.log_is
-    (is.world.kept ∙ sym kept) (is.drained ∙ sym drained) is
+    → IsBeside p q → q.kept ≡ p.kept → IsPlaceOf n log whole number p place → IsPlaceOf n log whole number q place
+place-stays n log whole number p q place beside kept is =
+    place-beside n log log whole whole number p q place place.kept place.drained beside refl is.log_is
+    (is.kept ∙ sym kept) is
 
 -- ---- calls on one partition
 
@@ -262,21 +249,31 @@ place_of world drained = record {
   open_at = world.open_at;
 }
 
+-- an event that leads somewhere, and leaves clients who know what fits
+abbrev pub LeadsFitting : ((ℕ → ℕ) → Type 0) → ℕ → Event → World → Log → PartitionState → Type 0
+LeadsFitting Fits n event world log p =
+    (next : World) × Does event world next × IsWorldOf n log p next × Fits next.known
+
+abbrev pub LeadsAllFitting : ((ℕ → ℕ) → Type 0) → ℕ → EventOfAll → Whole → Log → List PartitionState → Type 0
+LeadsAllFitting Fits n event whole log parts =
+    (next : Whole) × DoesAll event whole next × IsWholeOf n log parts next × Fits next.known
+
 module _ (n place : ℕ) (log after : Log) (parts : List PartitionState) (whole : Whole)
     (is : IsWholeOf n log parts whole) (within : place < length parts) where
-  -- what leads from the world of a partition to the one of a partition leads from whole to whole
-  pub leads-at : (event : Event) (p q : PartitionState) (news : List PartitionState) → is_local event ≡ true
-      → p ≡ slice_index_or parts place p → news ≡ slice_set parts place q → q.drained ≡ p.drained
+  -- what leads from the world of a partition to the one of a partition leads from whole to whole, and what fits the clients
+  -- of the one world fits those of the whole
+  pub leads-fitting : (Fits : (ℕ → ℕ) → Type 0) (event : Event) (p q : PartitionState) (news : List PartitionState)
+      → is_local event ≡ true → p ≡ slice_index_or parts place p → news ≡ slice_set parts place q
       → ((before : Place) → IsWorldOf n log p (world_at whole (suc place) before)
-      → Leads n event (world_at whole (suc place) before) after q)
-      → LeadsAll n (at (suc place) event) whole after news
-  leads-at event p q news is_here here news_is drained leads =
+      → LeadsFitting Fits n event (world_at whole (suc place) before) after q)
+      → LeadsAllFitting Fits n (at (suc place) event) whole after news
+  leads-fitting Fits event p q news is_here here news_is leads =
       let found = places-get n log whole 1 parts whole.places place p is.1 within here in
       let first : 1 + place ≡ suc place = omega arith in
       let before : Place = found.0 in
       let at_place : IsPlaceOf n log whole (suc place) p before =
       subst (λ k. IsPlaceOf n log whole k p before) first found.2 in
-      let led = leads before at_place.world in
+      let led = leads before at_place in
       let world : World = led.0 in
       let terms = terms-event event (world_at whole (suc place) before) world led.1 in
       let later : Place = place_of world before.drained in
@@ -286,10 +283,8 @@ module _ (n place : ℕ) (log after : Log) (parts : List PartitionState) (whole 
         known = world.known;
         places = slice_set whole.places place later;
       } in
-      let there : IsPlaceOf n after next (suc place) q later = record {
-        world = subst (λ k. IsWorldOf n after q (record world { warehouse = k })) terms.1 led.2;
-        drained = at_place.drained ∙ sym drained;
-      } in (
+      let there : IsPlaceOf n after next (suc place) q later =
+      subst (λ k. IsWorldOf n after q (record world { warehouse = k })) terms.1 led.2 in (
         next,
         (
           is_here,
@@ -309,7 +304,18 @@ module _ (n place : ℕ) (log after : Log) (parts : List PartitionState) (whole 
               (places-set n log after whole next terms.0 led.2.log_is 1 place parts whole.places q later
               (subst (λ k. IsPlaceOf n after next k q later) (sym first) there) is.1),
         ),
+        led.3,
       )
+
+  pub leads-at : (event : Event) (p q : PartitionState) (news : List PartitionState) → is_local event ≡ true
+      → p ≡ slice_index_or parts place p → news ≡ slice_set parts place q
+      → ((before : Place) → IsWorldOf n log p (world_at whole (suc place) before)
+      → Leads n event (world_at whole (suc place) before) after q)
+      → LeadsAll n (at (suc place) event) whole after news
+  leads-at event p q news is_here here news_is leads =
+      let led = leads-fitting (λ known. ⊤) event p q news is_here here news_is (λ before is.
+      let one = leads before is in (one.0, one.1, one.2, tt)) in
+      (led.0, led.1, led.2)
 
   -- where nothing changes that the model sees, the whole stays
   pub stays-at : (p q : PartitionState) (news : List PartitionState) → p ≡ slice_index_or parts place p
@@ -318,7 +324,7 @@ module _ (n place : ℕ) (log after : Log) (parts : List PartitionState) (whole 
   stays-at p q news here news_is job commits bytes =
       let found = places-get n log whole 1 parts whole.places place p is.1 within here in
       let beside = beside-job p q job commits bytes in
-      let there = place-stays n log whole (1 + place) p q found.0 beside job.kept job.drained found.2 in (
+      let there = place-stays n log whole (1 + place) p q found.0 beside job.kept found.2 in (
         is.0,
         subst (λ (l : List PartitionState). ArePlacesOf n log whole 1 l whole.places) (sym news_is)
             (subst (λ (l : List Place). ArePlacesOf n log whole 1 (slice_set parts place q) l)
@@ -333,25 +339,6 @@ module _ (n place : ℕ) (log after : Log) (parts : List PartitionState) (whole 
       set-same (first ∷ places) (suc place) row there =
           ap (λ (l : List Place). first ∷ l) (set-same places place row there)
 
--- no step changes what was drained
-pub drained-step : (job : RunningJob) (log after : Log) (p q : PartitionState) (reached : Progress)
-    → StepsTo job (Some log) (Some after) p q reached → q.drained ≡ p.drained
-drained-step job log after p q progress.More did = did.2.rest.drained
-drained-step job log after p q progress.Finished did = elim did [
-  | inl last ↦ last.1.does.ends.rest.drained
-  | inr refuses ↦ drained-refused job job.slices p q refuses.1
-]
-  where
-    drained-refused : (job : RunningJob) (done : ℕ) (p q : PartitionState) → RefusesAt job done p q
-        → q.drained ≡ p.drained
-    drained-refused job done p q refuses = elim refuses.reason [
-      | inl item ↦ item.2.rest.drained
-      | inr other ↦ elim other [
-        | inl frame ↦ frame.2.rest.drained
-        | inr memory ↦ memory.1.rest.drained
-      ]
-    ]
-
 -- ---- calls on each
 
 fresh-places : (n : ℕ) (lists : Lists) (frames commits : ℕ)
@@ -364,7 +351,7 @@ fresh-places n lists frames commits is [] number [] count each = tt
 fresh-places n lists frames commits is (row ∷ rows) number (p ∷ parts) count each =
     let same : number + 0 ≡ number = omega arith in
     let begins = subst (λ k. Begins lists k frames commits p) same (each 0) in (
-      record { world = is number p begins; drained = sym begins.drained },
+      is number p begins,
       fresh-places n lists frames commits is rows (suc number) parts (omega (arith, count)) (λ place.
           let next : number + suc place ≡ suc number + place = omega arith in
           subst (λ k. IfSome (slice_get parts place) (Begins lists k frames commits)) next (each (suc place))),
@@ -386,7 +373,7 @@ is-fresh n lists frames commits parts is count each = (
 )
 
 -- the snapshot at the place of a number has the number that the model gives it there
-snapshot-here : (snapshots : List SnapshotState) (number : ℕ) (Holds : SnapshotState → Type 0)
+pub snapshot-here : (snapshots : List SnapshotState) (number : ℕ) (Holds : SnapshotState → Type 0)
     → IsSomeAnd (slice_get snapshots (number - 1)) Holds
     → (snapshot : SnapshotState) × (children_of snapshots number ≡ snapshot.child) × Holds snapshot
 snapshot-here snapshots number Holds here =
@@ -402,8 +389,8 @@ module _ (n : ℕ) (log : Log) (parts news : List PartitionState) (whole : Whole
   stays-unforked pairs = (
     is.0,
     places-same n log log whole whole (λ number. IsUnforked log) (λ number p q place same was.
-        place-stays n log whole number p q place (beside-job p q same.job same.snapshots same.bytes) same.job.kept
-        same.job.drained was) 1 parts news whole.places pairs is.1,
+        place-stays n log whole number p q place (beside-job p q same.job same.snapshots same.bytes) same.job.kept was)
+        1 parts news whole.places pairs is.1,
   )
 
   pub stays-told : Pairwise (TellsHere log) 1 parts news → IsWholeOf n log news whole
@@ -411,31 +398,24 @@ module _ (n : ℕ) (log : Log) (parts news : List PartitionState) (whole : Whole
     is.0,
     places-same n log log whole whole (TellsHere log) (λ number p q place told was.
         subst (λ (now : PartitionState). IsPlaceOf n log whole number now place) (sym told.0)
-        (place-stays n log whole number p (record p { seen = log }) place (beside-told p log p.drained) refl refl was))
+        (place-stays n log whole number p (record p { seen = log }) place (beside-told p log) refl was))
         1 parts news whole.places pairs is.1,
   )
 
-  pub leads-drain : Pairwise (DrainsHere log) 1 parts news → LeadsAll n drains whole log news
+  pub leads-drain : Pairwise (TellsHere log) 1 parts news → LeadsAll n drains whole log news
   leads-drain pairs = (
     with_places with_drained whole,
     refl,
     (
       is.0,
-      places-changed n log log whole (with_places with_drained whole) with_drained (DrainsHere log)
-          (λ number p q place drained was.
+      places-changed n log log whole (with_places with_drained whole) with_drained (TellsHere log)
+          (λ number p q place told was.
           subst (λ (now : PartitionState).
-          IsPlaceOf n log (with_places with_drained whole) number now (with_drained number place))
-          (sym drained.0) (drained-here p place number was)) 1 parts news whole.places pairs is.1,
+          IsPlaceOf n log (with_places with_drained whole) number now (with_drained number place)) (sym told.0)
+          (place-beside n log log whole (with_places with_drained whole) number p (record p { seen = log }) place
+          place.kept (length place.kept) (beside-told p log) refl is.0 was.kept was)) 1 parts news whole.places pairs is.1,
     ),
   )
-    where
-      drained-here : (p : PartitionState) (place : Place) (number : ℕ) → IsPlaceOf n log whole number p place
-          → IsPlaceOf n log (with_places with_drained whole) number (record p { seen = log; drained = length p.kept })
-          (with_drained number place)
-      drained-here p place number was =
-          place-beside n log log whole (with_places with_drained whole) number p
-          (record p { seen = log; drained = length p.kept }) place place.kept (length place.kept)
-          (beside-told p log (length p.kept)) refl is.0 was.world.kept (ap length was.world.kept) was
 
   pub leads-look : (client : ℕ) → LeadsAll n (looks client) whole log parts
   leads-look client = (
@@ -462,7 +442,7 @@ module _ (n : ℕ) (log : Log) (parts news : List PartitionState) (whole : Whole
         → IsPlaceOf n log whole number p place → place.open_at (children_of snapshots number) ≡ None
     free-here number p q place here was =
         let found = snapshot-here snapshots number (λ snapshot. Forks n kit log known p q snapshot) here in
-        let led = leads p q (world_at whole number place) found.0 was.world found.2 in
+        let led = leads p q (world_at whole number place) found.0 was found.2 in
         ap place.open_at found.1 ∙ led.1.0
 
     place-forked : (number : ℕ) (p q : PartitionState) (place : Place) → ForksHere n kit log known snapshots number p q
@@ -470,19 +450,16 @@ module _ (n : ℕ) (log : Log) (parts news : List PartitionState) (whole : Whole
         → IsPlaceOf n log next number q (with_snapshot whole (children_of snapshots) number place)
     place-forked number p q place here was =
         let found = snapshot-here snapshots number (λ snapshot. Forks n kit log known p q snapshot) here in
-        let led = leads p q (world_at whole number place) found.0 was.world found.2 in
+        let led = leads p q (world_at whole number place) found.0 was found.2 in
         let taken : Taken = record { commits = length place.kept; rows = rows_of (world_at whole number place) } in
         let world : IsWorldOf n log q (record (world_at whole number place) {
           known = with_known whole.known client whole.log;
           open_at = with_open place.open_at found.0.child (Some taken);
         }) = subst (λ (w : World). IsWorldOf n log q w) led.1.1 led.2 in
-        record {
-          world = subst (λ k. IsWorldOf n log q (record (world_at whole number place) {
-            known = with_known whole.known client whole.log;
-            open_at = with_open place.open_at k (Some taken);
-          })) (sym found.1) world;
-          drained = was.drained ∙ sym found.2.job.drained;
-        }
+        subst (λ k. IsWorldOf n log q (record (world_at whole number place) {
+          known = with_known whole.known client whole.log;
+          open_at = with_open place.open_at k (Some taken);
+        })) (sym found.1) world
 
     pub leads-fork_all : LeadsAll n (forks_all client (children_of snapshots)) whole log news
     leads-fork_all = (
@@ -534,7 +511,7 @@ module _ (n : ℕ) (log : Log) (parts news : List PartitionState) (whole : Whole
         → IsSome (place.open_at (children_of all number)) × (place.open_at (children_of snapshots number) ≡ None)
     may-here number p q place here was =
         let both = both-here number p q here in
-        let led = leads p q (world_at whole number place) both.from both.snapshot was.world both.forks in (
+        let led = leads p q (world_at whole number place) both.from both.snapshot was both.forks in (
           subst (λ k. IsSome (place.open_at k)) (sym both.from_is) led.1.0,
           ap place.open_at both.snapshot_is ∙ led.1.1,
         )
@@ -544,18 +521,15 @@ module _ (n : ℕ) (log : Log) (parts news : List PartitionState) (whole : Whole
         → IsPlaceOf n log again_whole number q (with_snapshot_from (children_of all) (children_of snapshots) number place)
     place-again number p q place here was =
         let both = both-here number p q here in
-        let led = leads p q (world_at whole number place) both.from both.snapshot was.world both.forks in
+        let led = leads p q (world_at whole number place) both.from both.snapshot was both.forks in
         let world : IsWorldOf n log q (record (world_at whole number place) {
           open_at = with_open place.open_at both.snapshot.child (place.open_at both.from.child);
         }) = subst (λ (w : World). IsWorldOf n log q w) led.1.2 led.2 in
-        record {
-          world = subst (λ k. IsWorldOf n log q (record (world_at whole number place) {
-            open_at = with_open place.open_at (children_of snapshots number) (place.open_at k);
-          })) (sym both.from_is) (subst (λ k. IsWorldOf n log q (record (world_at whole number place) {
-            open_at = with_open place.open_at k (place.open_at both.from.child);
-          })) (sym both.snapshot_is) world);
-          drained = was.drained ∙ sym both.forks.job.drained;
-        }
+        subst (λ k. IsWorldOf n log q (record (world_at whole number place) {
+          open_at = with_open place.open_at (children_of snapshots number) (place.open_at k);
+        })) (sym both.from_is) (subst (λ k. IsWorldOf n log q (record (world_at whole number place) {
+          open_at = with_open place.open_at k (place.open_at both.from.child);
+        })) (sym both.snapshot_is) world)
 
     pub leads-fork_all_from : LeadsAll n (forks_all_from (children_of all) (children_of snapshots)) whole log news
     leads-fork_all_from = (
@@ -592,7 +566,7 @@ module _ (n : ℕ) (log : Log) (parts news : List PartitionState) (whole : Whole
         → IsPlaceOf n log whole number p place → IsSome (place.open_at (children_of snapshots number))
     open-here number p q place here was =
         let found = snapshot-here snapshots number (λ snapshot. Closes p q snapshot.child) here in
-        let led = leads p q (world_at whole number place) found.0.child was.world found.2 in
+        let led = leads p q (world_at whole number place) found.0.child was found.2 in
         subst (λ k. IsSome (place.open_at k)) (sym found.1) led.1.0
 
     place-closed : (number : ℕ) (p q : PartitionState) (place : Place) → ClosesHere snapshots number p q
@@ -600,16 +574,13 @@ module _ (n : ℕ) (log : Log) (parts news : List PartitionState) (whole : Whole
         → IsPlaceOf n log closed_whole number q (without_snapshot (children_of snapshots) number place)
     place-closed number p q place here was =
         let found = snapshot-here snapshots number (λ snapshot. Closes p q snapshot.child) here in
-        let led = leads p q (world_at whole number place) found.0.child was.world found.2 in
+        let led = leads p q (world_at whole number place) found.0.child was found.2 in
         let world : IsWorldOf n log q (record (world_at whole number place) {
           open_at = with_open place.open_at found.0.child None;
         }) = subst (λ (w : World). IsWorldOf n log q w) led.1.1 led.2 in
-        record {
-          world = subst (λ k. IsWorldOf n log q (record (world_at whole number place) {
-            open_at = with_open place.open_at k None;
-          })) (sym found.1) world;
-          drained = was.drained ∙ sym found.2.job.drained;
-        }
+        subst (λ k. IsWorldOf n log q (record (world_at whole number place) {
+          open_at = with_open place.open_at k None;
+        })) (sym found.1) world
 
     pub leads-close_all : LeadsAll n (closes_all (children_of snapshots)) whole log news
     leads-close_all = (

@@ -1,2 +1,4 @@
 pub mod Schedules
 pub mod WorkedSchedules
+pub mod Clients
+pub mod WorkedClients

@@ -260,10 +260,8 @@ HasSnapshotOf database number child place =
 -- ---- the whole of some partitions
 
 -- the world of a place is that of a partition
-pub record IsPlaceOf (n : ℕ) (log : Log) (whole : Whole) (number : ℕ) (p : PartitionState) (place : Place)
-    : Type 0 where
-  pub world : IsWorldOf n log p (world_at whole number place)
-  pub drained : place.drained ≡ p.drained
+abbrev pub IsPlaceOf : ℕ → Log → Whole → ℕ → PartitionState → Place → Type 0
+IsPlaceOf n log whole number p place = IsWorldOf n log p (world_at whole number place)
 
 -- so it is for each, as many as there are
 abbrev pub ArePlacesOf : ℕ → Log → Whole → ℕ → List PartitionState → List Place → Type 0
@@ -275,6 +273,11 @@ ArePlacesOf n log whole number parts places = ⊥
 -- a whole is that of partitions, one for each warehouse in order, beside a journal with this serial list
 abbrev pub IsWholeOf : ℕ → Log → List PartitionState → Whole → Type 0
 IsWholeOf n log parts whole = (whole.log ≡ log) × ArePlacesOf n log whole 1 parts whole.places
+
+-- what was drained of each warehouse is what it has of a beginning of the serial list
+abbrev pub IsDrainedTo : Log → Whole → Type 0
+IsDrainedTo seen whole = (number : ℕ)
+    → IfSome (place_at whole.places number) (λ place. place.drained ≡ length (projection_of number seen))
 
 -- an event happens in a whole, and leaves that of partitions beside a journal with this serial list
 abbrev pub LeadsAll : ℕ → EventOfAll → Whole → Log → List PartitionState → Type 0

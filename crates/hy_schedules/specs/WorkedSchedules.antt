@@ -33,7 +33,7 @@ customers_in number = map {A = Customer} {B = Customer} (λ row. record row { wa
 abbrev stock_in : ℕ → ℕ → Stock
 stock_in number item = record (stock item) { warehouse = number }
 
-abbrev lists : Lists
+abbrev pub lists : Lists
 lists = record {
   items = items;
   tables = record no_rows {
@@ -47,7 +47,7 @@ lists = record {
 -- ---- commands
 
 -- 25.00 in warehouse 1, of a customer there
-abbrev pay : Command
+abbrev pub pay : Command
 pay = commands.Payment record {
   warehouse = 1;
   district = 1;
@@ -66,11 +66,11 @@ abbrev purchase : List PurchaseLine → Command
 purchase lines =
     commands.NewOrder record { warehouse = 2; district = 1; customer = 1; at = 8; lines = line 1 1 ∷ lines }
 
-abbrev order : Command
+abbrev pub order : Command
 order = purchase (line 2 2 ∷ line 3 2 ∷ line 4 2 ∷ line 5 2 ∷ [])
 
 -- the same, but for the last item, which isn't there
-abbrev missing : Command
+abbrev pub missing : Command
 missing = purchase (line 2 2 ∷ line 3 2 ∷ line 4 2 ∷ line 21 2 ∷ [])
 
 -- ---- the wholes between the events
@@ -78,40 +78,40 @@ missing = purchase (line 2 2 ∷ line 3 2 ∷ line 4 2 ∷ line 21 2 ∷ [])
 abbrev job : ℕ → Underway
 job slices = record { edition = editions.Second; command = pay; slices = slices; client = 5; stamp = 0 }
 
-abbrev start : Whole
+abbrev pub start : Whole
 start = fresh_whole lists
 
-abbrev paying : ℕ → Whole
+abbrev pub paying : ℕ → Whole
 paying slices = record start { places = record fresh_place { running = Some (job slices) } ∷ fresh_place ∷ [] }
 
 -- the payment is accepted, and its answer waits
-abbrev paid : Whole
+abbrev pub paid : Whole
 paid = record start {
   log = record { commit = commits.Local editions.Second pay; stamp = 0 } ∷ [];
   known = with_known start.known 5 (record { commit = commits.Local editions.Second pay; stamp = 0 } ∷ []);
   places = record fresh_place { kept = commits.Local editions.Second pay ∷ []; waits = true } ∷ fresh_place ∷ [];
 }
 
-abbrev bought : Whole
+abbrev pub bought : Whole
 bought = with_entry paid 6 (entry_behind paid order 0)
 
 -- client 7 has a snapshot, under number 5 in warehouse 1 and 6 in warehouse 2
 abbrev children : ℕ → ℕ
 children number = number + 4
 
-abbrev forked : Whole
+abbrev pub forked : Whole
 forked = record (with_places (with_snapshot bought children) bought) { known = with_known bought.known 7 bought.log }
 
-abbrev drained : Whole
+abbrev pub drained : Whole
 drained = with_places with_drained forked
 
-abbrev place_in : Whole → ℕ → Place
+abbrev pub place_in : Whole → ℕ → Place
 place_in whole number = unwrap_or (place_at whole.places number) fresh_place
 
 abbrev looked : Whole
 looked = record drained { known = with_known drained.known 5 drained.log }
 
-abbrev last : Whole
+abbrev pub last : Whole
 last = with_places (without_snapshot children) looked
 
 abbrev events : List EventOfAll

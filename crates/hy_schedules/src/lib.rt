@@ -3,4 +3,7 @@
 
 mod theorem;
 
-pub use theorem::{calls_of_all_are_events, every_schedule_of_all};
+pub use theorem::{
+    calls_of_all_are_events, calls_of_all_tell_clients, drains_come_to_the_end,
+    every_schedule_of_all,
+};

@@ -161,7 +161,6 @@ KeepsJob-same : (p : PartitionState) → KeepsJob p p
 KeepsJob-same p = record {
   terms = refl;
   kept = refl;
-  drained = refl;
   book = refl;
   running = refl;
   part = refl;

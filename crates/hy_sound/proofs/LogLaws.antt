@@ -1,5 +1,5 @@
 -- Of logs, whose first batches were looked at.
-use Rattle.std.proofs.Common.{◌≡◌, ◌≤◌, ◌+◌, ℕ, zero, suc, List, [], ◌∷◌, length, take, drop, slice_get, Some, Option, sym, ap, ◌∙◌, arith, length-append, subst}
+use Rattle.std.proofs.Common.{◌≡◌, ◌≤◌, ◌+◌, ℕ, zero, suc, List, [], ◌∷◌, length, take, drop, slice_get, Some, Option, refl, sym, ap, ◌∙◌, arith, length-append, subst}
 use Rattle.std.proofs.lemmas.List.Concat.{flat_map-cons}
 use Rattle.std.specs.Prelude.{MatchOption}
 use Rattle.hy_rows.specs.Tables.{Lists}
@@ -56,3 +56,12 @@ pub found-is : (known lists : Lists) (before : ℕ) (batch : Batch) (found is : 
 found-is known lists before batch found is same here finds =
     subst (λ found. Finds lists before batch found) here
     (subst (λ (lists : Lists). Finds lists before batch found) same finds)
+
+-- the first batches of a sound log
+pub sound-beginning : (lists : Lists) (before after : ℕ) (batches : List Batch) (count : ℕ)
+    → AreSound lists before after batches → (last : ℕ) × AreSound lists before last (take count batches)
+sound-beginning lists before after batches zero is = (before, refl)
+sound-beginning lists before after [] (suc count) is = (before, refl)
+sound-beginning lists before after (batch ∷ batches) (suc count) is =
+    let later = sound-beginning lists is.0 after batches count is.2 in
+    (later.0, (is.0, is.1, later.1))

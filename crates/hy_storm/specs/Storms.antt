@@ -1,5 +1,5 @@
 -- What a storm comes to.
-use Rattle.std.specs.Prelude.{◌≡◌, ◌≤◌, ℕ, zero, suc, ◌+◌, ℤ, pos, ◌+ℤ◌, ◌-ℤ◌, List, None, IfSome, length, slice_get}
+use Rattle.std.specs.Prelude.{◌≡◌, ◌≤◌, ℕ, zero, suc, ◌+◌, ℤ, pos, ◌+ℤ◌, ◌-ℤ◌, List, Option, None, IfSome, length, slice_get}
 use Rattle.hy_rows.specs.Tables.{Lists, of_warehouse}
 use Rattle.hy_schema.specs.Conditions.{first_broken}
 use Rattle.hy_ledger.specs.declared.totals.Totals.{Totals}
@@ -11,6 +11,10 @@ use Rattle.hy_partition.specs.Jobs.{Log}
 use Rattle.hy_partition.specs.Partition.{PartitionState, projection_of}
 use Rattle.hy_crossing.specs.Crossings.{database_behind}
 use Rattle.hy_database.specs.Database.{all_rows}
+use Rattle.hy_batches.specs.Batches.{Batch}
+use Rattle.hy_redo.specs.Calls.{LogState}
+use Rattle.hy_redo.specs.Disk.{BeginsBehind}
+use Rattle.hy_forks.specs.Logged.{SaySame}
 use Rattle.hy_storm.specs.declared.ending.Figures.{Figures}
 
 -- how many commits of a serial list have one of the first warehouses as their home
@@ -39,11 +43,10 @@ HaveKept log parts = (place : ℕ) → IfSome (slice_get parts place) (λ p. p.k
 abbrev pub HaveBooks : Lists → Log → ℕ → Totals → Type 0
 HaveBooks lists log count books = (books.commits ≡ kept_up_to log count) × (pos books.cents ≡ grown_up_to lists log count)
 
--- there is a serial list: the figures have its commits, each at its home, and what W_YTD grows by with them. Of two
--- more figures, in the code what the terminals' shares come to, the commits are no more than these, and where they are
--- as many the cents are that growth. The database behind the list meets the consistency conditions
-pub record AreFigures (lists : Lists) (figures : Figures) : Type 0 where
-  pub log : Log
+-- figures have the commits of a serial list, each at its home, and what W_YTD grows by with them. Of two more figures, in the
+-- code what the terminals' shares come to, the commits are no more than these, and where they are as many the cents are that
+-- growth. The database behind the list meets the consistency conditions
+pub record AreFiguresBehind (lists : Lists) (log : Log) (figures : Figures) : Type 0 where
   pub serial : IsSerial warehouses_of_commit number_of (warehouses_of_load lists) log
   pub kept : figures.kept ≡ kept_up_to log (warehouses_of_load lists)
   pub growth : figures.growth ≡ grown_up_to lists log (warehouses_of_load lists)
@@ -51,3 +54,21 @@ pub record AreFigures (lists : Lists) (figures : Figures) : Type 0 where
   pub settled : figures.commits ≡ figures.kept → pos figures.cents ≡ figures.growth
   pub consistent : first_broken (all_rows (database_behind lists log)) ≡ None
   pub holds : figures.broken ≡ None
+
+-- there is a serial list of which they are the figures
+abbrev pub AreFigures : Lists → Figures → Type 0
+AreFigures lists figures = (log : Log) × AreFiguresBehind lists log figures
+
+-- ---- the log
+
+-- the bytes of a log are whole batches, all of them synced, which say the same as a serial list: joined they are what each
+-- warehouse has kept of it
+abbrev pub HasAll : Lists → Log → LogState → Type 0
+HasAll lists serial log = (batches : List Batch) × SaySame lists batches serial × BeginsBehind batches log
+
+-- where no thread ended early and nothing that was drained was refused by the log, the log has all of the serial list whose
+-- figures these are
+abbrev pub AreLogged : Lists → Figures → Option LogState → Type 0
+AreLogged lists figures log =
+    (serial : Log) × AreFiguresBehind lists serial figures
+    × (figures.refusal ≡ None → IfSome log (HasAll lists serial))

@@ -9,12 +9,11 @@ ghost use Rattle.hy_crossing.specs.Crossings.{ArePartitions, HaveNoPart, databas
 ghost use Rattle.hy_database.specs.Database.{all_rows};
 ghost use Rattle.hy_forks.specs.Forks.{AreOfKit, are_from};
 ghost use Rattle.hy_session.specs.Reports.{broken_condition};
-ghost use Rattle.hy_storm.specs.Storms.{AreFigures, HaveBooks, HaveKept, warehouses_of_load};
+ghost use Rattle.hy_storm.specs.Storms.{AreFiguresBehind, HaveBooks, HaveKept, warehouses_of_load};
 
 use crate::PAGE_BYTES;
 use crate::threads::Gathered;
 use hy_commands::Commit;
-use hy_crossing::are_partitions;
 use hy_forks::{find_history, fork_all};
 use hy_ledger::Balance;
 use hy_partition::{Loaded, Partition};
@@ -44,8 +43,7 @@ pub struct Figures {
     pub refusal: Option<Refusal>,
 }
 
-/// The sums at the end, over all partitions: what the terminals have beside the books of all warehouses. E4 where the
-/// partitions aren't those of the load; E2; E1.
+/// The sums at the end, over all partitions: what the terminals have beside the books of all warehouses. E2; E1.
 pub fn figures_of<K: Loaded>(
     alloc: Global,
     mut parts: Vec<Partition<PAGE_BYTES, K>>,
@@ -54,11 +52,12 @@ pub fn figures_of<K: Loaded>(
     gathered: Gathered<K>,
 ) -> Result<Figures, Refusal>
     requires partitions { K.passes.partitions ≡ warehouses_of_load K.load }
-    ensures { IfOk result (AreFigures K.load) }
+    requires some { 1 ≤ length parts.items }
+    requires parts { ArePartitions K.load parts.items }
+    requires whole { HaveNoPart parts.items }
+    ensures figures { IfOk result (AreFiguresBehind K.load journal.list.log) }
+    ensures refusal { IfOk result (λ figures. figures.refusal ≡ None → gathered.unlogged ≡ None) }
 {
-    if !are_partitions(&mut parts) {
-        return Err(Refusal::NoSuchWarehouse);
-    }
     find_history(&mut parts, &mut journal);
     let mut balance = Balance::new(gathered.purse);
     audit_all(&mut parts, &mut balance);

@@ -15,7 +15,6 @@ mod threads;
 pub use commands::command_of;
 pub use ending::Figures;
 pub use hy_engine::{Gate, Open};
-pub use logging::Logged;
 pub use run::{Size, storm};
 pub use shape::Shape;
 

@@ -1,21 +1,23 @@
 //! The storm.
 
-ghost use Rattle.std.specs.Prelude.{◌≡◌, ◌+◌, ◌≤◌, IfOk, length};
-ghost use Rattle.hy_storm.specs.Storms.{AreFigures};
+ghost use Rattle.std.specs.Prelude.{◌≡◌, ◌+◌, ◌≤◌, [], IfOk, IfSome, IsSome, length};
+ghost use Rattle.hy_redo.specs.Disk.{BeginsBehind};
+ghost use Rattle.hy_storm.specs.Storms.{AreFigures, AreLogged, warehouses_of_load};
 
 use crate::PAGE_BYTES;
 use crate::ending::{Figures, figures_of};
 use crate::kept::Kept;
-use crate::logging::{Logged, drain_to};
+use crate::logging::{end_log, followed, taken_out, unlocked};
 use crate::shape::Shape;
-use crate::threads::{Crew, run_threads};
+use crate::threads::{Crew, Gathered, run_threads};
 use hy_commands::Commit;
-use hy_crossing::partitions_of;
+use hy_crossing::{are_partitions, partitions_of};
 use hy_engine::{Engine, Gate};
 use hy_loads::Load;
-use hy_partition::Loaded;
-use hy_passes::{Kit, make};
-use hy_redo::LogOut;
+use hy_partition::{Loaded, Partition};
+use hy_passes::{Cursor, Journal, Kit, Pass, make};
+use hy_redo::{Log, LogOut};
+use hy_redo_drains::DrainLog;
 use hy_schema::Refusal;
 use std::alloc::Global;
 use std::marker::Brand;
@@ -46,32 +48,39 @@ pub struct Size {
 }
 
 /// A storm over a load. Where there is a log, what was committed is written to it each time a session has closed its snapshot,
-/// and once all threads have ended, also where that is nothing: three batches for each session, and one.
+/// and once all threads have ended, also where that is nothing: three batches for each session, and one. The log comes back:
+/// where the figures have no refusal, it has all that the warehouses kept, and nothing else.
 pub fn storm<G: Gate + Drop + Send + Sync, W: LogOut + Send, R: Threads + Wait + Sync>(
     rt: &R,
     alloc: Global,
     load: &Load,
     size: Size,
     gate: G,
-    log: Logged<'_, W>,
-) -> Result<Figures, Refusal>
+    log: Option<Log<W>>,
+) -> (Result<Figures, Refusal>, Option<Log<W>>)
     requires terminals { (1 ≤ size.terminals) × (size.terminals ≤ 64) }
     requires sessions { size.sessions ≤ 16 }
     requires commands { size.commands ≤ 100000 }
-    ensures figures { IfOk result (AreFigures load.now) }
+    requires begins { IfSome log (BeginsBehind []) }
+    ensures figures { IfOk result.0 (AreFigures load.now) }
+    ensures logged { IfOk result.0 (λ figures. AreLogged load.now figures result.1) }
+    ensures back { IsSome log → IsSome result.1 }
 {
     load.sound();
     let warehouses = load.tables().warehouses.len();
-    let kit = make::<Commit>(alloc, warehouses as u8, clients_of(size), KIT)?;
-    storm_in::<Brand, G, W, R>(rt, alloc, load, kit, size, gate, log)
+    match make::<Commit>(alloc, warehouses as u8, clients_of(size), KIT) {
+        Ok(kit) => storm_in::<Brand, G, W, R>(rt, alloc, load, kit, size, gate, log),
+        Err(_) => (Err(Refusal::NoMemory), log),
+    }
 }
 
-/// How many clients a storm of this size has: terminals, sessions, and one who looks at the end.
+/// How many clients a storm of this size has: terminals, sessions, one who looks at the end, and the log's place in the
+/// serial list.
 fn clients_of(size: Size) -> u32
     requires { (size.terminals ≤ 64) × (size.sessions ≤ 16) }
-    ensures { result ≡ size.terminals + size.sessions + 1 }
+    ensures { result ≡ size.terminals + size.sessions + 2 }
 {
-    size.terminals as u32 + size.sessions as u32 + 1
+    size.terminals as u32 + size.sessions as u32 + 2
 }
 
 /// The same in the world that names the load and a kit.
@@ -87,32 +96,126 @@ fn storm_in<
     kit: Kit<Commit>,
     size: Size,
     gate: G,
-    log: Logged<'_, W>,
-) -> Result<Figures, Refusal>
+    log: Option<Log<W>>,
+) -> (Result<Figures, Refusal>, Option<Log<W>>)
     requires kit { kit ≡ K.passes }
     requires load { load.now ≡ K.load }
     requires partitions { kit.partitions ≡ length load.now.tables.warehouses }
+    requires new { kit.replayed ≡ [] }
     requires terminals { (1 ≤ size.terminals) × (size.terminals ≤ 64) }
     requires sessions { size.sessions ≤ 16 }
     requires commands { size.commands ≤ 100000 }
-    ensures figures { IfOk result (AreFigures load.now) }
+    requires begins { IfSome log (BeginsBehind []) }
+    ensures logged { IfOk result.0 (λ figures. AreLogged load.now figures result.1) }
+    ensures back { IsSome log → IsSome result.1 }
 {
-    load.sound();
-    let shape = Shape::of(alloc, load)?;
-    let (passes, journal, seats, mut clients) = kit.open::<K>()?;
-    let count = clients_of(size);
-    let Some(last) = clients.pop() else {
-        return Err(Refusal::NoMemory);
+    let shape = match Shape::of(alloc, load) {
+        Ok(shape) => shape,
+        Err(_) => return (Err(Refusal::NoMemory), log),
     };
-    let crew = Crew::new(alloc, &shape, &passes, size, &mut clients)?;
-    let parts = partitions_of::<PAGE_BYTES, K>(alloc, load, seats, MAX_FRAMES, MAX_KEPT)?;
-    let kept = Kept::new(alloc, gate)?;
-    let engine = match Engine::new(alloc, parts, journal, count, CAPACITY, kept) {
-        Ok(engine) => engine,
-        Err((_parts, _journal, _gate, refusal)) => return Err(refusal),
-    };
-    let mut gathered = run_threads(rt, alloc, &engine, log, crew);
-    gathered.unlogged = gathered.unlogged.or(drain_to(rt, alloc, &engine, log));
+    match Stage::<K, G>::new(alloc, load, kit, &shape, size, gate) {
+        Ok(stage) => run_on(rt, alloc, stage, log),
+        Err(refusal) => (Err(refusal), log),
+    }
+}
+
+/// What a storm needs before its threads begin.
+#[derive(Drop)]
+struct Stage<'a, K: Loaded, G: Gate> {
+    engine: Engine<PAGE_BYTES, K, Kept<G>>,
+    crew: Crew<'a, K>,
+    cursor: Cursor<Commit, K>,
+    last: Pass<Commit, K>,
+    ghost partitions: { K.passes.partitions ≡ warehouses_of_load K.load },
+    ghost fresh: { cursor ≡ [] },
+}
+
+impl<'a, K: Loaded, G: Gate + Drop> Stage<'a, K, G> {
+    /// That of a storm of this size. E2; E1.
+    fn new(
+        alloc: Global,
+        load: &Load,
+        kit: Kit<Commit>,
+        shape: &'a Shape,
+        size: Size,
+        gate: G,
+    ) -> Result<Stage<'a, K, G>, Refusal>
+        requires kit { kit ≡ K.passes }
+        requires load { load.now ≡ K.load }
+        requires partitions { kit.partitions ≡ length load.now.tables.warehouses }
+        requires new { kit.replayed ≡ [] }
+        requires terminals { (1 ≤ size.terminals) × (size.terminals ≤ 64) }
+        requires sessions { size.sessions ≤ 16 }
+        requires commands { size.commands ≤ 100000 }
+    {
+        load.sound();
+        let (passes, mut journal, seats, mut clients) = kit.open::<K>()?;
+        let (Some(last), Some(place)) = (clients.pop(), clients.pop()) else {
+            return Err(Refusal::NoMemory);
+        };
+        let cursor = Cursor::new(alloc, place, &mut journal)?;
+        let crew = Crew::new(alloc, shape, &passes, size, &mut clients)?;
+        let parts = partitions_of::<PAGE_BYTES, K>(alloc, load, seats, MAX_FRAMES, MAX_KEPT)?;
+        let kept = Kept::new(alloc, gate)?;
+        match Engine::new(alloc, parts, journal, clients_of(size), CAPACITY, kept) {
+            Ok(engine) => Ok(Stage {
+                engine,
+                crew,
+                cursor,
+                last,
+            }),
+            Err((_parts, _journal, _gate, refusal)) => Err(refusal),
+        }
+    }
+}
+
+/// Runs the threads of a storm, and reckons what it came to.
+fn run_on<
+    K: Loaded + Send + Sync,
+    G: Gate + Drop + Send + Sync,
+    W: LogOut + Send,
+    R: Threads + Wait + Sync,
+>(
+    rt: &R,
+    alloc: Global,
+    stage: Stage<'_, K, G>,
+    log: Option<Log<W>>,
+) -> (Result<Figures, Refusal>, Option<Log<W>>)
+    requires begins { IfSome log (BeginsBehind []) }
+    ensures logged { IfOk result.0 (λ figures. AreLogged K.load figures result.1) }
+    ensures back { IsSome log → IsSome result.1 }
+{
+    let Stage {
+        engine,
+        crew,
+        cursor,
+        last,
+    } = stage;
+    let log = followed(log, cursor);
+    let gathered = run_threads(rt, alloc, &engine, log.as_ref(), crew);
     let (parts, journal) = engine.finish();
-    figures_of(alloc, parts, journal, last, gathered)
+    reckon(alloc, parts, journal, last, gathered, unlocked(log))
+}
+
+/// What a storm came to, once its threads have ended: what was committed since the last drain is drained into its log, where
+/// there is one, and then the sums are laid side by side. E4 where the partitions aren't those of the load; E2; E1. The log
+/// comes back.
+fn reckon<K: Loaded, W: LogOut>(
+    alloc: Global,
+    mut parts: Vec<Partition<PAGE_BYTES, K>>,
+    mut journal: Journal<Commit, K>,
+    pass: Pass<Commit, K>,
+    mut gathered: Gathered<K>,
+    log: Option<DrainLog<W, K>>,
+) -> (Result<Figures, Refusal>, Option<Log<W>>)
+    requires partitions { K.passes.partitions ≡ warehouses_of_load K.load }
+    ensures logged { IfOk result.0 (λ figures. AreLogged K.load figures result.1) }
+    ensures back { IsSome log → IsSome result.1 }
+{
+    if !are_partitions(&mut parts) {
+        return (Err(Refusal::NoSuchWarehouse), taken_out(log));
+    }
+    let (log, unlogged) = end_log(alloc, log, &mut parts, &mut journal);
+    gathered.unlogged = gathered.unlogged.or(unlogged);
+    (figures_of(alloc, parts, journal, pass, gathered), log)
 }

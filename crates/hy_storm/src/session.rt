@@ -55,7 +55,7 @@ pub fn run_session<K: Loaded, G: Gate + Drop, W: LogOut, R: Wait>(
     rt: &R,
     alloc: Global,
     engine: &Engine<PAGE_BYTES, K, Kept<G>>,
-    log: Logged<'_, W>,
+    log: Logged<'_, W, K>,
     mut pass: Pass<Commit, K>,
 ) -> SessionEnd {
     let mut end = SessionEnd::without_rounds(None);
@@ -73,7 +73,7 @@ fn run_round<K: Loaded, G: Gate + Drop, W: LogOut, R: Wait>(
     rt: &R,
     alloc: Global,
     engine: &Engine<PAGE_BYTES, K, Kept<G>>,
-    log: Logged<'_, W>,
+    log: Logged<'_, W, K>,
     pass: &mut Pass<Commit, K>,
     end: &mut SessionEnd,
 ) -> Result<(), Refusal> {

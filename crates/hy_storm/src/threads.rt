@@ -98,7 +98,7 @@ pub fn run_threads<
     rt: &R,
     alloc: Global,
     engine: &Engine<PAGE_BYTES, K, Kept<G>>,
-    log: Logged<'_, W>,
+    log: Logged<'_, W, K>,
     crew: Crew<'_, K>,
 ) -> Gathered<K> {
     thread::scope(thread::scope_env(), rt, move |scope| -> Gathered<K> {
@@ -194,7 +194,7 @@ fn start_session<
     rt: &'s R,
     alloc: Global,
     engine: &'s Engine<PAGE_BYTES, K, Kept<G>>,
-    log: Logged<'s, W>,
+    log: Logged<'s, W, K>,
     pass: Pass<Commit, K>,
 ) -> Option<JoinHandle<SessionEnd>> {
     scope
@@ -215,7 +215,7 @@ fn start_sessions<
     rt: &'s R,
     alloc: Global,
     engine: &'s Engine<PAGE_BYTES, K, Kept<G>>,
-    log: Logged<'s, W>,
+    log: Logged<'s, W, K>,
     sessions: Vec<Pass<Commit, K>>,
     looking: &mut Vec<JoinHandle<SessionEnd>>,
 ) -> Option<Refusal> {
@@ -241,7 +241,7 @@ fn run_crew<
     rt: &R,
     alloc: Global,
     engine: &Engine<PAGE_BYTES, K, Kept<G>>,
-    log: Logged<'_, W>,
+    log: Logged<'_, W, K>,
     crew: Crew<'_, K>,
 ) -> Gathered<K> {
     let Crew {
@@ -282,7 +282,7 @@ fn run_sessions<
     rt: &R,
     alloc: Global,
     engine: &Engine<PAGE_BYTES, K, Kept<G>>,
-    log: Logged<'_, W>,
+    log: Logged<'_, W, K>,
     sessions: Vec<Pass<Commit, K>>,
 ) -> SessionEnd {
     let Ok(looking) = Vec::with_capacity(alloc, sessions.len()) else {

@@ -1,6 +1,7 @@
 //! For tests: the partitions of all warehouses of a load, with their journal and a client.
 
-ghost use Rattle.std.specs.Prelude.{◌≡◌, ◌≤◌, length};
+ghost use Rattle.std.specs.Prelude.{◌≡◌, [], ◌≤◌, length};
+ghost use Rattle.hy_recovery.specs.Recovering.{Counts};
 ghost use Rattle.std.proofs.Props.{props};
 ghost use Rattle.hy_partition.specs.Partition.{terms_of};
 ghost use Rattle.hy_crossing.specs.Crossings.{ArePartitions, HaveNoPart};
@@ -9,10 +10,10 @@ ghost use Rattle.hy_forks.specs.Forks.{AreOfKit};
 use hy_batches::Batches;
 use hy_commands::{Command, Commit, Reply};
 use hy_crossing::{cross, partitions_of};
-use hy_forks::{Batch, SnapshotAll, close_all, drain, find_history, fork_all};
+use hy_forks::{Batch, SnapshotAll, close_all, drain, end_of, find_history, fork_all};
 use hy_loads::Load;
 use hy_partition::{Job, Loaded, Partition};
-use hy_passes::{Journal, Kit, Pass};
+use hy_passes::{Cursor, Journal, Kit, Pass};
 use hy_recovery::recover;
 use hy_schema::Refusal;
 use hy_session::Session;
@@ -114,6 +115,7 @@ pub struct Hall<K: Loaded> {
     parts: Vec<Partition<4096, K>>,
     journal: Journal<Commit, K>,
     clients: Vec<Pass<Commit, K>>,
+    cursor: Cursor<Commit, K>,
     ghost partitions: { ArePartitions K.load parts.items } by { Prim.hlevel props },
     ghost whole: { HaveNoPart parts.items } by { Prim.hlevel props },
 }
@@ -125,8 +127,13 @@ impl<K: Loaded> Hall<K> {
         requires load { load.now ≡ K.load }
         requires kit { kit ≡ K.passes }
         requires partitions { kit.partitions ≡ length load.now.tables.warehouses }
+        requires new { kit.replayed ≡ [] }
     {
-        let (_passes, journal, seats, clients) = kit.open::<K>().expect(rt, "passes");
+        let (_passes, mut journal, seats, mut clients) = kit.open::<K>().expect(rt, "passes");
+        let Some(place) = clients.pop() else {
+            panic!(rt; "a client")
+        };
+        let cursor = Cursor::new(rt.alloc(), place, &mut journal).expect(rt, "a place");
         let parts = partitions_of(rt.alloc(), load, seats, MAX_FRAMES, kept).expect(
             rt,
             "partitions",
@@ -135,6 +142,7 @@ impl<K: Loaded> Hall<K> {
             parts,
             journal,
             clients,
+            cursor,
         }
     }
 
@@ -148,12 +156,13 @@ impl<K: Loaded> Hall<K> {
         requires load { load.now ≡ K.load }
         requires kit { kit ≡ K.passes }
         requires partitions { kit.partitions ≡ length load.now.tables.warehouses }
+        requires counts { Counts kit load.now batches.now }
     {
         let (_passes, journal, seats, mut clients) = kit.open::<K>().expect(rt, "passes");
-        let Some(pass) = clients.pop() else {
-            panic!(rt; "a client")
+        let (Some(place), Some(pass)) = (clients.pop(), clients.pop()) else {
+            panic!(rt; "two clients")
         };
-        let (parts, journal, pass) = recover(
+        let (mut parts, mut journal, pass) = recover(
             rt.alloc(),
             load,
             batches,
@@ -165,10 +174,12 @@ impl<K: Loaded> Hall<K> {
         )
         .expect(rt, "partitions");
         clients.push(pass).expect(rt, "a place");
+        let cursor = end_of(rt.alloc(), &mut parts, &mut journal, place).expect(rt, "a place");
         Hall {
             parts,
             journal,
             clients,
+            cursor,
         }
     }
 
@@ -269,9 +280,12 @@ impl<K: Loaded> Hall<K> {
         }
     }
 
-    /// The commits since the last drain.
+    /// The commits since the last drain, of a warehouse at least.
     pub fn drain(&mut self, alloc: Global) -> Result<Batch, Refusal> {
-        drain(alloc, &mut self.parts, &mut self.journal)
+        if self.parts.is_empty() {
+            return Err(Refusal::NoSuchWarehouse);
+        }
+        drain(alloc, &mut self.parts, &mut self.journal, &mut self.cursor)
     }
 
     /// Finds that the lists are those of one history.

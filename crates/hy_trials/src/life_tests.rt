@@ -2,12 +2,10 @@
 
 use crate::commands::payment_by;
 use crate::lives::{LOG, Life, Numbers, live, stop};
-use hy_batches::{Batch, Text, write_batch};
+use hy_batches::{Text, write_lists};
 use hy_commands::{Commit, Edition};
 use hy_files::{FileSystem, MemoryFiles};
-use hy_passes::make;
 use hy_tables::generate;
-use std::marker::Brand;
 use std::process::Abort;
 
 /// A life on a generated load of two warehouses.
@@ -18,9 +16,7 @@ fn live_once<R: Abort + AllocGlobal>(
     least: u64,
 ) -> Life {
     let load = generate(rt.alloc(), 2, 3, 20).expect(rt, "a load");
-    assert!(rt; load.tables().warehouses.len() == 2);
-    let kit = make::<Commit>(rt.alloc(), 2, 1, 1).expect(rt, "a kit");
-    live::<Brand, R>(rt, &load, kit, files, numbers, least)
+    live(rt, &load, files, numbers, least)
 }
 
 /// Five lives behind what stands in the log, each of which is stopped, and one more, which is not.
@@ -50,7 +46,7 @@ fn write_old<R: Abort + AllocGlobal>(rt: &R, text: &mut Text, payments: u64) {
     let mut lists = Vec::new(rt.alloc());
     lists.push(first).expect(rt, "a list");
     lists.push(Vec::new(rt.alloc())).expect(rt, "a list");
-    write_batch(text, &Batch::new(Edition::First, lists));
+    write_lists(text, Edition::First, &lists);
 }
 
 /// Files with a log of these first bytes of a text, all where there are fewer.

@@ -1,6 +1,7 @@
 //! For tests: a life of a log. It is held and read, a database is recovered from it and goes on, and a stop leaves some of it.
 
-ghost use Rattle.std.specs.Prelude.{◌≡◌, ◌≤◌, length};
+ghost use Rattle.std.specs.Prelude.{◌≡◌, length};
+ghost use Rattle.hy_recovery.specs.Recovering.{Counts};
 
 use crate::halls::Hall;
 use hy_batches::{Batch, Batches, Text, read_log, write_batch};
@@ -9,8 +10,10 @@ use hy_files::{FileSystem, HeldLog, MemoryFiles};
 use hy_loads::Load;
 use hy_partition::Loaded;
 use hy_passes::Kit;
+use hy_recovery::kit_for;
 use hy_redo::{Log, LogOut};
 use hy_storm::{Shape, command_of};
+use std::marker::Brand;
 use std::process::Abort;
 
 /// The path of the log.
@@ -135,19 +138,34 @@ fn rounds<K: Loaded, W: LogOut, R: Abort + AllocGlobal>(
     sizes
 }
 
-/// A life of the log behind what stands in it, of which so many batches at least were acknowledged.
-pub fn live<K: Loaded, R: Abort + AllocGlobal>(
+/// What a life does with the log behind these batches, in the world of the load and the kit: the sizes of the log.
+fn live_in<K: Loaded, W: LogOut, R: Abort + AllocGlobal>(
     rt: &R,
     load: &Load,
     kit: Kit<Commit>,
-    files: &mut MemoryFiles,
+    batches: &Batches,
+    log: &mut Log<W>,
     numbers: &mut Numbers,
-    least: u64,
-) -> Life
+) -> Vec<u64>
     requires load { load.now ≡ K.load }
     requires kit { kit ≡ K.passes }
     requires partitions { kit.partitions ≡ length load.now.tables.warehouses }
+    requires counts { Counts kit load.now batches.now }
 {
+    let mut hall = Hall::<K>::recovered(rt, load, kit, batches);
+    is_recovered(rt, &mut hall, batches);
+    let shape = Shape::of(rt.alloc(), load).expect(rt, "a shape");
+    rounds(rt, &mut hall, &shape, log, numbers, batches.bytes())
+}
+
+/// A life of the log behind what stands in it, of which so many batches at least were acknowledged.
+pub fn live<R: Abort + AllocGlobal>(
+    rt: &R,
+    load: &Load,
+    files: &mut MemoryFiles,
+    numbers: &mut Numbers,
+    least: u64,
+) -> Life {
     let alloc = rt.alloc();
     let mut held = files.hold_log(alloc, LOG).expect(rt, "a file");
     files.read_held(alloc, &mut held).expect(rt, "bytes");
@@ -157,10 +175,8 @@ pub fn live<K: Loaded, R: Abort + AllocGlobal>(
     assert!(rt; size <= held.bytes().len() as u64);
     let out = files.go_on_log(held, size).expect(rt, "a log");
     let mut log = Log::new(alloc, out);
-    let mut hall = Hall::<K>::recovered(rt, load, kit, &batches);
-    is_recovered(rt, &mut hall, &batches);
-    let shape = Shape::of(alloc, load).expect(rt, "a shape");
-    let sizes = rounds(rt, &mut hall, &shape, &mut log, numbers, size);
+    let kit = kit_for(alloc, load, &batches, 2, 1).expect(rt, "a kit");
+    let sizes = live_in::<Brand, _, R>(rt, load, kit, &batches, &mut log, numbers);
     assert!(rt; files.end_log(LOG, log.into_out()).is_ok());
     Life {
         before: batches.count(),

@@ -1,6 +1,6 @@
 //! What is done with all partitions by who holds all of their locks.
 
-ghost use Rattle.std.specs.Prelude.{◌≡◌, length};
+ghost use Rattle.std.specs.Prelude.{◌≡◌, [], length};
 
 use crate::commands::payment_by;
 use crate::halls::TakenAll;
@@ -9,7 +9,7 @@ use hy_crossing::{are_partitions, cross, partitions_of};
 use hy_forks::{close_all, drain, find_history, fork_all};
 use hy_loads::Load;
 use hy_partition::{Job, Loaded, Partition};
-use hy_passes::{Journal, Kit, Pass, make};
+use hy_passes::{Cursor, Journal, Kit, Pass, make};
 use hy_tables::generate;
 use std::marker::{Brand, PhantomData};
 use std::process::Abort;
@@ -49,6 +49,7 @@ fn pay_and_look<K: Loaded, R: Wait + Abort + AllocGlobal>(
     locks: &[Lock<K>],
     journal: &Mutex<Journal<Commit, K>>,
     pass: Pass<Commit, K>,
+    mut cursor: Cursor<Commit, K>,
 ) {
     let mut held = all_held(rt, locks);
     assert!(rt; are_partitions(&mut held));
@@ -80,7 +81,7 @@ fn pay_and_look<K: Loaded, R: Wait + Abort + AllocGlobal>(
         Ok(()) => {}
         Err(_) => panic!(rt; "a snapshot of other partitions"),
     }
-    let batch = drain(rt.alloc(), &mut held, &mut journal).expect(rt, "a batch");
+    let batch = drain(rt.alloc(), &mut held, &mut journal, &mut cursor).expect(rt, "a batch");
     assert!(rt; batch.len() == 3 && batch.list(0).len() == 1 && batch.list(2).is_empty());
     find_history(&mut held, &mut journal);
 }
@@ -113,23 +114,25 @@ fn run_behind_locks<K: Loaded, R: Wait + Abort + AllocGlobal>(rt: &R, load: &Loa
     requires load { load.now ≡ K.load }
     requires kit { kit ≡ K.passes }
     requires partitions { kit.partitions ≡ length load.now.tables.warehouses }
+    requires new { kit.replayed ≡ [] }
 {
-    let (_passes, journal, seats, mut clients) = kit.open::<K>().expect(rt, "passes");
+    let (_passes, mut journal, seats, mut clients) = kit.open::<K>().expect(rt, "passes");
+    let (Some(pass), Some(place)) = (clients.pop(), clients.pop()) else {
+        panic!(rt; "two clients")
+    };
+    let cursor = Cursor::new(rt.alloc(), place, &mut journal).expect(rt, "a place");
     let parts = partitions_of(rt.alloc(), load, seats, 2000, 100).expect(rt, "partitions");
     let locks = locks_of(rt, parts);
     let journal = Mutex::new(journal);
-    let Some(pass) = clients.pop() else {
-        panic!(rt; "a client")
-    };
     are_told_apart(rt, &locks);
     are_in_order(rt, &locks);
-    pay_and_look(rt, &locks, &journal, pass);
+    pay_and_look(rt, &locks, &journal, pass, cursor);
 }
 
 #[test]
 fn whoever_holds_all_locks(rt: HostRuntime) {
     let load = generate(rt.alloc(), 3, 3, 20).expect(&rt, "a load");
     assert!(&rt; load.tables().warehouses.len() == 3);
-    let kit = make::<Commit>(rt.alloc(), 3, 1, 1).expect(&rt, "a kit");
+    let kit = make::<Commit>(rt.alloc(), 3, 2, 1).expect(&rt, "a kit");
     run_behind_locks::<Brand, HostRuntime>(&rt, &load, kit);
 }

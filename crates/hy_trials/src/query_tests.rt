@@ -1,6 +1,6 @@
 //! What sessions answer while payments run.
 
-ghost use Rattle.std.specs.Prelude.{◌≡◌, length};
+ghost use Rattle.std.specs.Prelude.{◌≡◌, [], length};
 
 use crate::commands::{numbered_payment, order_of, payment_by};
 use crate::halls::Hall;
@@ -36,7 +36,7 @@ fn run<R: Threads + Abort + AllocGlobal + Sync>(rt: &R, case: Case) {
     };
     let load = generate(rt.alloc(), 2, customers, items).expect(rt, "a load");
     assert!(rt; load.tables().warehouses.len() == 2);
-    let kit = make::<Commit>(rt.alloc(), 2, 2, 1).expect(rt, "a kit");
+    let kit = make::<Commit>(rt.alloc(), 2, 3, 1).expect(rt, "a kit");
     run_in_world::<Brand, R>(rt, &load, kit, case);
 }
 
@@ -50,6 +50,7 @@ fn run_in_world<K: Loaded, R: Threads + Abort + AllocGlobal + Sync>(
     requires load { load.now ≡ K.load }
     requires kit { kit ≡ K.passes }
     requires partitions { kit.partitions ≡ length load.now.tables.warehouses }
+    requires new { kit.replayed ≡ [] }
 {
     let frames = match case {
         Case::Counted => 10_000,

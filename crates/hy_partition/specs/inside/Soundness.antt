@@ -1,6 +1,7 @@
 -- What holds of every partition, beside the counts of its frames, which its pages keep by themselves.
 use Rattle.std.specs.Prelude.{◌≡◌, ℕ, ◌<◌, ◌≤◌, true, false, List, [], length, None, IsSome, MatchOption}
 use Rattle.std.specs.List.{list_all}
+use Rattle.hy_worlds.specs.Origins.{Origin, replayed_of}
 use Rattle.hy_rows.specs.Ranges.{IsBetween}
 use Rattle.hy_rows.specs.Tables.{Lists, Tables, of_warehouse}
 use Rattle.hy_schema.specs.Loads.{IsLoad}
@@ -18,7 +19,7 @@ use Rattle.hy_indexes.specs.Indexes.{HasIndexes}
 use Rattle.hy_tpcc.specs.Executor.{ExecutorState, IsUnderWay}
 use Rattle.hy_tpcc.specs.Parts.{HasPart}
 use Rattle.hy_partition.specs.Accounts.{IsBookOf}
-use Rattle.hy_partition.specs.Partition.{PartState, PartitionState, commits_of, is_new, layout_of, may_run, rows_now, undrained}
+use Rattle.hy_partition.specs.Partition.{PartState, PartitionState, commits_of, is_new, layout_of, may_be_kept, may_run, own_commits, replays, rows_now}
 use Rattle.hy_partition.specs.Limits.{most_kept}
 use Rattle.hy_partition.specs.Jobs.{RunningJob}
 use Rattle.hy_partition.specs.Headline.{SpellsBeginning}
@@ -33,7 +34,7 @@ pub record IsStoreOf (n : ℕ) (tables : Tables) (bytes : List (List (List ℕ))
 -- a job runs, by an edition that may: the executor has done its slices, and its commit has room, if it will have one
 pub record Runs (n room : ℕ) (executor : ExecutorState) (p : PartitionState) (job : RunningJob) : Type 0 where
   pub no_part : p.part ≡ None
-  pub edition : may_run p.replays job.edition ≡ true
+  pub edition : may_run (replays p) job.edition ≡ true
   pub begins : begin_refusal_of p.warehouse job.command (rows_now p) ≡ None
   pub no_reply : p.finished ≡ None
   pub slices : job.slices < slice_count job.command
@@ -51,7 +52,7 @@ pub record Rests (n : ℕ) (p : PartitionState) : Type 0 where
 -- it, and its commit has room
 pub record HoldsPart (n room : ℕ) (p : PartitionState) (part : PartState) : Type 0 where
   pub has_part : HasPart (layout_of p) part.command
-  pub edition : may_run p.replays part.edition ≡ true
+  pub edition : may_run (replays p) part.edition ≡ true
   pub pages : IsStoreOf n (rows_with_part p part.edition part.command) (owner_bytes p.space)
   pub has_room : 1 ≤ room
   pub below_max : length p.kept < p.max_kept
@@ -72,16 +73,18 @@ pub record IsSound (n room : ℕ) (executor : ExecutorState) (p : PartitionState
   pub limit : p.max_kept ≤ most_kept
   pub job : MatchOption p.running (IsIdle n room p) (Runs n room executor p)
 
--- how the parts of a partition belong together: they are of one warehouse, and of the load that the world names; a ticket
--- that is out is that of an open snapshot; no more was drained than is kept, and what wasn't is of the second edition; the
--- book has what was taken in
-pub record IsTied (world : Lists) (list : KeptState Commit) (desk : DeskState) (p : PartitionState) : Type 0 where
+-- how the parts of a partition belong together: they are of one warehouse, of the load and the kit that the world names; a
+-- ticket that is out is that of an open snapshot; as many commits come from a log as the kit says, the others are of the second
+-- edition, and all may be kept; the book has what was taken in
+pub record IsTied (world : Lists) (kit : Origin) (list : KeptState Commit) (desk : DeskState) (p : PartitionState)
+    : Type 0 where
   pub load_is : p.load ≡ world
   pub list_of : list.warehouse ≡ p.warehouse
   pub desk_of : desk.warehouse ≡ p.warehouse
   pub tickets : (child : ℕ) → is_out desk.out child ≡ true → IsSome (commits_of p child)
-  pub within : p.drained ≤ length p.kept
-  pub new : list_all is_new (undrained p) ≡ true
+  pub replayed_is : p.replayed ≡ replayed_of kit p.warehouse
+  pub new : list_all is_new (own_commits p) ≡ true
+  pub known : list_all (may_be_kept p.load p.warehouse) p.kept ≡ true
   pub book : IsBookOf p.load p.warehouse p.kept p.book
 
 -- the rows of a warehouse of a load stand on pages of n bytes, in an index each, under a limit on frames; no snapshot is

@@ -4,18 +4,18 @@ use Rattle.std.specs.List.{list_all}
 use Rattle.hy_rows.specs.Tables.{Lists}
 use Rattle.hy_schema.specs.declared.refusal.Refusal.{Refusal}
 use Rattle.hy_schema.specs.declared.refusal.Refusal.TheVariants as refusals
-use Rattle.hy_passes.specs.SerialList.{numbers_of}
 use Rattle.hy_commands.specs.declared.command.Command.{Command}
 use Rattle.hy_commands.specs.declared.command.Commit.{Commit}
 use Rattle.hy_commands.specs.declared.command.Commit.TheVariants as commits
 use Rattle.hy_commands.specs.declared.edition.Edition.{Edition}
-use Rattle.hy_commands.specs.Commands.{number_of, warehouses_of, warehouses_of_commit}
+use Rattle.hy_commands.specs.Commands.{warehouses_of}
 use Rattle.hy_commands.specs.Parts.{is_by_number}
 use Rattle.hy_batches.specs.Batches.{Batch}
 use Rattle.hy_batches.specs.Grammar.{commit_fits, is_allowed, names}
 use Rattle.hy_partition.specs.Jobs.{Log}
-use Rattle.hy_partition.specs.Partition.{PartitionState, commits_of, terms_of}
+use Rattle.hy_partition.specs.Partition.{PartitionState, commits_of, replays, terms_of}
 use Rattle.hy_tpcc.specs.Shortages.{adds_no_page}
+pub use Rattle.hy_forks.specs.Logged.{crossings_in}
 use Rattle.hy_sound.specs.Sound.{is_known}
 use Rattle.hy_sound.specs.Merges.{MergeState, count_of, left_of}
 use Rattle.hy_sound.specs.inside.Steps.{IsSoundFrom}
@@ -33,7 +33,6 @@ pub record IsAtRest (p : PartitionState) : Type 0 where
 pub record KeepsOne (commit : Commit) (old new : PartitionState) : Type 0 where
   pub terms : terms_of new ≡ terms_of old
   pub kept : new.kept ≡ old.kept ++ commit ∷ []
-  pub drained : new.drained ≡ old.drained
   pub rest : IsAtRest new
   pub max_frames : new.space.frames.max ≡ old.space.frames.max
   pub snapshots : new.snapshots ≡ old.snapshots
@@ -42,7 +41,6 @@ pub record KeepsOne (commit : Commit) (old new : PartitionState) : Type 0 where
 pub record KeepsSeen (old new : PartitionState) : Type 0 where
   pub terms : terms_of new ≡ terms_of old
   pub kept : new.kept ≡ old.kept
-  pub drained : new.drained ≡ old.drained
   pub rest : IsAtRest new
   pub max_frames : new.space.frames.max ≡ old.space.frames.max
   pub snapshots : new.snapshots ≡ old.snapshots
@@ -82,15 +80,11 @@ may_stand warehouse commit = is_allowed warehouse commit && commit_fits commit
 -- what a command of one warehouse has passed that is run again there, by an edition
 pub record CanRunLocal (edition : Edition) (command : Command) (p : PartitionState) : Type 0 where
   pub rest : IsAtRest p
-  pub replays : p.replays ≡ true
+  pub replays : replays p ≡ true
   pub allowed : may_stand p.warehouse (commits.Local edition command) ≡ true
   pub known : is_known p.load command ≡ true
   pub few : length p.kept < p.max_kept
   pub alone : IsAlone p
-
--- how many commits of several warehouses a serial list has
-abbrev pub crossings_in : Log → ℕ
-crossings_in log = length (numbers_of warehouses_of_commit number_of log)
 
 -- what one of several warehouses has passed
 pub record CanRunCrossing (lists : Lists) (number : ℕ) (command : Command) (log : Log) (parts : List PartitionState)
@@ -100,27 +94,32 @@ pub record CanRunCrossing (lists : Lists) (number : ℕ) (command : Command) (lo
   pub known : is_known lists command ≡ true
   pub next : number ≡ suc (crossings_in log)
   pub rest : (place : ℕ) → IfSome (slice_get parts place) IsAtRest
-  pub replays : (place : ℕ) → IfSome (slice_get parts place) (λ p. p.replays ≡ true)
+  pub replays : (place : ℕ) → IfSome (slice_get parts place) (λ p. names command (suc place) ≡ true → replays p ≡ true)
   pub few : (place : ℕ) → IfSome (slice_get parts place) (λ p.
       names command (suc place) ≡ true → length p.kept < p.max_kept)
   pub alone : (place : ℕ) → IfSome (slice_get parts place) IsAlone
 
 -- ---- many
 
--- where a way leads: the limits of each partition, the commits that it is to keep, and the last number of a commit of
--- several warehouses
+-- where a way leads: the limits of each partition, the commits that it is to keep, how many of its commits the log has, and
+-- the last number of a commit of several warehouses
 pub record Aim : Type 0 where
   pub frames : ℕ
   pub most : ℕ
   pub goal : ℕ → List Commit
+  pub replayed : ℕ → ℕ
   pub last : ℕ
 
--- the partition at a place replays the log and is at rest, with no snapshot; what it has kept and what is left are what it
+-- the partition at a place is at rest, with no snapshot; what it has kept and what is left are what it
 -- is to keep
 pub record IsBound (lists : Lists) (aim : Aim) (left : List Commit) (place : ℕ) (p : PartitionState) : Type 0 where
-  pub terms : terms_of p ≡ record { load = lists; warehouse = suc place; max_kept = aim.most; replays = true }
+  pub terms : terms_of p ≡ record {
+    load = lists;
+    warehouse = suc place;
+    max_kept = aim.most;
+    replayed = aim.replayed place;
+  }
   pub kept : p.kept ++ left ≡ aim.goal place
-  pub drained : p.drained ≡ 0
   pub rest : IsAtRest p
   pub max_frames : p.space.frames.max ≡ aim.frames
   pub snapshots : IsAlone p
@@ -132,6 +131,7 @@ pub record AreOnWay (lists : Lists) (aim : Aim) (merge : MergeState) (log : Log)
   pub lists_are : count_of merge ≡ length parts
   pub each : (place : ℕ) → IfSome (slice_get parts place) (IsBound lists aim (left_of merge place) place)
   pub few : (place : ℕ) → place < length parts → length (aim.goal place) ≤ aim.most
+  pub from_log : (place : ℕ) → place < length parts → length (aim.goal place) ≤ aim.replayed place
   pub allowed : (place : ℕ) → place < count_of merge → list_all (may_stand (suc place)) (left_of merge place) ≡ true
   pub sound : IsSoundFrom lists (crossings_in log) aim.last merge
 
@@ -144,16 +144,3 @@ pub record AreThere (lists : Lists) (aim : Aim) (log : Log) (parts : List Partit
 -- a batch of which nothing was passed
 abbrev pub untouched : Batch → MergeState
 untouched batch = record { lists = batch.lists; passed = [] }
-
--- a partition where a replay begins, and where it ends: then all commits count as drained
-abbrev pub replaying : PartitionState → PartitionState
-replaying p = record p { replays = true }
-
-abbrev pub replayed : PartitionState → PartitionState
-replayed p = record p { drained = length p.kept; replays = false }
-
--- each partition is changed so
-pub record Becomes (change : PartitionState → PartitionState) (olds news : List PartitionState) : Type 0 where
-  pub count : length news ≡ length olds
-  pub each : (place : ℕ) (old new : PartitionState) → slice_get olds place ≡ Some old → slice_get news place ≡ Some new
-      → new ≡ change old

@@ -1,7 +1,7 @@
 use Rattle.std.proofs.Common.{◌≡◌, List, Some, inr, sym, ◌∙◌, subst}
 use Rattle.hy_commands.specs.declared.command.Command.{Command}
 use Rattle.hy_partition.specs.Partition.{PartitionState}
-use Rattle.hy_crossing.specs.Crossings.{AreIdle, Informs, RefusesAll, loaded_refusal}
+use Rattle.hy_crossing.specs.Crossings.{AllMayRun, AreIdle, Informs, RefusesAll, loaded_refusal}
 use Rattle.hy_crossing.proofs.InformLaws.{all-idle, still-partitions}
 use Rattle.hy_crossing.proofs.WholeLaws.{refuses-first}
 use Rattle.hy_crossing.proofs.crossing.cross.Goals as goal
@@ -17,6 +17,16 @@ prepare-requires-clause-idle g c =
     (c.command.ensures ∙ sym c.command-2.ensures)
     (all-idle g.K.Loaded.load c.command.result.now c.inform.new.journal.list.log (g.P.Parts.states c.inform.new.parts)
     c.inform.ensures.informed)
+
+pub do_all-requires-clause-edition : goal.do_all-requires-clause-edition
+do_all-requires-clause-edition g c =
+    let olds = g.P.Parts.states c.args.parts.now in
+    let middles = g.P.Parts.states c.inform.new.parts in
+    subst (λ (rows : List PartitionState). AllMayRun c.args.job.edition c.args.job.command rows) (sym c.in-Ok.ensures.same)
+    (subst (λ (command : Command). AllMayRun c.args.job.edition command middles) c.command.ensures
+    (c.inform.ensures.editions c.args.job.edition
+    (subst (λ (command : Command). AllMayRun c.args.job.edition command olds) (sym c.command.ensures)
+    c.requires.edition)))
 
 pub returns-in-Err-clause-crosses : goal.returns-in-Err-clause-crosses
 returns-in-Err-clause-crosses g c =

@@ -10,7 +10,7 @@ use Rattle.hy_partition.specs.Partition.{PartitionState}
 use Rattle.hy_crossing.specs.Crossings.{AllMayRun, AreKnown, CanDoParts, DoesIfNamed, IsWhyNotDone, LeavesIfNamed, RepliesFrom}
 use Rattle.hy_crossing.specs.Lists.{Pairwise}
 use Rattle.hy_crossing.proofs.InformLaws.{pairs-count}
-use Rattle.hy_crossing.proofs.WholeLaws.{accepts-all, can-all, done-all, named-all, no-part-whole, partitions-here, partitions-whole, refuses-late, several-all, there-all}
+use Rattle.hy_crossing.proofs.WholeLaws.{accepts-all, can-all, done-all, may-all, named-all, no-part-whole, partitions-here, partitions-whole, refuses-late, several-all, there-all}
 use Rattle.hy_crossing.proofs.crossing.do_all.Goals as goal
 
 pub do_parts-requires-clause-can : goal.do_parts-requires-clause-can
@@ -30,8 +30,19 @@ do_parts-requires-clause-can g c =
 pub do_parts-requires-clause-edition : goal.do_parts-requires-clause-edition
 do_parts-requires-clause-edition g c =
     let rows = g.P.Parts.states c.args.parts.now in
-    subst (λ (rows : List PartitionState). AllMayRun c.edition-edition.result rows) (sym c.know_named.ensures.same)
-    (subst (λ (edition : Edition). AllMayRun edition rows) (sym c.edition-edition.ensures) c.requires.edition)
+    let log = c.args.journal.now.list.log in
+    let numbered = c.with_number-numbered.result in
+    let is : numbered ≡ with_number c.args.number c.args.job.command =
+    c.with_number-numbered.ensures ∙ ap (with_number c.args.number) c.open-command.ensures.0 in
+    let known : AreKnown c.args.job.command g.K.World.passes.partitions rows =
+    subst (λ (command : Command). AreKnown command g.K.World.passes.partitions rows) c.command.ensures
+    c.know_named.ensures.known in
+    subst (λ (rows : List PartitionState). AllMayRun c.edition-edition.result numbered rows)
+    (sym c.know_named.ensures.same)
+    (may-all g.K.Loaded.load c.args.job log rows c.requires.informed c.requires.accepted g.K.World.passes.partitions known
+    c.args.number c.requires.payer numbered is c.edition-edition.result
+    (subst (λ (edition : Edition). AllMayRun edition c.args.job.command rows) (sym c.edition-edition.ensures)
+    c.requires.edition))
 
 pub do_parts-requires-clause-there : goal.do_parts-requires-clause-there
 do_parts-requires-clause-there g c =

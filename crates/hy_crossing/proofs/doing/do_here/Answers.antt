@@ -3,11 +3,12 @@ use Rattle.hy_rows.proofs.BetweenLaws.{bounds}
 use Rattle.hy_schema.specs.declared.refusal.Refusal.TheVariants as refusals
 use Rattle.hy_commands.specs.declared.command.Command.{Command}
 use Rattle.hy_tpcc.specs.Parts.{HasPart}
-use Rattle.hy_partition.specs.Partition.{PartitionState, layout_of, may_run}
+use Rattle.hy_partition.specs.Partition.{PartitionState, layout_of}
 use Rattle.hy_partition.specs.Parts.{DoesPart, HasNoPart, IsWhyUndone}
-use Rattle.hy_crossing.specs.Crossings.{CanDoIfNamed, DoesHere, FailsHere}
+use Rattle.hy_crossing.specs.Crossings.{CanDoIfNamed, DoesHere, FailsHere, MayRunIfNamed}
 use Rattle.hy_crossing.specs.Lists.{ChangesAt}
 use Rattle.hy_crossing.proofs.DoingLaws.{as-before, err-both, err-given, ok-leads, untouched}
+use Rattle.hy_crossing.proofs.InformLaws.{may-now}
 use Rattle.hy_crossing.proofs.PlaceLaws.{holds-at}
 use Rattle.hy_crossing.proofs.doing.do_here.Goals as goal
 
@@ -62,8 +63,9 @@ do_part-requires g c =
           subst (λ (command : Command). HasPart (layout_of p) command) (sym c.in_ok-copy.ensures) can.has_part,
           (
             can.few,
-            holds-at (λ (p : PartitionState). may_run p.replays c.args.edition ≡ true) rows (number - 1) p within
-                c.part-part.ensures.value c.requires.edition,
+            may-now c.args.edition command number p
+                (holds-at (MayRunIfNamed c.args.edition command number) rows (number - 1) p within
+                c.part-part.ensures.value c.requires.edition) named,
           ),
         ),
       ),

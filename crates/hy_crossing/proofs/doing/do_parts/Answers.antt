@@ -3,8 +3,8 @@ use Rattle.std.specs.Prelude.{Option, IfSome, slice_get}
 use Rattle.hy_rows.proofs.BetweenLaws.{bounds}
 use Rattle.hy_commands.specs.declared.reply.Reply.{Reply}
 use Rattle.hy_commands.specs.Parts.{customer_home_of}
-use Rattle.hy_partition.specs.Partition.{PartitionState, may_run}
-use Rattle.hy_crossing.specs.Crossings.{CanDoIfNamed, DoesIfNamed, RepliesFrom}
+use Rattle.hy_partition.specs.Partition.{PartitionState}
+use Rattle.hy_crossing.specs.Crossings.{CanDoIfNamed, DoesIfNamed, MayRunIfNamed, RepliesFrom}
 use Rattle.hy_crossing.proofs.InformLaws.{may-at}
 use Rattle.hy_crossing.proofs.ReplyLaws.{replies-some}
 use Rattle.hy_crossing.proofs.StepLaws.{answer-early, answer-late, done-step, left-all, quiet-halves, why-not}
@@ -32,10 +32,12 @@ do_here-requires-clause-edition g c =
     let olds = g.P.Parts.states c.args.parts.now in
     let news = g.P.Parts.states c.loop-place.parts in
     let back : place ≡ place + 1 - 1 = omega arith in
+    let next : suc place ≡ place + 1 = omega arith in
     let same = done-get (DoesIfNamed c.args.edition command) place olds news c.loop-place.invariant.0 in
-    subst (λ n. IfSome (slice_get news n) (λ p. may_run p.replays c.args.edition ≡ true)) back
-    (subst (λ (row : Option PartitionState). IfSome row (λ p. may_run p.replays c.args.edition ≡ true)) (sym same)
-    (may-at c.args.edition olds place c.requires.edition))
+    subst (λ n. IfSome (slice_get news n) (MayRunIfNamed c.args.edition command (place + 1))) back
+    (subst (λ n. IfSome (slice_get news place) (MayRunIfNamed c.args.edition command n)) next
+    (subst (λ (row : Option PartitionState). IfSome row (MayRunIfNamed c.args.edition command (suc place))) (sym same)
+    (may-at c.args.edition command olds place c.requires.edition)))
 
 pub undo_parts-requires-clause-quiet : goal.undo_parts-requires-clause-quiet
 undo_parts-requires-clause-quiet g c =

@@ -1,40 +1,39 @@
-use Rattle.std.proofs.Common.{◌∙◌, length, arith, ap, subst, sym}
+use Rattle.std.proofs.Common.{◌≡◌, ap, ◌∙◌, arith, subst}
+use mathlib.Core.List.{IsPrefix}
+use Rattle.hy_batches.specs.Batches.{Batch}
 use Rattle.hy_partition.specs.Jobs.{Log}
-use Rattle.hy_crossing.specs.Crossings.{ArePartitions, HaveNoPart}
-use Rattle.hy_forks.specs.Drains.{DrainsHere}
-use Rattle.hy_forks.proofs.HistoryLaws.{one-history}
+use Rattle.hy_forks.specs.Drains.{TellsHere, drained_of}
+use Rattle.hy_forks.proofs.LoggedLaws.{drain-follows, drained-new, kept-numbered}
 use Rattle.hy_forks.proofs.RelationLaws.{pairs-length}
-use Rattle.hy_forks.proofs.TellLaws.{drained-kept, drained-partitions, drained-whole}
 use Rattle.hy_forks.proofs.drains.drain.Goals as goal
 
-pub returns-clause-history : goal.returns-clause-history
-returns-clause-history g c =
-    let log : Log = c.args.journal.now.list.log in
-    let olds = g.P.Parts.states c.know_load.new.parts in
-    let news = g.P.Parts.states c.mark_each.new.parts in
-    let same = c.know_load.ensures.same ∙ c.copy_undrained.ensures.same in
-    let are = subst (ArePartitions g.K.Loaded.load) (sym same) c.requires.parts in
-    one-history g.K.World.passes.partitions log news c.know_list.ensures.serial c.know_list.ensures.agree
-    (omega (
+pub copy_behind-requires-clause-some : goal.copy_behind-requires-clause-some
+copy_behind-requires-clause-some g c =
+    let olds = g.P.Parts.states c.args.parts.now in
+    let news = g.P.Parts.states c.find_history.new.parts in
+    omega (
       arith,
-      pairs-length (DrainsHere log) 1 olds news c.mark_each.ensures.marked,
-      ap length c.know_load.ensures.same,
-      c.know_load.ensures.range,
-    ))
-    (drained-kept g.K.Loaded.load log olds news are c.mark_each.ensures.marked)
+      c.requires.some,
+      pairs-length (TellsHere c.args.journal.now.list.log) 1 olds news c.find_history.ensures.told,
+    )
 
-pub returns-clause-parts : goal.returns-clause-parts
-returns-clause-parts g c =
-    let log : Log = c.args.journal.now.list.log in
-    let same = c.know_load.ensures.same ∙ c.copy_undrained.ensures.same in
-    drained-partitions g.K.Loaded.load log (g.P.Parts.states c.know_load.new.parts)
-    (g.P.Parts.states c.mark_each.new.parts) (subst (ArePartitions g.K.Loaded.load) (sym same) c.requires.parts)
-    c.mark_each.ensures.marked
+pub copy_behind-requires-clause-numbered : goal.copy_behind-requires-clause-numbered
+copy_behind-requires-clause-numbered g c =
+    kept-numbered g.K.World.passes.partitions c.args.journal.now.list.log (g.P.Parts.states c.find_history.new.parts)
+    c.find_history.ensures.history
 
-pub returns-clause-whole : goal.returns-clause-whole
-returns-clause-whole g c =
+pub returns-clause-new : goal.returns-clause-new
+returns-clause-new g c = drained-new g.K.Loaded.load 1 c.in_ok-batch.batch.lists c.in_ok-batch.ensures.drained
+
+pub returns-clause-follows : goal.returns-clause-follows
+returns-clause-follows g c =
+    let seen : Log = c.args.cursor.now in
     let log : Log = c.args.journal.now.list.log in
-    let same = c.know_load.ensures.same ∙ c.copy_undrained.ensures.same in
-    drained-whole g.K.Loaded.load log (g.P.Parts.states c.know_load.new.parts)
-    (g.P.Parts.states c.mark_each.new.parts) (subst (ArePartitions g.K.Loaded.load) (sym same) c.requires.parts)
-    c.mark_each.ensures.marked (subst HaveNoPart (sym same) c.requires.whole)
+    let parts = g.P.Parts.states c.find_history.new.parts in
+    let batch : Batch = c.in_ok-batch.batch in
+    let begins : IsPrefix seen log =
+    subst (λ (l : Log). IsPrefix seen l) c.find_history.ensures.log c.find.ensures.begins in
+    let is : batch ≡ drained_of seen parts =
+    c.in_ok-batch.ensures.copies ∙ ap (λ (s : Log). drained_of s parts) c.find.ensures.same in
+    drain-follows g.K.Loaded.load g.K.World.passes.partitions seen log parts batch begins c.find_history.ensures.parts
+    c.find_history.ensures.history is c.in_ok-batch.ensures.drained c.sound.ensures

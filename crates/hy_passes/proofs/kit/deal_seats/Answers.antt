@@ -1,7 +1,7 @@
-use Rattle.std.proofs.Common.{rules, ◌≡◌, ◌+◌, ◌-◌, ℕ, List, [], ◌∷◌, ◌++◌, length, ap, refl, sym, ◌∙◌, arith, append_assoc, length-append, append-nil}
+use Rattle.std.proofs.Common.{rules, ◌≡◌, ◌+◌, ◌-◌, List, [], ◌∷◌, ◌++◌, length, ap, sym, ◌∙◌, arith, append_assoc, length-append}
 use Rattle.std.specs.Prelude.{slice_index_or}
 use Rattle.atomic_table.specs.Seated.{TableId}
-use Rattle.hy_worlds.specs.Origins.{desk_of, no_table}
+use Rattle.hy_worlds.specs.Origins.{no_table}
 use Rattle.hy_passes.specs.Law.{after_dealing, dealer}
 use Rattle.hy_passes.specs.Worlds.{new_partition}
 use Rattle.hy_passes.proofs.Lists.{index-behind}

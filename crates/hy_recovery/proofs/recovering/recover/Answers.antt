@@ -1,18 +1,21 @@
 -- One batch more, and the end.
-use Rattle.std.proofs.Common.{◌≡◌, ◌<◌, ◌≤◌, suc, None, [], refl, sym, subst, ◌∙◌, arith, length}
-use Rattle.std.specs.Prelude.{slice_get}
+use Rattle.std.proofs.Common.{◌≡◌, ◌<◌, ◌≤◌, ℕ, suc, List, ap, refl, sym, subst, ◌∙◌, arith, length}
+use Rattle.std.specs.Prelude.{IfSome, slice_get}
+use Rattle.hy_worlds.specs.Origins.{replayed_of}
 use Rattle.hy_rows.specs.Tables.{Lists}
 use Rattle.hy_partition.specs.Jobs.{Log}
 use Rattle.hy_partition.specs.Partition.{PartitionState}
 use Rattle.hy_partition.specs.Steps.{Begins}
 use Rattle.hy_crossing.specs.Crossings.{ArePartitions}
-use Rattle.hy_crossing.proofs.InformLaws.{pairs-count, some-then}
+use Rattle.hy_crossing.specs.Making.{AllBegin}
+use Rattle.hy_crossing.proofs.InformLaws.{pairs-count}
 use Rattle.hy_forks.specs.Drains.{TellsHere}
 use Rattle.hy_sound.proofs.ListLaws.{item-there}
 use Rattle.hy_recovery.specs.Recovering.{GoesOn, StopsAtCommit}
-use Rattle.hy_recovery.specs.inside.Ways.{AreOnWay, AreThere, IsAtRest, IsBound, IsShortage, untouched}
+use Rattle.hy_recovery.specs.inside.Ways.{AreOnWay, AreThere, IsShortage, untouched}
 use Rattle.hy_recovery.proofs.EndLaws.{ended-partitions, ended-whole, lacking-why}
-use Rattle.hy_recovery.proofs.JoinedLaws.{aim_of, few-lists, goes-on, next-stops, next_aim, recovered, run-batch, run-more, run-none}
+use Rattle.hy_recovery.proofs.JoinedLaws.{aim_of, all-replayed, few-lists, goes-on, next-stops, next_aim, recovered, run-batch, run-more, run-none}
+use Rattle.hy_recovery.proofs.PlaceLaws.{at-place, each-from, get-within}
 use Rattle.hy_recovery.proofs.ResultLaws.{this-error}
 use Rattle.hy_recovery.proofs.recovering.recover.Goals as goal
 
@@ -60,57 +63,54 @@ loop-place-preserved g c =
 pub find_history-requires-clause-parts : goal.find_history-requires-clause-parts
 find_history-requires-clause-parts g c =
     let run = c.loop-place.invariant.run in
-    subst (λ (lists : Lists). ArePartitions lists c.end_all.new.parts.items) c.requires.load
+    subst (λ (lists : Lists). ArePartitions lists c.loop-place.parts.items) c.requires.load
     (ended-partitions c.args.load.now
     (aim_of c.args.batches.now c.args.max_frames c.args.max_kept c.loop-place.place run.last) c.loop-place.journal.list.log
-    c.loop-place.parts.items run.there c.end_all.new.parts.items c.end_all.ensures)
+    c.loop-place.parts.items run.there)
 
 pub find_history-requires-clause-whole : goal.find_history-requires-clause-whole
 find_history-requires-clause-whole g c =
     let run = c.loop-place.invariant.run in
     ended-whole c.args.load.now
     (aim_of c.args.batches.now c.args.max_frames c.args.max_kept c.loop-place.place run.last) c.loop-place.journal.list.log
-    c.loop-place.parts.items run.there c.end_all.new.parts.items c.end_all.ensures
+    c.loop-place.parts.items run.there
 
 pub returns-clause-recovered : goal.returns-clause-recovered
 returns-clause-recovered g c =
-    let ended = c.end_all.new.parts.items in
+    let parts = c.loop-place.parts.items in
     let told = c.find_history.new.parts.items in
     let end : length c.args.batches.now ≤ c.loop-place.place =
     omega (arith, c.loop-place-test.false, c.count-place-end.ensures) in
     recovered c.args.load.now c.args.batches.now c.args.max_frames c.args.max_kept c.loop-place.place
-    c.loop-place.journal.list.log c.loop-place.parts.items c.loop-place.invariant.run end ended told c.end_all.ensures
-    c.find_history.ensures.told
-    (pairs-count (TellsHere c.loop-place.journal.list.log) 1 ended told c.find_history.ensures.told)
-
--- what runs, and the parts that are done, as each has none
-at_rest : (p : PartitionState) → IsAtRest p → (p.running ≡ None) × (p.part ≡ None)
-at_rest p is = (is.running, is.part)
-
-pub end_all-requires : goal.end_all-requires
-end_all-requires g c =
-    let run = c.loop-place.invariant.run in (
-      omega arith,
-      λ place. some-then (slice_get c.loop-place.parts.items place)
-          (IsBound c.args.load.now (aim_of c.args.batches.now c.args.max_frames c.args.max_kept c.loop-place.place run.last) [] place)
-          (λ p. (p.running ≡ None) × (p.part ≡ None)) (run.there.each place) (λ p is. at_rest p is.rest),
-    )
-
-pub begin_all-requires : goal.begin_all-requires
-begin_all-requires g c = (
-  omega arith,
-  λ place. some-then (slice_get c.in_ok-parts.parts.items place)
-      (Begins c.args.load.now (suc place) c.args.max_frames c.args.max_kept) (λ p. p.kept ≡ [])
-      (c.in_ok-parts.ensures.begin.each place) (λ p is. is.kept),
-)
+    c.loop-place.journal.list.log parts c.loop-place.invariant.run end told c.find_history.ensures.told
+    (pairs-count (TellsHere c.loop-place.journal.list.log) 1 parts told c.find_history.ensures.told)
 
 pub loop-place-init : goal.loop-place-init
-loop-place-init g c = record {
-  run = run-none c.args.load.now c.args.batches.now c.args.max_frames c.args.max_kept _ c.args.journal.list.log
-      c.in_ok-parts.parts.items c.begin_all.new.parts.items c.in_ok-parts.ensures.begin c.begin_all.ensures c.requires.log
-      c.in_ok-check_batches.ensures.sound.1;
-  client = refl;
-}
+loop-place-init g c =
+    let load = c.args.load.now in
+    let batches = c.args.batches.now in
+    let parts = c.know_replayed.new.parts.items in
+    let begin : AllBegin load c.args.max_frames c.args.max_kept parts =
+    subst (AllBegin load c.args.max_frames c.args.max_kept) (sym c.know_replayed.ensures.same) c.in_ok-parts.ensures.begin in
+    let known : (place : ℕ) → IfSome (slice_get parts place) (λ p. p.replayed ≡ replayed_of g.K.World.passes p.warehouse) =
+    subst (λ (rows : List PartitionState). (place : ℕ)
+    → IfSome (slice_get rows place) (λ p. p.replayed ≡ replayed_of g.K.World.passes p.warehouse))
+    (sym c.know_replayed.ensures.same) c.know_replayed.ensures.known in
+    record {
+      run = run-none load batches c.args.max_frames c.args.max_kept _ c.args.journal.list.log parts begin
+          (λ place. each-from _ (slice_get parts place) (λ p at.
+          let was = at-place (Begins load (suc place) c.args.max_frames c.args.max_kept) parts place p at (begin.each place) in
+          let is = at-place (λ p. p.replayed ≡ replayed_of g.K.World.passes p.warehouse) parts place p at (known place) in
+          is ∙ ap (λ t. replayed_of g.K.World.passes t.warehouse) was.terms
+          ∙ c.requires.replayed c.args.max_kept c.requires.kept c.in_ok-check_batches.ensures.few place
+          (omega (arith, get-within parts place p at, begin.count))))
+          c.requires.log c.in_ok-check_batches.ensures.sound.1;
+      client = refl;
+    }
+
+pub returns-clause-replayed : goal.returns-clause-replayed
+returns-clause-replayed g c = all-replayed c.args.load.now c.args.max_frames c.args.max_kept c.args.batches.now
+    c.find_history.new.parts.items (returns-clause-recovered g c)
 
 pub returns-clause-goes_on : goal.returns-clause-goes_on
 returns-clause-goes_on g c =

@@ -43,5 +43,5 @@ returns-clause-refused g c =
 
 pub cross-done-requires-clause-edition : goal.cross-done-requires-clause-edition
 cross-done-requires-clause-edition g c =
-    subst (λ (job : JobState). AllMayRun job.edition c.args.parts.now.items) (sym c.of_edition.ensures)
-    (all-may c.args.edition c.args.parts.now.items c.requires.can.replays)
+    subst (λ (job : JobState). AllMayRun job.edition job.command c.args.parts.now.items) (sym c.of_edition.ensures)
+    (all-may c.args.edition c.args.command c.args.parts.now.items c.requires.can.rest c.requires.can.replays)

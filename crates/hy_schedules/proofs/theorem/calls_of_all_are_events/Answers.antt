@@ -1,9 +1,8 @@
 -- Each call on one partition is an event of its world; what is done to each is one event of the whole.
-use Rattle.std.proofs.Common.{refl, ap, suc}
-use Rattle.hy_partition.specs.Partition.{PartitionState}
+use Rattle.std.proofs.Common.{refl, suc}
 use Rattle.hy_partition.specs.Schedules.{begins, closes, forks, forks_from, steps, takes}
 use Rattle.hy_schedules.specs.Schedules.{world_at}
-use Rattle.hy_schedules.proofs.CallLaws.{drained-step, is-fresh, leads-at, leads-close_all, leads-drain, leads-fork_all, leads-fork_all_from, leads-look, stays-at, stays-told, stays-unforked}
+use Rattle.hy_schedules.proofs.CallLaws.{is-fresh, leads-at, leads-close_all, leads-drain, leads-fork_all, leads-fork_all_from, leads-look, stays-at, stays-told, stays-unforked}
 use Rattle.hy_schedules.proofs.CrossLaws.{leads-cross}
 use Rattle.hy_schedules.proofs.theorem.calls_of_all_are_events.Goals as goal
 
@@ -15,35 +14,33 @@ returns-clause-new c = λ n lists frames commits parts count each.
 pub returns-clause-begin : goal.returns-clause-begin
 returns-clause-begin c = λ n place log parts news whole job is within known new changes.
     leads-at n place log log parts whole is within (begins job.pass.client job.command) changes.0 changes.1 news refl
-    changes.2 changes.3 (ap (λ (p : PartitionState). p.drained) changes.4.1)
+    changes.2 changes.3
     (λ before world. c.calls_are_events.ensures.begin n log changes.0 changes.1 (world_at whole (suc place) before) job
     world known new changes.4.0 changes.4.1)
 
 pub returns-clause-step : goal.returns-clause-step
 returns-clause-step c = λ n place log after parts news whole job progress is within changes.
     leads-at n place log after parts whole is within steps changes.0 changes.1 news refl changes.2 changes.3
-    (drained-step job log after changes.0 changes.1 progress changes.4.1)
     (λ before world. c.calls_are_events.ensures.step n log after changes.0 changes.1 (world_at whole (suc place) before)
     job progress world changes.4.0 changes.4.1)
 
 pub returns-clause-take : goal.returns-clause-take
 returns-clause-take c = λ n place log parts news whole is within changes.
     leads-at n place log log parts whole is within takes changes.0 changes.1 news refl changes.2 changes.3
-    (ap (λ (p : PartitionState). p.drained) changes.4.1)
     (λ before world. c.calls_are_events.ensures.take n log changes.0 changes.1 (world_at whole (suc place) before) world
     changes.4.0 changes.4.1)
 
 pub returns-clause-fork : goal.returns-clause-fork
 returns-clause-fork c = λ n place kit log known client parts news whole snapshot is within changes.
     leads-at n place log log parts whole is within (forks client snapshot.child) changes.0 changes.1 news refl changes.2
-    changes.3 changes.4.job.drained
+    changes.3
     (λ before world. c.calls_are_events.ensures.fork n kit log known client changes.0 changes.1
     (world_at whole (suc place) before) snapshot world changes.4)
 
 pub returns-clause-fork_from : goal.returns-clause-fork_from
 returns-clause-fork_from c = λ n place kit log parts news whole from snapshot is within changes.
     leads-at n place log log parts whole is within (forks_from from.child snapshot.child) changes.0 changes.1 news refl
-    changes.2 changes.3 changes.4.job.drained
+    changes.2 changes.3
     (λ before world. c.calls_are_events.ensures.fork_from n kit log changes.0 changes.1
     (world_at whole (suc place) before) from snapshot world changes.4)
 
@@ -55,7 +52,6 @@ returns-clause-refused_fork c = λ n place log parts news whole is within change
 pub returns-clause-close : goal.returns-clause-close
 returns-clause-close c = λ n place log parts news whole child is within changes.
     leads-at n place log log parts whole is within (closes child) changes.0 changes.1 news refl changes.2 changes.3
-    changes.4.job.drained
     (λ before world. c.calls_are_events.ensures.close n log changes.0 changes.1 (world_at whole (suc place) before)
     child world changes.4)
 

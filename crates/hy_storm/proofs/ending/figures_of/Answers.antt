@@ -10,8 +10,8 @@ use Rattle.hy_crossing.specs.Crossings.{database_behind}
 use Rattle.hy_database.specs.Database.{all_rows}
 use Rattle.hy_storm.proofs.ending.figures_of.Goals as goal
 
-pub returns : goal.returns
-returns g c =
+pub returns-clause-figures : goal.returns-clause-figures
+returns-clause-figures g c =
     let lists = g.K.Loaded.load in
     let log : Log = c.args.journal.list.log in
     let have = c.audit_all.ensures.books log c.find_history.ensures.history.kept in
@@ -20,7 +20,6 @@ returns g c =
     let cents = ap (λ (t : Totals). pos t.cents) books ∙ have.1 in
     let grown = to_z-of_z w128 c.from.result (search rules) ∙ c.from.ensures in
     record {
-      log = log;
       serial = subst (λ (n : ℕ). IsSerial warehouses_of_commit number_of n log) c.requires.partitions
           c.find_history.ensures.history.serial;
       kept = ap (λ (t : Totals). t.commits) books ∙ have.0;

@@ -76,9 +76,9 @@ invariant_of-self g c =
           (IsUndoLog-kept g.row.N p.space c.close.new.self p.undo pages c.self.invariant.0.undo_log)
           (ap (option_map (table_bytes c.close.new.self.frames)) c.close.ensures.closed)
           (emptied inside.snapshots.items child) others,
-      subst (λ (desk : DeskState). IsTied g.K.Loaded.load inside.kept desk
+      subst (λ (desk : DeskState). IsTied g.K.Loaded.load g.K.World.passes inside.kept desk
           (record p { space = c.close.new.self; snapshots = slice_set inside.snapshots.items child None })) (sym desk)
-          (tied-closed g.K.Loaded.load inside.kept inside.desk p c.self.invariant.1 c.close.new.self
+          (tied-closed g.K.Loaded.load g.K.World.passes inside.kept inside.desk p c.self.invariant.1 c.close.new.self
           (slice_set inside.snapshots.items child None) child others),
     )
 
@@ -99,7 +99,6 @@ returns-clause-closes g c =
       job = record {
         terms = refl;
         kept = refl;
-        drained = refl;
         book = refl;
         running = refl;
         part = refl;

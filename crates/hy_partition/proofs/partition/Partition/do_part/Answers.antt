@@ -7,7 +7,7 @@ use Rattle.hy_commands.specs.declared.edition.Edition.{Edition}
 use Rattle.hy_space.specs.Space.{owner_bytes}
 use Rattle.hy_tpcc.specs.Parts.{HasPart, reply_of_part}
 use Rattle.hy_partition.specs.Jobs.{RunningJob}
-use Rattle.hy_partition.specs.Partition.{PartState, PartitionState, layout_of, may_run, rows_now}
+use Rattle.hy_partition.specs.Partition.{PartState, PartitionState, layout_of, may_run, replays, rows_now}
 use Rattle.hy_partition.specs.Parts.{DoesPart, HasNoPart, rows_with_part}
 use Rattle.hy_partition.specs.inside.Soundness.{IsSound, IsTied}
 use Rattle.hy_partition.specs.inside.Views.{partition_of, with_list}
@@ -66,19 +66,19 @@ invariant_of-self g c =
     (subst (λ (k : PartState). HasPart (layout_of c.args.self.now) k.command) (sym part) c.requires.has_part) in
     subst (λ (list : KeptState Commit).
     IsSound g.row.N list.room inside.executor (with_list (record after { part = c.put.new.place }) list)
-    × IsTied g.K.Loaded.load list inside.desk (with_list (record after { part = c.put.new.place }) list))
+    × IsTied g.K.Loaded.load g.K.World.passes list inside.desk (with_list (record after { part = c.put.new.place }) list))
     (sym c.run_part.ensures.kept)
     (subst (λ (part : Option PartState). IsSound g.row.N room inside.executor (record after { part = part })
-    × IsTied g.K.Loaded.load (record inside.kept { room = room }) inside.desk (record after { part = part }))
+    × IsTied g.K.Loaded.load g.K.World.passes (record inside.kept { room = room }) inside.desk (record after { part = part }))
     (sym c.in-Some.is) (
       sound-parted g.row.N _ _ p c.self.invariant.0 room inside.executor c.run_part.new.space c.run_part.new.undo
           c.in-Some.part idle no_part has_part refl c.in-Ok.ensures.done.store c.in-Ok.ensures.done.step
           c.in-Ok.ensures.writes.undoes.undo_log c.in-Ok.ensures.writes.undoes.undone c.in-Ok.ensures.writes.children
           c.in-Ok.ensures.room
           (subst (λ (q : PartitionState). length q.kept < q.max_kept) (sym c.self.view_is) c.requires.few)
-          (subst (λ (k : PartState). may_run p.replays k.edition ≡ true) (sym part)
-          (subst (λ (q : PartitionState). may_run q.replays c.args.edition ≡ true) (sym c.self.view_is) c.requires.edition)),
-      tied-parted g.K.Loaded.load inside.kept inside.desk p c.self.invariant.1 room p.running (Some c.in-Some.part)
+          (subst (λ (k : PartState). may_run (replays p) k.edition ≡ true) (sym part)
+          (subst (λ (q : PartitionState). may_run (replays q) c.args.edition ≡ true) (sym c.self.view_is) c.requires.edition)),
+      tied-parted g.K.Loaded.load g.K.World.passes inside.kept inside.desk p c.self.invariant.1 room p.running (Some c.in-Some.part)
           c.run_part.new.undo c.run_part.new.space,
     ))
 
@@ -93,20 +93,20 @@ invariant_of-self-in-Err g c =
     let after : PartitionState = record p { undo = c.run_part.new.undo; space = c.run_part.new.space } in
     subst (λ (list : KeptState Commit).
     IsSound g.row.N list.room inside.executor (with_list (record after { part = c.clear.new.place }) list)
-    × IsTied g.K.Loaded.load list inside.desk (with_list (record after { part = c.clear.new.place }) list))
+    × IsTied g.K.Loaded.load g.K.World.passes list inside.desk (with_list (record after { part = c.clear.new.place }) list))
     (sym c.run_part.ensures.kept)
     (subst (λ (part : Option PartState). IsSound g.row.N room inside.executor (record after { part = part })
-    × IsTied g.K.Loaded.load (record inside.kept { room = room }) inside.desk (record after { part = part }))
+    × IsTied g.K.Loaded.load g.K.World.passes (record inside.kept { room = room }) inside.desk (record after { part = part }))
     (sym c.clear.ensures)
     (subst (λ (running : Option RunningJob).
     IsSound g.row.N room inside.executor (record after { running = running; part = None })
-    × IsTied g.K.Loaded.load (record inside.kept { room = room }) inside.desk (record after { running = running; part = None }))
+    × IsTied g.K.Loaded.load g.K.World.passes (record inside.kept { room = room }) inside.desk (record after { running = running; part = None }))
     (sym idle) (
       sound-undone g.row.N _ _ p c.self.invariant.0 room inside.executor c.run_part.new.space c.run_part.new.undo
           p.finished refl back.none back.undo_log
           (back.bytes ∙ sym (undone-none p.space p.undo (rests g.row.N _ _ p c.self.invariant.0 idle no_part).undo))
           back.children,
-      tied-parted g.K.Loaded.load inside.kept inside.desk p c.self.invariant.1 room None None c.run_part.new.undo
+      tied-parted g.K.Loaded.load g.K.World.passes inside.kept inside.desk p c.self.invariant.1 room None None c.run_part.new.undo
           c.run_part.new.space,
     )))
 
@@ -133,7 +133,6 @@ returns-in-Ok-clause-done g c =
       nothing = record { seen = refl; kept = refl; book = refl };
       beside = record {
         terms = refl;
-        drained = refl;
         running = refl;
         finished = refl;
         snapshots = refl;
@@ -179,7 +178,6 @@ returns-in-Err-clause-undone g c =
       nothing = record { seen = refl; kept = refl; book = refl };
       beside = record {
         terms = refl;
-        drained = refl;
         running = refl;
         finished = refl;
         snapshots = refl;

@@ -29,7 +29,7 @@ pub invariant_of-self-in_default-fork : goal.invariant_of-self-in_default-fork
 invariant_of-self-in_default-fork g c = (
   sound-as_before g.row.N _ _ (partition_of c.self.inside) c.self.invariant.0 c.fork.new.space c.in_default-fork.ensures.err
       c.reserve.new.self.items c.reserve.ensures.items,
-  tied-unforked g.K.Loaded.load c.self.inside.kept c.self.inside.desk (partition_of c.self.inside) c.self.invariant.1 c.fork.new.space c.reserve.new.self.items c.reserve.ensures.items,
+  tied-unforked g.K.Loaded.load g.K.World.passes c.self.inside.kept c.self.inside.desk (partition_of c.self.inside) c.self.invariant.1 c.fork.new.space c.reserve.new.self.items c.reserve.ensures.items,
 )
 
 pub returns-in_default-fork-clause-err : goal.returns-in_default-fork-clause-err
@@ -46,7 +46,7 @@ invariant_of-self-in_default-of g c =
       sound-unforked g.row.N _ _ (partition_of c.self.inside) c.self.invariant.0 c.fork.new.space c.of.new.space c.in-Ok-fork.child child.least child.bytes child.others child.owner child.undo_log
           c.of.ensures.unchanged c.of.ensures.own c.close.new.self c.close.ensures.closed c.close.ensures.others c.close.ensures.owner c.close.ensures.kept
           c.reserve.new.self.items c.reserve.ensures.items,
-      tied-unforked g.K.Loaded.load c.self.inside.kept c.self.inside.desk (partition_of c.self.inside) c.self.invariant.1 c.close.new.self c.reserve.new.self.items c.reserve.ensures.items,
+      tied-unforked g.K.Loaded.load g.K.World.passes c.self.inside.kept c.self.inside.desk (partition_of c.self.inside) c.self.invariant.1 c.close.new.self c.reserve.new.self.items c.reserve.ensures.items,
     )
 
 pub returns-in_default-of-clause-err : goal.returns-in_default-of-clause-err
@@ -67,7 +67,7 @@ open_snapshot-requires-clause-within g c =
 pub give-ticket-requires : goal.give-ticket-requires
 give-ticket-requires g c =
     let p : PartitionState = partition_of c.self.inside in
-    free_number g.K.Loaded.load c.self.inside.kept c.self.inside.desk p c.self.invariant.1 c.in-Ok-fork.child
+    free_number g.K.Loaded.load g.K.World.passes c.self.inside.kept c.self.inside.desk p c.self.invariant.1 c.in-Ok-fork.child
     (snapshot_fresh g.row.N _ _ p c.self.invariant.0 c.in-Ok-fork.child c.in-Ok-fork.ensures.least.closed)
 
 pub new-requires : goal.new-requires
@@ -112,13 +112,13 @@ invariant_of-self-2 g c =
       })) (sym c.tell.ensures.same.1)
           (sound-told g.row.N _ _ (record p { space = c.of.new.space; snapshots = c.open_snapshot.new.snapshots.items }) sound
           list.seen (projection_of list.warehouse list.seen) still),
-      subst (λ (desk : DeskState). IsTied g.K.Loaded.load list desk (record p {
+      subst (λ (desk : DeskState). IsTied g.K.Loaded.load g.K.World.passes list desk (record p {
         seen = list.seen;
         kept = projection_of list.warehouse list.seen;
         space = c.of.new.space;
         snapshots = c.open_snapshot.new.snapshots.items;
       })) (sym c.give-ticket.ensures.desk)
-          (tied-opened g.K.Loaded.load inside.kept inside.desk p c.self.invariant.1 list
+          (tied-opened g.K.Loaded.load g.K.World.passes inside.kept inside.desk p c.self.invariant.1 list
           (projection_of list.warehouse list.seen) c.of.new.space c.open_snapshot.new.snapshots.items c.in-Ok-fork.child
           (length p.kept) c.tell.ensures.same.0 still opened others),
     )

@@ -47,7 +47,7 @@ open_snapshot-requires-clause-within g c =
 pub give-own-requires : goal.give-own-requires
 give-own-requires g c =
     let p : PartitionState = partition_of c.self.inside in
-    free_number g.K.Loaded.load c.self.inside.kept c.self.inside.desk p c.self.invariant.1 c.in-Ok-fork_child.child
+    free_number g.K.Loaded.load g.K.World.passes c.self.inside.kept c.self.inside.desk p c.self.invariant.1 c.in-Ok-fork_child.child
     (snapshot_fresh g.row.N _ _ p c.self.invariant.0 c.in-Ok-fork_child.child c.in-Ok-fork_child.ensures.least.closed)
 
 pub new-requires : goal.new-requires
@@ -82,9 +82,9 @@ invariant_of-self-2 g c =
       sound-again g.row.N _ _ p c.self.invariant.0 c.fork_child.new.self c.in-Ok-fork_child.child c.number-2.result
           child.bytes child.others child.owner child.kept snapshots
           (c.open_snapshot.ensures.opened ∙ sym is_open) others,
-      subst (λ (desk : DeskState). IsTied g.K.Loaded.load c.self.inside.kept desk
+      subst (λ (desk : DeskState). IsTied g.K.Loaded.load g.K.World.passes c.self.inside.kept desk
           (record p { space = c.fork_child.new.self; snapshots = snapshots })) (sym c.give-own.ensures.desk)
-          (tied-opened g.K.Loaded.load c.self.inside.kept c.self.inside.desk p c.self.invariant.1 c.self.inside.kept
+          (tied-opened g.K.Loaded.load g.K.World.passes c.self.inside.kept c.self.inside.desk p c.self.invariant.1 c.self.inside.kept
           p.kept c.fork_child.new.self snapshots c.in-Ok-fork_child.child c.in-Some.count refl refl
           c.open_snapshot.ensures.opened others),
     )

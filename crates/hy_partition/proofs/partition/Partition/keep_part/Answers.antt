@@ -65,11 +65,11 @@ invariant_of-self g c =
       undo = c.commit.new.self;
     } in
     subst (λ (part : Option PartState). IsSound g.row.N list.room inside.executor (record after { part = part })
-    × IsTied g.K.Loaded.load list inside.desk (record after { part = part })) (sym c.take.ensures.after) (
+    × IsTied g.K.Loaded.load g.K.World.passes list inside.desk (record after { part = part })) (sym c.take.ensures.after) (
       sound-part_kept g.row.N _ _ p c.self.invariant.0 list.room c.commit.new.self list.seen
           (projection_of list.warehouse list.seen) c.enter_part-share.new.book c.in-Some.part c.args.number part
           c.commit.ensures.log c.commit.ensures.undo_log longer,
-      tied-part_kept g.K.Loaded.load inside.kept inside.desk p c.self.invariant.1 g.row.N _ _ list c.in-Some.part
+      tied-part_kept g.K.Loaded.load g.K.World.passes inside.kept inside.desk p c.self.invariant.1 g.row.N _ _ list c.in-Some.part
           c.args.number (projection_of list.warehouse list.seen) c.enter_part-share.new.book c.commit.new.self
           c.self.invariant.0 part c.enter.ensures.warehouse longer (c.enter_part-share.ensures.book
           ∙ ap (λ warehouse. with_part_entered warehouse inside.book c.open-edition.result.1) here
@@ -101,7 +101,6 @@ returns-clause-kept g c =
           ∙ ap (share_of_part p.warehouse) c.open-edition.ensures.1;
       beside = record {
         terms = refl;
-        drained = refl;
         running = refl;
         finished = refl;
         snapshots = refl;

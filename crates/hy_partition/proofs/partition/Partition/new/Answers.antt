@@ -1,6 +1,7 @@
 use Rattle.std.proofs.Common.{◌≡◌, ℕ, List, [], Option, ap, sym, ◌∙◌, subst, arith}
 use Rattle.std.specs.Prelude.{length}
 use Rattle.std.proofs.lemmas.Bool.Decides.{nat_tests}
+use Rattle.hy_worlds.specs.Origins.{replayed_of}
 use Rattle.hy_passes.specs.Worlds.{SeatState}
 use Rattle.hy_commands.specs.declared.command.Commit.{Commit}
 use Rattle.hy_ledger.specs.Books.{new_book}
@@ -21,17 +22,19 @@ invariant_of-result g c =
     let number : c.args.seat.warehouse ≡ c.args.warehouse = ap (λ (s : SeatState Commit). s.warehouse) c.requires.seat in
     let desk = c.part-list.ensures.desk ∙ ap (λ number. record { warehouse = number; out = [] }) number in
     let book = c.part-list.ensures.book ∙ ap new_book number in
-    let p : PartitionState = made g.row.N c.args.load.now c.args.warehouse c.args.max_frames c.args.max_kept c.in-Ok.executor
+    let p : PartitionState = made g.row.N c.args.load.now c.args.warehouse c.args.max_frames c.args.max_kept c.replayed-replayed.result c.in-Ok.executor
     c.in-Ok.space c.in-Ok.undo laid c.new.result c.part-list.result.1 c.part-list.result.2 list_of c.new.ensures.1 desk book in
     subst (λ (snapshots : List (Option ℕ)). IsSound g.row.N c.new.result.room c.in-Ok.executor (record p { snapshots = snapshots })
-    × IsTied g.K.Loaded.load c.new.result c.part-list.result.1 (record p { snapshots = snapshots }))
+    × IsTied g.K.Loaded.load g.K.World.passes c.new.result c.part-list.result.1 (record p { snapshots = snapshots }))
     (sym c.new-in-Ok.ensures.items) (
-      sound-made g.row.N c.args.load.now c.args.warehouse c.args.max_frames c.args.max_kept c.in-Ok.executor
+      sound-made g.row.N c.args.load.now c.args.warehouse c.args.max_frames c.args.max_kept c.replayed-replayed.result c.in-Ok.executor
           c.in-Ok.space c.in-Ok.undo laid c.new.result c.part-list.result.1 c.part-list.result.2 list_of c.new.ensures.1 desk book
           c.new.result.room c.requires.kept between,
-      tied-made g.row.N c.args.load.now c.args.warehouse c.args.max_frames c.args.max_kept c.in-Ok.executor
+      tied-made g.row.N c.args.load.now c.args.warehouse c.args.max_frames c.args.max_kept c.replayed-replayed.result c.in-Ok.executor
           c.in-Ok.space c.in-Ok.undo laid c.new.result c.part-list.result.1 c.part-list.result.2 list_of c.new.ensures.1 desk book
-          g.K.Loaded.load c.requires.load,
+          g.K.Loaded.load g.K.World.passes c.requires.load
+          (c.replayed-replayed.ensures ∙ ap (replayed_of g.K.World.passes)
+          (ap (λ (s : SeatState Commit). s.warehouse) (c.part-list.ensures.list ∙ c.requires.seat))),
     )
 
 pub returns-in-Ok-clause-begins : goal.returns-in-Ok-clause-begins
@@ -42,9 +45,9 @@ returns-in-Ok-clause-begins g c =
     let number : c.args.seat.warehouse ≡ c.args.warehouse = ap (λ (s : SeatState Commit). s.warehouse) c.requires.seat in
     let desk = c.part-list.ensures.desk ∙ ap (λ number. record { warehouse = number; out = [] }) number in
     let book = c.part-list.ensures.book ∙ ap new_book number in
-    let p : PartitionState = made g.row.N c.args.load.now c.args.warehouse c.args.max_frames c.args.max_kept c.in-Ok.executor
+    let p : PartitionState = made g.row.N c.args.load.now c.args.warehouse c.args.max_frames c.args.max_kept c.replayed-replayed.result c.in-Ok.executor
     c.in-Ok.space c.in-Ok.undo laid c.new.result c.part-list.result.1 c.part-list.result.2 list_of c.new.ensures.1 desk book in
     subst (λ (snapshots : List (Option ℕ)). Begins c.args.load.now c.args.warehouse c.args.max_frames c.args.max_kept
     (record p { snapshots = snapshots })) (sym c.new-in-Ok.ensures.items)
-    (begins-made g.row.N c.args.load.now c.args.warehouse c.args.max_frames c.args.max_kept c.in-Ok.executor
+    (begins-made g.row.N c.args.load.now c.args.warehouse c.args.max_frames c.args.max_kept c.replayed-replayed.result c.in-Ok.executor
     c.in-Ok.space c.in-Ok.undo laid c.new.result c.part-list.result.1 c.part-list.result.2 list_of c.new.ensures.1 desk book)

@@ -18,7 +18,6 @@ returns-clause-job g c =
     let keeps : KeepsJob c.args.self.now new = subst (λ (old : PartitionState). KeepsJob old new) c.self.view_is (record {
       terms = refl;
       kept = refl;
-      drained = refl;
       book = refl;
       running = refl;
       part = refl;
@@ -42,5 +41,5 @@ invariant_of-self g c =
           c.self.invariant.0.undo_log)
           (λ child. spells-kept_more g.row.N p after refl [] (sym (append-nil p.kept)) child refl
           (c.set_max.ensures.children.bytes child) (c.self.invariant.0.snapshots child)),
-      tied-unforked g.K.Loaded.load c.self.inside.kept c.self.inside.desk p c.self.invariant.1 c.set_max.new.self p.snapshots refl,
+      tied-unforked g.K.Loaded.load g.K.World.passes c.self.inside.kept c.self.inside.desk p c.self.invariant.1 c.set_max.new.self p.snapshots refl,
     )

@@ -44,13 +44,13 @@ invariant_of-self-in-Ok-None g c =
     let after : PartitionState = record p { running = Some c.advance.new.self; undo = c.slice.new.undo; space = space } in
     let more = more-running g.row.N _ executor p c.self.invariant.0 job running answered in
     let writes = c.slice.ensures.writes in
-    relaid (λ q. IsSound g.row.N inside.kept.room next q × IsTied g.K.Loaded.load inside.kept inside.desk q) after
+    relaid (λ q. IsSound g.row.N inside.kept.room next q × IsTied g.K.Loaded.load g.K.World.passes inside.kept inside.desk q) after
     next.layout c.slice.ensures.layout (
       sound-continued g.row.N _ executor p c.self.invariant.0 next space job running c.slice.ensures.layout
           c.in-Ok-None.ensures.under_way.store under_way writes.children c.slice.new.undo c.advance.new.self c.advance.ensures
           writes.undoes.undo_log writes.undoes.undone
           (not_last job (slices-running g.row.N _ executor p c.self.invariant.0 job running) more),
-      tied-same g.K.Loaded.load inside.kept inside.desk p c.self.invariant.1 inside.kept.room (Some c.advance.new.self)
+      tied-same g.K.Loaded.load g.K.World.passes inside.kept inside.desk p c.self.invariant.1 inside.kept.room (Some c.advance.new.self)
           c.slice.new.undo p.finished space,
     )
 
@@ -133,14 +133,14 @@ invariant_of-self-in-Err g c =
       tables = back.gives_up.children.tables ∙ writes.children.tables;
       bytes = λ child. back.gives_up.children.bytes child ∙ writes.children.bytes child;
     } in
-    relaid (λ q. IsSound g.row.N inside.kept.room next q × IsTied g.K.Loaded.load inside.kept inside.desk q) after
+    relaid (λ q. IsSound g.row.N inside.kept.room next q × IsTied g.K.Loaded.load g.K.World.passes inside.kept inside.desk q) after
     next.layout c.slice.ensures.layout
     (subst (λ (place : Option RunningJob).
     IsSound g.row.N inside.kept.room next (record after { running = place })
-    × IsTied g.K.Loaded.load inside.kept inside.desk (record after { running = place })) (sym c.take.ensures.after) (
+    × IsTied g.K.Loaded.load g.K.World.passes inside.kept inside.desk (record after { running = place })) (sym c.take.ensures.after) (
       sound-refused g.row.N _ executor p c.self.invariant.0 next c.roll_back.new.space c.roll_back.new.self
           c.put.new.place job running c.slice.ensures.layout back.log back.undo_log (back.bytes ∙ writes.undoes.undone) children,
-      tied-same g.K.Loaded.load inside.kept inside.desk p c.self.invariant.1 inside.kept.room None c.roll_back.new.self
+      tied-same g.K.Loaded.load g.K.World.passes inside.kept inside.desk p c.self.invariant.1 inside.kept.room None c.roll_back.new.self
           c.put.new.place c.roll_back.new.space,
     ))
 

@@ -152,16 +152,16 @@ invariant_of-self g c =
       finished = c.put.new.place;
       space = space;
     } in
-    relaid (λ q. IsSound g.row.N list.room next q × IsTied g.K.Loaded.load list inside.desk q) after next.layout
+    relaid (λ q. IsSound g.row.N list.room next q × IsTied g.K.Loaded.load g.K.World.passes list inside.desk q) after next.layout
     c.slice.ensures.layout
     (subst (λ (place : Option RunningJob).
     IsSound g.row.N list.room next (record after { running = place })
-    × IsTied g.K.Loaded.load list inside.desk (record after { running = place })) (sym c.take.ensures.after) (
+    × IsTied g.K.Loaded.load g.K.World.passes list inside.desk (record after { running = place })) (sym c.take.ensures.after) (
       sound-accepted g.row.N _ executor p c.self.invariant.0 next space job running c.slice.ensures.layout
           c.in-Ok-Some.ensures.under_way.store under_way c.slice.ensures.writes.children last list.room c.commit.new.self
           list.seen (projection_of list.warehouse list.seen) c.accept-done.new.book c.put.new.place c.commit.ensures.log
           c.commit.ensures.undo_log longer,
-      tied-accepted g.K.Loaded.load inside.kept inside.desk p c.self.invariant.1 g.row.N _ executor list job
+      tied-accepted g.K.Loaded.load g.K.World.passes inside.kept inside.desk p c.self.invariant.1 g.row.N _ executor list job
           (projection_of list.warehouse list.seen) c.accept-done.new.book c.commit.new.self c.put.new.place space
           c.self.invariant.0 accepted c.accept-done.ensures.warehouse longer c.accept-done.ensures.book
           (runs g.row.N _ executor p c.self.invariant.0 job running).edition,
@@ -193,14 +193,14 @@ invariant_of-self-in-Err g c =
       tables = back.gives_up.children.tables ∙ writes.children.tables;
       bytes = λ child. back.gives_up.children.bytes child ∙ writes.children.bytes child;
     } in
-    relaid (λ q. IsSound g.row.N inside.kept.room next q × IsTied g.K.Loaded.load inside.kept inside.desk q) after
+    relaid (λ q. IsSound g.row.N inside.kept.room next q × IsTied g.K.Loaded.load g.K.World.passes inside.kept inside.desk q) after
     next.layout c.slice.ensures.layout
     (subst (λ (place : Option RunningJob).
     IsSound g.row.N inside.kept.room next (record after { running = place })
-    × IsTied g.K.Loaded.load inside.kept inside.desk (record after { running = place })) (sym c.take.ensures.after) (
+    × IsTied g.K.Loaded.load g.K.World.passes inside.kept inside.desk (record after { running = place })) (sym c.take.ensures.after) (
       sound-refused g.row.N _ executor p c.self.invariant.0 next c.roll_back.new.space c.roll_back.new.self
           c.put-in-Err.new.place job running c.slice.ensures.layout back.log back.undo_log (back.bytes ∙ writes.undoes.undone) children,
-      tied-same g.K.Loaded.load inside.kept inside.desk p c.self.invariant.1 inside.kept.room None c.roll_back.new.self
+      tied-same g.K.Loaded.load g.K.World.passes inside.kept inside.desk p c.self.invariant.1 inside.kept.room None c.roll_back.new.self
           c.put-in-Err.new.place c.roll_back.new.space,
     ))
 

@@ -17,13 +17,13 @@ invariant_of-self g c =
     let back = c.roll_back.ensures in
     let after : PartitionState = record p { undo = c.roll_back.new.self; space = c.roll_back.new.space } in
     subst (λ (part : Option PartState). IsSound g.row.N inside.kept.room inside.executor (record after { part = part })
-    × IsTied g.K.Loaded.load inside.kept inside.desk (record after { part = part })) (sym c.clear.ensures)
+    × IsTied g.K.Loaded.load g.K.World.passes inside.kept inside.desk (record after { part = part })) (sym c.clear.ensures)
     (subst (λ (running : Option RunningJob).
     IsSound g.row.N inside.kept.room inside.executor (record after { running = running; part = None })
-    × IsTied g.K.Loaded.load inside.kept inside.desk (record after { running = running; part = None })) (sym idle) (
+    × IsTied g.K.Loaded.load g.K.World.passes inside.kept inside.desk (record after { running = running; part = None })) (sym idle) (
       sound-undone g.row.N _ _ p c.self.invariant.0 inside.kept.room inside.executor c.roll_back.new.space c.roll_back.new.self
           p.finished refl back.log back.undo_log back.bytes back.gives_up.children,
-      tied-parted g.K.Loaded.load inside.kept inside.desk p c.self.invariant.1 inside.kept.room None None c.roll_back.new.self
+      tied-parted g.K.Loaded.load g.K.World.passes inside.kept inside.desk p c.self.invariant.1 inside.kept.room None None c.roll_back.new.self
           c.roll_back.new.space,
     ))
 
@@ -40,7 +40,6 @@ returns-clause-undone g c =
       nothing = record { seen = refl; kept = refl; book = refl };
       beside = record {
         terms = refl;
-        drained = refl;
         running = refl;
         finished = refl;
         snapshots = refl;

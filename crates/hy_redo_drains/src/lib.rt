@@ -1,0 +1,8 @@
+//! A redo log that is handed what a database commits.
+#![tactic(auto)]
+
+mod drain_log;
+mod laws;
+
+pub use drain_log::DrainLog;
+pub use laws::stops_leave_a_beginning;
