@@ -18,7 +18,7 @@ use Rattle.hy_commands.proofs.DatabaseLaws.{length-database}
 use Rattle.hy_database.specs.Database.{customer_rows, kept_in}
 use Rattle.hy_database.proofs.KeptLaws.{kept-accepted}
 use Rattle.hy_database.proofs.Replays.{IsReplay, refusal-same, replay-after}
-use Rattle.hy_tpcc.specs.Parts.{FindsPayer, HasPart}
+use Rattle.hy_partition.specs.Parts.{FindsPayer, HasPart}
 use Rattle.hy_partition.specs.Jobs.{Log}
 use Rattle.hy_partition.specs.Partition.{PartitionState, layout_of, projection_of, rows_now}
 use Rattle.hy_partition.specs.Steps.{is_full}

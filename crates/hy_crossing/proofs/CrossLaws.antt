@@ -24,11 +24,10 @@ use Rattle.hy_passes.specs.SerialList.{projection}
 use Rattle.hy_database.specs.Database.{act_on_all, customer_rows, whole_outcome}
 use Rattle.hy_database.proofs.PayerLaws.{same-reply}
 use Rattle.hy_database.proofs.Replays.{replay-after}
-use Rattle.hy_tpcc.specs.Parts.{reply_of_part}
 use Rattle.hy_partition.specs.Accounts.{with_command}
 use Rattle.hy_partition.specs.Jobs.{Log}
 use Rattle.hy_partition.specs.Partition.{PartitionState, layout_of, rows_now, terms_of}
-use Rattle.hy_partition.specs.Parts.{with_part_entered}
+use Rattle.hy_partition.specs.Parts.{reply_of_part, with_part_entered}
 use Rattle.hy_crossing.specs.Crossings.{AreDone, AreInformed, AreKnown, ArePartitions, CanDoIfNamed, CanDoParts, DoesIfNamed, HaveNoPart, IsDoneIfNamed, IsInformed, IsKnownIfNamed, IsPartition, IsPayerIn, KeepsIfNamed, KeepsPartIfNamed, LeavesIfNamed, RepliesFrom, commits_in, database_behind, is_named, loaded_refusal}
 use Rattle.hy_crossing.specs.Lists.{Pairwise}
 use Rattle.hy_crossing.proofs.AcceptLaws.{behind, has-warehouse, kept-is, named-informed, named-part, rows-behind}

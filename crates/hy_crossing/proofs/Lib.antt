@@ -1,3 +1,6 @@
+-- what stands below, for the crates above
+pub use Rattle.hy_partition.proofs as of_partition
+pub use Rattle.hy_partition.proofs.of_tpcc as of_tpcc
 pub mod TurnLaws
 pub mod FullLaws
 pub mod PlaceLaws

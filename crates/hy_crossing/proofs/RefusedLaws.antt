@@ -15,7 +15,7 @@ use Rattle.hy_commands.proofs.DatabaseLaws.{length-database, rows-load, there-lo
 use Rattle.hy_commands.proofs.SameCustomers.{has_customer-same, same-customers}
 use Rattle.hy_database.proofs.PartLaws.{named-customer_home}
 use Rattle.hy_crossing.proofs.PlaceLaws.{get-some}
-use Rattle.hy_tpcc.specs.Parts.{FindsPayer}
+use Rattle.hy_partition.specs.Parts.{FindsPayer}
 use Rattle.hy_partition.specs.Partition.{PartitionState, rows_now}
 use Rattle.hy_crossing.specs.Crossings.{ArePartitions, FindsPayerIn, IsPartition, loaded_refusal, some_is_full, with_full}
 

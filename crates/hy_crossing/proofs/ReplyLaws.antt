@@ -11,7 +11,7 @@ use Rattle.hy_commands.specs.declared.reply.Reply.{Reply}
 use Rattle.hy_commands.specs.Parts.{customer_home_of}
 use Rattle.hy_commands.specs.Transactions.{accepted}
 use Rattle.hy_layout.specs.Layout.{LayoutState}
-use Rattle.hy_tpcc.specs.Parts.{reply_of_part}
+use Rattle.hy_partition.specs.Parts.{reply_of_part}
 use Rattle.hy_partition.specs.Partition.{PartitionState, layout_of, rows_now}
 use Rattle.hy_crossing.specs.Crossings.{ArePartitions, DoesHere, IsPartition, RepliesFrom, is_named}
 use Rattle.hy_crossing.proofs.PlaceLaws.{customer_home-named, get-some}

@@ -11,9 +11,8 @@ use Rattle.hy_commands.specs.declared.edition.Edition.{Edition}
 use Rattle.hy_commands.specs.declared.reply.Reply.{Reply}
 use Rattle.hy_commands.specs.Parts.{customer_home_of}
 use Rattle.hy_undo.proofs.PrivatePageLaws.{SameForChildren-then}
-use Rattle.hy_tpcc.specs.Parts.{reply_of_part}
 use Rattle.hy_partition.specs.Partition.{PartitionState, layout_of, rows_now}
-use Rattle.hy_partition.specs.Parts.{DoesPart, HasNoPart, KeepsBeside, PartLacksFrame}
+use Rattle.hy_partition.specs.Parts.{DoesPart, HasNoPart, KeepsBeside, PartLacksFrame, reply_of_part}
 use Rattle.hy_partition.specs.Steps.{KeepsNothing}
 use Rattle.hy_crossing.specs.Crossings.{AreQuiet, ArePartitions, CanDoIfNamed, CanDoParts, DoesHere, DoesIfNamed, FailsHere, IsAsBefore, IsPartition, IsQuietIfNamed, IsWhyNotDone, LeavesIfNamed, RepliesFrom, SomeLacksFrame, UndoesIfNamed, is_named}
 use Rattle.hy_crossing.specs.Lists.{ChangesAt, IsDoneUpTo, Pairwise}

@@ -21,12 +21,11 @@ use Rattle.hy_commands.specs.Parts.{Database, customer_home_of, database_of, ref
 use Rattle.hy_database.specs.Database.{act_on_all, database_after, kept_in}
 use Rattle.hy_space.specs.Space.{owner_bytes}
 use Rattle.hy_commands.specs.declared.reply.Reply.{Reply}
-use Rattle.hy_tpcc.specs.Parts.{FindsPayer, HasPart, reply_of_part}
 use Rattle.hy_undo.specs.UndoLog.{empty_log}
 use Rattle.hy_partition.specs.Limits.{most_kept}
 use Rattle.hy_partition.specs.Jobs.{DoneState, JobState, Log, refused_answer, share_of, told}
 use Rattle.hy_partition.specs.Partition.{PartitionState, layout_of, projection_of, replays, rows_now}
-use Rattle.hy_partition.specs.Parts.{DoesPart, HasNoPart, IsWhyUndone, KeepsBeside, KeepsPart, PartLacksFrame, with_part_entered}
+use Rattle.hy_partition.specs.Parts.{DoesPart, FindsPayer, HasNoPart, HasPart, IsWhyUndone, KeepsBeside, KeepsPart, PartLacksFrame, reply_of_part, with_part_entered}
 use Rattle.hy_partition.specs.Steps.{Accepts, KeepsNothing, Refuses, is_full}
 use Rattle.hy_crossing.specs.Lists.{InTurn, Pairwise}
 

@@ -1,3 +1,6 @@
+-- what stands below, for the crates above
+pub use Rattle.hy_partition.specs as of_partition
+pub use Rattle.hy_partition.specs.of_tpcc as of_tpcc
 pub mod Lists
 pub mod Crossings
 pub mod Pairs

@@ -3,7 +3,7 @@ use Rattle.std.specs.Prelude.{◌≡◌, ◌⊎◌, ◌≤◌, ℕ, suc, List, l
 use Rattle.hy_rows.specs.Tables.{Lists, of_warehouse}
 use Rattle.hy_schema.specs.declared.refusal.Refusal.{Refusal}
 use Rattle.hy_schema.specs.declared.refusal.Refusal.TheVariants as refusals
-use Rattle.hy_fill.specs.Frames.{frames_for}
+use Rattle.hy_partition.specs.Frames.{frames_for}
 use Rattle.hy_partition.specs.Partition.{PartitionState}
 use Rattle.hy_partition.specs.Steps.{Begins}
 

@@ -8,10 +8,9 @@ ghost use Rattle.hy_crossing.specs.Crossings.{AreIdle, ArePartitions, EndsJobs, 
 
 use crate::parts::Parts;
 use hy_commands::{Command, Commit};
-use hy_partition::{Loaded, Partition};
+use hy_partition::{Loaded, Partition, has_districts};
 use hy_passes::Journal;
 use hy_schema::Refusal;
-use hy_tpcc::has_districts;
 
 /// Ends what runs in the warehouses that a command names, one after the other; the others go on as they are.
 pub fn end_jobs<const N: usize, K: Loaded, P: Parts<Part = Partition<N, K>>>(

@@ -23,3 +23,7 @@ pub use keeping::keep_parts;
 pub use looking::are_partitions;
 pub use making::partitions_of;
 pub use parts::Parts;
+
+// what stands below, for the crates above
+pub use hy_partition;
+pub use hy_partition::hy_tpcc;

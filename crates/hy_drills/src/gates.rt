@@ -1,6 +1,6 @@
 //! For tests: gates at which workers are held.
 
-use hy_engine::Gate;
+use hy_storm::hy_engine::Gate;
 use std::alloc::{AllocError, Global};
 use std::process::Abort;
 use std::sync::atomic::{AtomicBool, AtomicU64, Ordering};

@@ -12,8 +12,12 @@ mod log_tests;
 #[cfg(test)]
 mod order_tests;
 #[cfg(test)]
+mod queue_tests;
+#[cfg(test)]
 mod refusal_tests;
 #[cfg(test)]
 mod session_tests;
 #[cfg(test)]
 mod storm_tests;
+#[cfg(test)]
+mod stranger_tests;

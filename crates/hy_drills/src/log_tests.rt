@@ -3,10 +3,10 @@
 ghost use Rattle.std.specs.Prelude.{◌≡◌, ◌+◌, []};
 
 use hy_batches::read_log;
-use hy_engine::Open;
 use hy_files::{FileSystem, MemoryFiles, new_log};
 use hy_redo::{Failed, Log, LogOut};
 use hy_schema::Refusal;
+use hy_storm::hy_engine::Open;
 use hy_storm::{Figures, Size, storm};
 use hy_tables::generate;
 use std::marker::Model;

@@ -10,7 +10,7 @@ use hy_commands::Commit;
 use hy_loads::Load;
 use hy_partition::Loaded;
 use hy_passes::{Kit, Pass, make};
-use hy_session::Session;
+use hy_storm::hy_session::Session;
 use hy_tables::generate;
 use std::marker::{Brand, PhantomData};
 use std::process::Abort;

@@ -3,9 +3,9 @@
 ghost use Rattle.std.specs.Prelude.{◌≡◌, length};
 
 use crate::gates::Meeting;
-use hy_engine::{Gate, Open};
 use hy_files::MemoryLog;
 use hy_redo::Log;
+use hy_storm::hy_engine::{Gate, Open};
 use hy_storm::{Figures, Size, storm};
 use hy_tables::generate;
 use std::process::Abort;

@@ -4,13 +4,13 @@ use Rattle.std.proofs.lemmas.Bool.{true≢false}
 use Rattle.hy_rows.specs.Tables.{Lists}
 use Rattle.hy_schema.specs.declared.refusal.Refusal.{Refusal}
 use Rattle.hy_schema.specs.declared.refusal.Refusal.TheVariants as refusals
-use Rattle.hy_partition.specs.Jobs.{Log}
-use Rattle.hy_partition.specs.Partition.{PartitionState}
-use Rattle.hy_partition.specs.Snapshots.{SnapshotState}
-use Rattle.hy_crossing.specs.Crossings.{ArePartitions}
-use Rattle.hy_forks.specs.Forks.{ForksAll, ForksAllFrom, are_from}
-use Rattle.hy_forks.specs.Origins.{Origin}
-use Rattle.hy_forks.proofs.ForkedLaws.{are_from-again, are_from-forks, are_from-others}
+use Rattle.hy_redo_drains.specs.of_partition.Jobs.{Log}
+use Rattle.hy_redo_drains.specs.of_partition.Partition.{PartitionState}
+use Rattle.hy_redo_drains.specs.of_partition.Snapshots.{SnapshotState}
+use Rattle.hy_redo_drains.specs.of_crossing.Crossings.{ArePartitions}
+use Rattle.hy_redo_drains.specs.of_forks.Forks.{ForksAll, ForksAllFrom, are_from}
+use Rattle.hy_redo_drains.specs.of_forks.Origins.{Origin}
+use Rattle.hy_redo_drains.proofs.of_forks.ForkedLaws.{are_from-again, are_from-forks, are_from-others}
 use Rattle.hy_engine.specs.Engines.{AreMine, IsWhyNotAgain}
 
 pub forked-mine : (n : ℕ) (kit : Origin) (lists : Lists) (log known : Log) (olds news : List PartitionState)

@@ -4,12 +4,12 @@ use Rattle.std.proofs.lemmas.Bool.{false≢true}
 use Rattle.std.specs.Prelude.{IfSome, IsOkAnd, IsSome, IsSomeAnd, IsTrue, MatchBool, MatchOption}
 use Rattle.hy_schema.specs.declared.refusal.Refusal.{Refusal}
 use Rattle.hy_schema.specs.declared.refusal.Refusal.TheVariants as refusals
-use Rattle.hy_partition.specs.Jobs.{DoneState, Log, RunningJob, is_last}
-use Rattle.hy_partition.specs.Partition.{PartitionState}
-use Rattle.hy_partition.specs.Steps.{Accepts, RefusesAt, StepsTo}
-use Rattle.hy_partition.specs.declared.job.Progress.{Progress}
-use Rattle.hy_partition.specs.declared.job.Progress.TheVariants as progress
-use Rattle.hy_partition.proofs.FinishLaws.{HasEnded, Reached, reached-end, reached-step}
+use Rattle.hy_redo_drains.specs.of_partition.Jobs.{DoneState, Log, RunningJob, is_last}
+use Rattle.hy_redo_drains.specs.of_partition.Partition.{PartitionState}
+use Rattle.hy_redo_drains.specs.of_partition.Steps.{Accepts, RefusesAt, StepsTo}
+use Rattle.hy_redo_drains.specs.of_partition.declared.job.Progress.{Progress}
+use Rattle.hy_redo_drains.specs.of_partition.declared.job.Progress.TheVariants as progress
+use Rattle.hy_redo_drains.proofs.of_partition.FinishLaws.{HasEnded, Reached, reached-end, reached-step}
 use Rattle.hy_engine.specs.Engines.{AnswersRunning}
 use Rattle.hy_engine.specs.inside.Early.{AreEarly, EndsRun}
 

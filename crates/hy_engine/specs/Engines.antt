@@ -10,16 +10,16 @@ use Rattle.hy_commands.specs.declared.command.Command.{Command}
 use Rattle.hy_commands.specs.declared.command.Commit.{Commit}
 use Rattle.hy_commands.specs.Commands.{home_of, warehouses_of}
 use Rattle.hy_passes.specs.Worlds.{PassState}
-use Rattle.hy_partition.specs.Jobs.{DoneState, JobState, Log, RunningJob, begun, refused_answer, told}
-use Rattle.hy_partition.specs.Partition.{PartitionState}
-use Rattle.hy_partition.specs.Snapshots.{SnapshotState}
-use Rattle.hy_partition.specs.Steps.{Accepts, IsUnbegun, Refuses, begin_refusal, with_job}
-use Rattle.hy_crossing.specs.Crossings.{ArePartitions, database_behind}
+use Rattle.hy_redo_drains.specs.of_partition.Jobs.{DoneState, JobState, Log, RunningJob, begun, refused_answer, told}
+use Rattle.hy_redo_drains.specs.of_partition.Partition.{PartitionState}
+use Rattle.hy_redo_drains.specs.of_partition.Snapshots.{SnapshotState}
+use Rattle.hy_redo_drains.specs.of_partition.Steps.{Accepts, IsUnbegun, Refuses, begin_refusal, with_job}
+use Rattle.hy_redo_drains.specs.of_crossing.Crossings.{ArePartitions, database_behind}
 use Rattle.hy_redo_drains.specs.Following.{DrainState, WritesDue}
-use Rattle.hy_forks.specs.Drains.{are_new, drained_of}
-use Rattle.hy_forks.specs.Forks.{SpellsDatabase, are_from}
-use Rattle.hy_forks.specs.Histories.{IsOneHistory}
-use Rattle.hy_forks.specs.Origins.{Origin}
+use Rattle.hy_redo_drains.specs.of_forks.Drains.{are_new, drained_of}
+use Rattle.hy_redo_drains.specs.of_forks.Forks.{SpellsDatabase, are_from}
+use Rattle.hy_redo_drains.specs.of_forks.Histories.{IsOneHistory}
+use Rattle.hy_redo_drains.specs.of_forks.Origins.{Origin}
 
 -- how many warehouses an engine has, and how many clients
 pub record EngineState : Type 0 where

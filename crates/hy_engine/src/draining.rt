@@ -6,9 +6,9 @@ ghost use Rattle.hy_engine.specs.Engines.{DrainsAll, DrainsInto, IsWhyUndrained,
 use crate::engine::Engine;
 use crate::gate::Gate;
 use crate::locking::lock_soon;
-use hy_partition::Loaded;
 use hy_redo::LogOut;
 use hy_redo_drains::DrainLog;
+use hy_redo_drains::hy_partition::Loaded;
 use hy_schema::Refusal;
 use std::alloc::Global;
 use std::sync::{Mutex, Wait};

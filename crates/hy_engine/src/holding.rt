@@ -2,19 +2,19 @@
 
 ghost use Rattle.std.specs.Prelude.{◌≡◌, ◌⊎◌, ◌≤◌, [], IfErr, IfOk, OnErr, length, map, vec_capacity};
 ghost use Rattle.hy_schema.specs.declared.refusal.Refusal.{Refusal};
-ghost use Rattle.hy_crossing.specs.Crossings.{ArePartitions, HaveNoPart};
-ghost use Rattle.hy_crossing.specs.inside.Guards.{values_of};
-ghost use Rattle.hy_forks.specs.Forks.{AreOfKit, shown};
+ghost use Rattle.hy_redo_drains.specs.of_crossing.Crossings.{ArePartitions, HaveNoPart};
+ghost use Rattle.hy_redo_drains.specs.of_crossing.inside.Guards.{values_of};
+ghost use Rattle.hy_redo_drains.specs.of_forks.Forks.{AreOfKit, shown};
 ghost use Rattle.hy_engine.specs.Engines.{AreMine, IsWhyNotAgain, IsWhyUnseen, SeesAll};
 
 use crate::engine::Engine;
 use crate::gate::Gate;
 use crate::locking::lock_soon;
 use hy_commands::Commit;
-use hy_crossing::are_partitions;
-use hy_forks::{SnapshotAll, close_all, fork_all, fork_all_from};
-use hy_partition::{Loaded, Partition};
 use hy_passes::Pass;
+use hy_redo_drains::hy_crossing::are_partitions;
+use hy_redo_drains::hy_forks::{SnapshotAll, close_all, fork_all, fork_all_from};
+use hy_redo_drains::hy_partition::{Loaded, Partition};
 use hy_schema::Refusal;
 use std::alloc::Global;
 use std::sync::{MutexGuard, Wait};

@@ -3,7 +3,7 @@
 ghost use Rattle.std.specs.Prelude.{◌≡◌};
 ghost use Rattle.hy_commands.specs.declared.edition.Edition.TheVariants as editions;
 
-use hy_partition::{Job, Loaded};
+use hy_redo_drains::hy_partition::{Job, Loaded};
 use std::marker::Model;
 
 /// A job of the second edition, as all are that an engine takes.
@@ -15,7 +15,7 @@ pub(crate) struct NewJob<K: Loaded> {
 
 // Clauses see the job.
 impl<K: Loaded> Model for NewJob<K> {
-    ghost use Rattle.hy_partition.specs.Jobs.{JobState};
+    ghost use Rattle.hy_redo_drains.specs.of_partition.Jobs.{JobState};
 
     ghost Value = { JobState };
 

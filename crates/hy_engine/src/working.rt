@@ -1,9 +1,9 @@
 //! What a worker does.
 
 ghost use Rattle.std.specs.Prelude.{◌≡◌, ◌↔◌, IfSome, IsSome, IsSomeAnd, IsTrue, MatchBool, None, Ok, true};
-ghost use Rattle.hy_partition.specs.declared.job.Progress.{Progress};
-ghost use Rattle.hy_partition.specs.Partition.{PartitionState};
-ghost use Rattle.hy_partition.specs.Jobs.{is_last};
+ghost use Rattle.hy_redo_drains.specs.of_partition.declared.job.Progress.{Progress};
+ghost use Rattle.hy_redo_drains.specs.of_partition.Partition.{PartitionState};
+ghost use Rattle.hy_redo_drains.specs.of_partition.Jobs.{is_last};
 ghost use Rattle.hy_engine.specs.Engines.{AnswersJob, AnswersRunning};
 ghost use Rattle.hy_engine.specs.inside.Early.{AreEarly, EndsRun};
 
@@ -11,7 +11,7 @@ use crate::engine::Engine;
 use crate::gate::Gate;
 use crate::locking::lock_soon;
 use crate::new_job::NewJob;
-use hy_partition::{Done, Loaded, Partition, Progress};
+use hy_redo_drains::hy_partition::{Done, Loaded, Partition, Progress};
 use hy_schema::Refusal;
 use std::sync::Wait;
 

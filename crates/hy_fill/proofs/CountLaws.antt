@@ -4,17 +4,17 @@ use Rattle.std.proofs.lemmas.List.{length-append, length-map, take-append-drop}
 use Rattle.std.proofs.lemmas.List.Elements.{filter-append}
 use Rattle.hy_rows.specs.declared.new_order.NewOrder.{NewOrder}
 use Rattle.hy_rows.specs.declared.order.Order.{Order}
-use Rattle.hy_store.specs.Stored.{new_order_segment}
+use Rattle.hy_indexes.specs.of_store.Stored.{new_order_segment}
 use Rattle.hy_rows.specs.Tables.{Lists, Tables, of_warehouse}
 use Rattle.hy_layout.specs.Layout.{LayoutState, own_rows}
 use Rattle.hy_space.specs.Space.{SpaceState}
-use Rattle.hy_index.specs.declared.key.Entry.{Entry}
-use Rattle.hy_index.specs.Index.{found, with_entry}
-use Rattle.hy_store.specs.declared.keys.CustomerKey.{CustomerKey}
-use Rattle.hy_store.specs.Keys.{is_lesser_customer}
-use Rattle.hy_store.specs.Pages.{KeepsPagesUpTo}
-use Rattle.hy_store.specs.Stored.{Stored}
-use Rattle.hy_store.specs.Writes.{stored_in}
+use Rattle.hy_indexes.specs.of_index.declared.key.Entry.{Entry}
+use Rattle.hy_indexes.specs.of_index.Index.{found, with_entry}
+use Rattle.hy_indexes.specs.of_store.declared.keys.CustomerKey.{CustomerKey}
+use Rattle.hy_indexes.specs.of_store.Keys.{is_lesser_customer}
+use Rattle.hy_indexes.specs.of_store.Pages.{KeepsPagesUpTo}
+use Rattle.hy_indexes.specs.of_store.Stored.{Stored}
+use Rattle.hy_indexes.specs.of_store.Writes.{stored_in}
 use Rattle.hy_layout.specs.Finds.{IsOrder}
 use Rattle.hy_fill.specs.Frames.{most_of}
 use Rattle.hy_fill.specs.inside.Filling.{StaysWithin, with_more, with_new_orders}

@@ -8,8 +8,8 @@ use Rattle.std.proofs.lemmas.List.Sorted.{All-permutation, IsPermutation-sym}
 use Rattle.std.proofs.lemmas.Option.{slice_get_within, slice_get-get_or, get_or_from_slice_get}
 use Rattle.hy_schema.specs.Keys.{AreUnique}
 use Rattle.hy_relation.specs.Relation.{row_in}
-use Rattle.hy_index.specs.declared.key.Entry.{Entry}
-use Rattle.hy_index.specs.Index.{with_entry}
+use Rattle.hy_indexes.specs.of_index.declared.key.Entry.{Entry}
+use Rattle.hy_indexes.specs.of_index.Index.{with_entry}
 use Rattle.hy_layout.specs.Finds.{IsIn, IsOrder}
 use Rattle.hy_indexes.specs.Finds.{IsIndexOf}
 use Rattle.hy_fill.specs.inside.Filling.{HasOneSlotEach, HasSameEntries, TellsApart, with_row}

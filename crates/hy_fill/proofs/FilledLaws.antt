@@ -4,10 +4,10 @@ use Rattle.std.specs.Prelude.{slice_get}
 use Rattle.hy_rows.specs.declared.new_order.NewOrder.{NewOrder}
 use Rattle.hy_rows.specs.Tables.{Tables}
 use Rattle.hy_relation.specs.Relation.{row_in}
-use Rattle.hy_index.specs.declared.key.Entry.{Entry}
-use Rattle.hy_store.specs.declared.keys.OrderKey.{OrderKey}
-use Rattle.hy_store.specs.declared.keys.WaitingKey.{WaitingKey}
-use Rattle.hy_store.specs.Stored.{Stored}
+use Rattle.hy_indexes.specs.of_index.declared.key.Entry.{Entry}
+use Rattle.hy_indexes.specs.of_store.declared.keys.OrderKey.{OrderKey}
+use Rattle.hy_indexes.specs.of_store.declared.keys.WaitingKey.{WaitingKey}
+use Rattle.hy_indexes.specs.of_store.Stored.{Stored}
 use Rattle.hy_indexes.specs.Finds.{IsIndexOf}
 use Rattle.hy_indexes.specs.Indexes.{AreLastOrders, HasIndexes, line_key_at, order_key_at, waiting_key_at}
 use Rattle.hy_fill.specs.inside.Filling.{without_indexes}

@@ -13,9 +13,9 @@ use Rattle.hy_space.proofs.TableLaws.{occurrences-cons, times-cons}
 use Rattle.hy_space.proofs.UserLaws.{same, same_no, same_yes}
 use Rattle.hy_relation.specs.Relation.{HasFewPages}
 use Rattle.hy_relation.proofs.SlotLaws.{end-sorted}
-use Rattle.hy_store.specs.Pages.{HasPagesUpTo, index_pages, row_pages}
-use Rattle.hy_store.specs.Stored.{all_segments}
-use Rattle.hy_store.specs.inside.Places.{by_all_places}
+use Rattle.hy_indexes.specs.of_store.Pages.{HasPagesUpTo, index_pages, row_pages}
+use Rattle.hy_indexes.specs.of_store.Stored.{all_segments}
+use Rattle.hy_indexes.specs.of_store.inside.Places.{by_all_places}
 use Rattle.hy_fill.specs.Frames.{frames_for, most_of}
 
 -- ---- sums over the first numbers

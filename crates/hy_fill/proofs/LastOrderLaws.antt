@@ -4,10 +4,10 @@ use Rattle.std.specs.Prelude.{nat_lt, slice_get}
 use Rattle.std.proofs.lemmas.Bool.{ltb-false, ltb-true}
 use Rattle.std.proofs.lemmas.Option.{slice_get_within}
 use Rattle.hy_rows.specs.declared.order.Order.{Order}
-use Rattle.hy_index.specs.declared.key.Entry.{Entry}
-use Rattle.hy_index.specs.Index.{found, with_entry}
-use Rattle.hy_store.specs.declared.keys.CustomerKey.{CustomerKey}
-use Rattle.hy_store.specs.Keys.{is_lesser_customer}
+use Rattle.hy_indexes.specs.of_index.declared.key.Entry.{Entry}
+use Rattle.hy_indexes.specs.of_index.Index.{found, with_entry}
+use Rattle.hy_indexes.specs.of_store.declared.keys.CustomerKey.{CustomerKey}
+use Rattle.hy_indexes.specs.of_store.Keys.{is_lesser_customer}
 use Rattle.hy_layout.specs.Finds.{IsIn}
 use Rattle.hy_indexes.specs.Finds.{IsIndexOf}
 use Rattle.hy_indexes.specs.Indexes.{AreLastOrders, buyer_key_at}

@@ -4,7 +4,7 @@ use Rattle.std.proofs.lemmas.List.{map-append, take_more}
 use Rattle.std.proofs.lemmas.List.Elements.{filter-append}
 use Rattle.hy_rows.specs.declared.new_order.NewOrder.{NewOrder}
 use Rattle.hy_rows.specs.Tables.{Tables}
-use Rattle.hy_store.specs.Stored.{Stored}
+use Rattle.hy_indexes.specs.of_store.Stored.{Stored}
 use Rattle.hy_fill.specs.inside.Filling.{with_more, with_new_orders}
 
 -- of one row more, those that pass

@@ -2,7 +2,7 @@
 use Rattle.std.specs.Prelude.{ℕ, ◌+◌, List, [], ◌∷◌, ◌++◌, length, slice_index}
 use Rattle.hy_rows.specs.Catalogue.{row_widths}
 use Rattle.hy_rows.specs.Tables.{Tables, row_counts}
-use Rattle.hy_store.specs.Pages.{index_pages, key_widths, row_pages}
+use Rattle.hy_indexes.specs.of_store.Pages.{index_pages, key_widths, row_pages}
 
 -- how many entries each index gets at most, an entry for each row that is indexed; an order may have one of its
 -- customer's last order too

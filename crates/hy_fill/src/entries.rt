@@ -3,9 +3,9 @@
 ghost use Rattle.std.specs.Prelude.{◌≡◌, ◌+◌, [], IfOk, OnOk, IsErrOf, filter, length, slice_get};
 ghost use Rattle.hy_frames.specs.FrameTable.{free_of};
 ghost use Rattle.hy_undo.specs.PrivatePages.{IsUndoLog};
-ghost use Rattle.hy_index.specs.Index.{with_entry};
-ghost use Rattle.hy_store.specs.Pages.{KeepsPagesUpTo};
-ghost use Rattle.hy_store.specs.Writes.{ChangesStore, IsWritableStore, stored_in};
+ghost use Rattle.hy_indexes.specs.of_index.Index.{with_entry};
+ghost use Rattle.hy_indexes.specs.of_store.Pages.{KeepsPagesUpTo};
+ghost use Rattle.hy_indexes.specs.of_store.Writes.{ChangesStore, IsWritableStore, stored_in};
 ghost use Rattle.hy_layout.specs.Layout.{own_rows};
 ghost use Rattle.hy_indexes.specs.Finds.{IsIndexOf};
 ghost use Rattle.hy_fill.specs.Frames.{most_of};
@@ -13,10 +13,10 @@ ghost use Rattle.hy_fill.specs.inside.Filling.{HasOneSlotEach, HasSameEntries, S
 
 use crate::keys::{Filled, Keyed};
 use hy_frames::Shortage;
-use hy_index::Entry;
+use hy_indexes::hy_index::Entry;
+use hy_indexes::hy_store::insert_entry;
 use hy_layout::Layout;
 use hy_space::Space;
-use hy_store::insert_entry;
 use hy_undo::Undo;
 use std::alloc::{AllocError, Global};
 

@@ -4,8 +4,8 @@ ghost use Rattle.std.specs.Prelude.{◌≡◌, ◌≤◌, [], IfOk, OnOk, IsErrO
 ghost use Rattle.hy_frames.specs.FrameTable.{IsPageSize, free_of, max_frames as most_frames};
 ghost use Rattle.hy_space.specs.Space.{owner_bytes};
 ghost use Rattle.hy_layout.specs.Layout.{own_rows};
-ghost use Rattle.hy_store.specs.Stored.{HasStore, nothing_stored};
-ghost use Rattle.hy_store.specs.Writes.{IsWritableStore, stored_in};
+ghost use Rattle.hy_indexes.specs.of_store.Stored.{HasStore, nothing_stored};
+ghost use Rattle.hy_indexes.specs.of_store.Writes.{IsWritableStore, stored_in};
 ghost use Rattle.hy_indexes.specs.Indexes.{HasIndexes, line_key_at, order_key_at, waiting_key_at};
 ghost use Rattle.hy_fill.specs.Frames.{frames_for};
 ghost use Rattle.hy_fill.specs.inside.Filling.{StaysOpen, StaysWithin, TellsApart, without_indexes};
@@ -15,10 +15,10 @@ use crate::last_orders::fill_last_orders;
 use crate::rows::{fill_new_orders, fill_table};
 use hy_commands::conditions_are_kept;
 use hy_frames::Shortage;
+use hy_indexes::hy_store::{LineKey, OrderKey, WaitingKey, empty_store};
 use hy_layout::Layout;
 use hy_rows::{Customer, District, History, NewOrder, Order, OrderLine, Stock, Warehouse};
 use hy_space::Space;
-use hy_store::{LineKey, OrderKey, WaitingKey, empty_store};
 use hy_undo::Undo;
 use std::alloc::Global;
 

@@ -2,12 +2,12 @@
 
 ghost use Rattle.std.specs.Prelude.{◌≡◌, List};
 ghost use Rattle.std.specs.Ordering.{is_lt};
-ghost use Rattle.hy_index.specs.declared.key.Entry.{Entry};
-ghost use Rattle.hy_store.specs.Stored.{Stored};
+ghost use Rattle.hy_indexes.specs.of_index.declared.key.Entry.{Entry};
+ghost use Rattle.hy_indexes.specs.of_store.Stored.{Stored};
 ghost use Rattle.hy_layout.specs.Finds.{IsOrder};
 
+use hy_indexes::hy_store::{CustomerKey, Indexed, LineKey, OrderKey, WaitingKey};
 use hy_rows::{NewOrder, Order, OrderLine, Row};
-use hy_store::{CustomerKey, Indexed, LineKey, OrderKey, WaitingKey};
 use std::cmp::Ordering;
 
 /// A key of an index that is filled.

@@ -2,13 +2,13 @@
 
 ghost use Rattle.std.specs.Prelude.{◌≡◌, ℕ, ◌+◌, ◌<◌, [], Some, OnOk, IsErrOf, length, slice_get};
 ghost use Rattle.hy_frames.specs.FrameTable.{free_of};
-ghost use Rattle.hy_index.specs.Index.{found};
+ghost use Rattle.hy_indexes.specs.of_index.Index.{found};
 ghost use Rattle.hy_space.specs.Space.{owner_bytes};
-ghost use Rattle.hy_store.specs.Keys.{is_lesser_customer};
+ghost use Rattle.hy_indexes.specs.of_store.Keys.{is_lesser_customer};
 ghost use Rattle.hy_undo.specs.PrivatePages.{IsUndoLog};
-ghost use Rattle.hy_store.specs.Pages.{KeepsPagesUpTo};
-ghost use Rattle.hy_store.specs.Stored.{HasStore, last_order_index};
-ghost use Rattle.hy_store.specs.Writes.{ChangesStore, IsWritableStore, stored_in};
+ghost use Rattle.hy_indexes.specs.of_store.Pages.{KeepsPagesUpTo};
+ghost use Rattle.hy_indexes.specs.of_store.Stored.{HasStore, last_order_index};
+ghost use Rattle.hy_indexes.specs.of_store.Writes.{ChangesStore, IsWritableStore, stored_in};
 ghost use Rattle.hy_indexes.specs.Finds.{IsIndexOf};
 ghost use Rattle.hy_indexes.specs.Indexes.{AreLastOrders, buyer_key_at};
 ghost use Rattle.hy_layout.specs.Layout.{own_rows};
@@ -17,11 +17,11 @@ ghost use Rattle.hy_fill.specs.inside.LastOrders.{is_later, with_last_order};
 
 use crate::entries::{entries_of, insert_lasting};
 use hy_frames::Shortage;
-use hy_index::Entry;
+use hy_indexes::hy_index::Entry;
+use hy_indexes::hy_store::{CustomerKey, find_slot, row_at};
 use hy_layout::Layout;
 use hy_rows::Order;
 use hy_space::Space;
-use hy_store::{CustomerKey, find_slot, row_at};
 use hy_undo::Undo;
 use std::alloc::Global;
 

@@ -2,18 +2,18 @@
 
 ghost use Rattle.std.specs.Prelude.{◌≡◌, ◌==◌, ◌+◌, ◌∷◌, [], OnOk, IsErrOf, filter, length};
 ghost use Rattle.hy_frames.specs.FrameTable.{free_of};
-ghost use Rattle.hy_store.specs.Stored.{new_order_segment};
+ghost use Rattle.hy_indexes.specs.of_store.Stored.{new_order_segment};
 ghost use Rattle.hy_undo.specs.PrivatePages.{IsUndoLog};
-ghost use Rattle.hy_store.specs.Pages.{KeepsPagesUpTo};
-ghost use Rattle.hy_store.specs.Writes.{ChangesStore, IsWritableStore, stored_in};
+ghost use Rattle.hy_indexes.specs.of_store.Pages.{KeepsPagesUpTo};
+ghost use Rattle.hy_indexes.specs.of_store.Writes.{ChangesStore, IsWritableStore, stored_in};
 ghost use Rattle.hy_layout.specs.Layout.{own_rows};
 ghost use Rattle.hy_fill.specs.inside.Filling.{StaysOpen, StaysWithin, with_more, with_new_orders, with_table};
 
 use hy_frames::Shortage;
+use hy_indexes::hy_store::{push_new_order, push_row};
 use hy_layout::Layout;
 use hy_rows::{Lasting, NewOrder, Row};
 use hy_space::Space;
-use hy_store::{push_new_order, push_row};
 use hy_undo::Undo;
 
 /// Gives a table without rows those of a warehouse.

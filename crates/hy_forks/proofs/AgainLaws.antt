@@ -4,10 +4,10 @@ use Rattle.std.specs.Prelude.{IsSomeAnd, slice_get}
 use Rattle.std.proofs.lemmas.Bool.{and_from, and_parts, eq-eqb, true≢false}
 use Rattle.hy_worlds.specs.Origins.{Origin, desk_of}
 use Rattle.hy_rows.specs.Tables.{Lists}
-use Rattle.hy_partition.specs.Partition.{PartitionState, Terms}
-use Rattle.hy_partition.specs.Snapshots.{SnapshotState}
-use Rattle.hy_partition.specs.Steps.{ForksFrom, StaysUnforked, is_from}
-use Rattle.hy_partition.proofs.ForkLaws.{warehouse-from}
+use Rattle.hy_crossing.specs.of_partition.Partition.{PartitionState, Terms}
+use Rattle.hy_crossing.specs.of_partition.Snapshots.{SnapshotState}
+use Rattle.hy_crossing.specs.of_partition.Steps.{ForksFrom, StaysUnforked, is_from}
+use Rattle.hy_crossing.proofs.of_partition.ForkLaws.{warehouse-from}
 use Rattle.hy_crossing.specs.Crossings.{ArePartitions, HaveNoPart}
 use Rattle.hy_crossing.specs.Lists.{ChangesAt, Pairwise}
 use Rattle.hy_crossing.specs.Pairs.{Before}

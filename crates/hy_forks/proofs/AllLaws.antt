@@ -14,10 +14,10 @@ use Rattle.hy_commands.specs.Parts.{rows_of}
 use Rattle.hy_commands.specs.Replay.{HasWarehouse}
 use Rattle.hy_database.proofs.EachLaws.{count-after}
 use Rattle.hy_database.proofs.Replays.{replay-after}
-use Rattle.hy_partition.specs.Jobs.{Log}
-use Rattle.hy_partition.specs.Partition.{PartitionState, Terms, projection_of}
-use Rattle.hy_partition.specs.Snapshots.{SnapshotState}
-use Rattle.hy_partition.specs.Steps.{Forks}
+use Rattle.hy_crossing.specs.of_partition.Jobs.{Log}
+use Rattle.hy_crossing.specs.of_partition.Partition.{PartitionState, Terms, projection_of}
+use Rattle.hy_crossing.specs.of_partition.Snapshots.{SnapshotState}
+use Rattle.hy_crossing.specs.of_partition.Steps.{Forks}
 use Rattle.hy_crossing.specs.Crossings.{ArePartitions, HaveNoPart, IsPartition, commits_in, database_behind}
 use Rattle.hy_crossing.specs.Lists.{ChangesAt, Pairwise}
 use Rattle.hy_crossing.specs.Pairs.{Before}

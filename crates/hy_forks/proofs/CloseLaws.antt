@@ -5,9 +5,9 @@ use Rattle.std.proofs.lemmas.Bool.{and_parts, eqb-true, true≢false}
 use Rattle.std.proofs.lemmas.List.{drop_all, drop_more}
 use Rattle.hy_worlds.specs.Origins.{Origin, desk_of}
 use Rattle.hy_rows.specs.Tables.{Lists}
-use Rattle.hy_partition.specs.Partition.{PartitionState}
-use Rattle.hy_partition.specs.Snapshots.{SnapshotState}
-use Rattle.hy_partition.specs.Steps.{is_from}
+use Rattle.hy_crossing.specs.of_partition.Partition.{PartitionState}
+use Rattle.hy_crossing.specs.of_partition.Snapshots.{SnapshotState}
+use Rattle.hy_crossing.specs.of_partition.Steps.{is_from}
 use Rattle.hy_crossing.specs.Crossings.{ArePartitions, HaveNoPart}
 use Rattle.hy_crossing.specs.Lists.{ChangesAt, Pairwise}
 use Rattle.hy_crossing.specs.Pairs.{Before}

@@ -10,8 +10,8 @@ use Rattle.hy_database.specs.Database.{all_rows, database_after}
 use Rattle.hy_database.proofs.Consistent.{consistent-after}
 use Rattle.hy_database.proofs.EachLaws.{count-after}
 use Rattle.hy_database.proofs.Replays.{replay-after}
-use Rattle.hy_partition.specs.Jobs.{Log}
-use Rattle.hy_partition.specs.Partition.{PartitionState, projection_of, rows_now}
+use Rattle.hy_crossing.specs.of_partition.Jobs.{Log}
+use Rattle.hy_crossing.specs.of_partition.Partition.{PartitionState, projection_of, rows_now}
 use Rattle.hy_crossing.specs.Crossings.{commits_in, database_behind}
 
 -- the rows of a partition that has kept all that the serial list has of it

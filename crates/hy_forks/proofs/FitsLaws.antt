@@ -41,8 +41,8 @@ use Rattle.hy_database.proofs.PartLaws.{named-customer_home}
 use Rattle.hy_batches.specs.Batches.{is_edition}
 use Rattle.hy_batches.specs.Grammar.{are_lists, command_fits, fits, is_commit, is_list, line_fits, who_fits}
 use Rattle.hy_sound.specs.Sound.{is_known, list_at}
-use Rattle.hy_partition.specs.Jobs.{Log}
-use Rattle.hy_partition.specs.Partition.{is_new, may_be_kept}
+use Rattle.hy_crossing.specs.of_partition.Jobs.{Log}
+use Rattle.hy_crossing.specs.of_partition.Partition.{is_new, may_be_kept}
 use Rattle.hy_forks.proofs.NumberLaws.{OnNumber}
 
 -- whether a customer who pays over warehouses is named by number

@@ -7,10 +7,10 @@ use mathlib.Core.List.{IsPrefix}
 use Rattle.hy_worlds.specs.Origins.{Origin}
 use Rattle.hy_frames.specs.FrameTable.{count_of}
 use Rattle.hy_space.specs.Space.{CountsAreExact, SpaceState, child_bytes, child_table, maps}
-use Rattle.hy_partition.specs.Jobs.{Log}
-use Rattle.hy_partition.specs.Partition.{PartitionState, commits_of}
-use Rattle.hy_partition.specs.Snapshots.{SnapshotState}
-use Rattle.hy_partition.specs.Steps.{KeepsJob, KeepsOthers, StaysUnforked}
+use Rattle.hy_crossing.specs.of_partition.Jobs.{Log}
+use Rattle.hy_crossing.specs.of_partition.Partition.{PartitionState, commits_of}
+use Rattle.hy_crossing.specs.of_partition.Snapshots.{SnapshotState}
+use Rattle.hy_crossing.specs.of_partition.Steps.{KeepsJob, KeepsOthers, StaysUnforked}
 use Rattle.hy_forks.specs.Forks.{IsUnforked}
 use Rattle.hy_forks.specs.inside.Places.{ClosesExactly, ForksExactly, ForksFromExactly}
 

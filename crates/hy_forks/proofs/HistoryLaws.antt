@@ -6,8 +6,8 @@ use Rattle.hy_commands.specs.declared.command.Commit.{Commit}
 use Rattle.hy_commands.specs.Commands.{number_of, warehouses_of_commit}
 use Rattle.hy_passes.specs.Agreement.{Agree, IsWarehouse, Stands}
 use Rattle.hy_passes.specs.SerialList.{IsSerial}
-use Rattle.hy_partition.specs.Jobs.{Log}
-use Rattle.hy_partition.specs.Partition.{PartitionState, projection_of}
+use Rattle.hy_crossing.specs.of_partition.Jobs.{Log}
+use Rattle.hy_crossing.specs.of_partition.Partition.{PartitionState, projection_of}
 use Rattle.hy_forks.specs.Histories.{IsOneHistory, kept_at, kept_in}
 use Rattle.hy_crossing.proofs.PlaceLaws.{get-some}
 

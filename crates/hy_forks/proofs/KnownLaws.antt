@@ -10,9 +10,9 @@ use Rattle.hy_passes.specs.declared.entry.Entry.{Entry}
 use Rattle.hy_passes.specs.SerialList.{names}
 use Rattle.hy_passes.specs.Worlds.{PassState}
 use Rattle.hy_passes.proofs.Beginnings.{begins_itself, begins_through}
-use Rattle.hy_partition.specs.Jobs.{Log, told}
-use Rattle.hy_partition.specs.Partition.{PartitionState, projection_of}
-use Rattle.hy_partition.specs.Snapshots.{SnapshotState}
+use Rattle.hy_crossing.specs.of_partition.Jobs.{Log, told}
+use Rattle.hy_crossing.specs.of_partition.Partition.{PartitionState, projection_of}
+use Rattle.hy_crossing.specs.of_partition.Snapshots.{SnapshotState}
 use Rattle.hy_forks.specs.inside.Places.{ForksExactly}
 
 -- who knows less of the serial list knows no more of a warehouse's commits

@@ -3,7 +3,7 @@ use Rattle.std.proofs.Common.{◌≡◌, ◌<◌, ℕ, zero, suc, List, [], ◌�
 use Rattle.std.specs.Prelude.{IfSome, slice_get}
 use Rattle.hy_frames.specs.FrameTable.{free_of}
 use Rattle.hy_undo.specs.Touched.{touched}
-use Rattle.hy_partition.specs.Partition.{PartitionState}
+use Rattle.hy_crossing.specs.of_partition.Partition.{PartitionState}
 use Rattle.hy_forks.specs.Forks.{SomeLacks}
 
 -- the one at a place does

@@ -1,3 +1,7 @@
+-- what stands below, for the crates above
+pub use Rattle.hy_crossing.proofs as of_crossing
+pub use Rattle.hy_crossing.proofs.of_partition as of_partition
+pub use Rattle.hy_crossing.proofs.of_tpcc as of_tpcc
 pub mod RelationLaws
 pub mod PlaceLaws
 pub mod ForkLaws

@@ -24,9 +24,9 @@ use Rattle.hy_commands.specs.Commands.{number_of, warehouses_of_commit}
 use Rattle.hy_batches.specs.Batches.{Batch, may_follow}
 use Rattle.hy_batches.specs.Grammar.{are_lists, fits, is_batch, is_commit, is_list, last_edition}
 use Rattle.hy_batches.proofs.LogLaws.{batches-more}
-use Rattle.hy_partition.specs.Jobs.{Log}
-use Rattle.hy_partition.specs.Limits.{most_kept}
-use Rattle.hy_partition.specs.Partition.{PartitionState, is_new, may_be_kept, projection_of}
+use Rattle.hy_crossing.specs.of_partition.Jobs.{Log}
+use Rattle.hy_crossing.specs.of_partition.Limits.{most_kept}
+use Rattle.hy_crossing.specs.of_partition.Partition.{PartitionState, is_new, may_be_kept, projection_of}
 use Rattle.hy_crossing.specs.Crossings.{ArePartitions, IsPartition, commits_in}
 use Rattle.hy_crossing.proofs.PlaceLaws.{get-some}
 use Rattle.hy_sound.specs.Sound.{AreSound, list_at}

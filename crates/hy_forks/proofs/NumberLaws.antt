@@ -13,8 +13,8 @@ use Rattle.hy_passes.specs.declared.entry.Entry.{Entry}
 use Rattle.hy_commands.specs.declared.command.Commit.{Commit}
 use Rattle.hy_commands.specs.declared.command.Commit.TheVariants as commits
 use Rattle.hy_commands.specs.Commands.{number_of, warehouses_of_commit}
-use Rattle.hy_partition.specs.Jobs.{Log}
-use Rattle.hy_partition.specs.Partition.{projection_of}
+use Rattle.hy_crossing.specs.of_partition.Jobs.{Log}
+use Rattle.hy_crossing.specs.of_partition.Partition.{projection_of}
 use Rattle.hy_crossing.specs.Crossings.{commits_in}
 use Rattle.hy_sound.specs.Sound.{crossings_of}
 use Rattle.hy_forks.specs.Logged.{crossings_in}

@@ -2,7 +2,7 @@
 use Rattle.std.proofs.Common.{◌≡◌, ◌∙◌, ℕ, suc, List, None, Some, ap, arith, subst}
 use Rattle.std.specs.Prelude.{IfSome, Option, slice_get}
 use Rattle.hy_rows.specs.Tables.{Lists}
-use Rattle.hy_partition.specs.Partition.{PartitionState, Terms, terms_of}
+use Rattle.hy_crossing.specs.of_partition.Partition.{PartitionState, Terms, terms_of}
 use Rattle.hy_crossing.specs.Crossings.{ArePartitions, HaveNoPart, IsPartition}
 use Rattle.hy_crossing.specs.Lists.{Pairwise}
 use Rattle.hy_crossing.proofs.PairLaws.{pairs-hold}

@@ -5,8 +5,8 @@ use Rattle.hy_schema.specs.declared.refusal.Refusal.{Refusal}
 use Rattle.hy_schema.specs.declared.refusal.Refusal.TheVariants as refusals
 use Rattle.hy_frames.specs.FrameTable.{free_of}
 use Rattle.hy_undo.specs.Touched.{touched}
-use Rattle.hy_partition.specs.Partition.{PartitionState}
-use Rattle.hy_partition.specs.Steps.{StaysUnforked}
+use Rattle.hy_crossing.specs.of_partition.Partition.{PartitionState}
+use Rattle.hy_crossing.specs.of_partition.Steps.{StaysUnforked}
 use Rattle.hy_forks.specs.inside.Places.{RefusesFork}
 
 pub ok-map : {T E : Type 0} (F G : T → Type 0) (result : Result T E) → ((value : T) → F value → G value) → IfOk result F

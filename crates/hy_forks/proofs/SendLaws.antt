@@ -7,8 +7,8 @@ use Rattle.std.proofs.alloc.Global.TheSendSync as global
 use Rattle.std.proofs.vec.Vec.TheSendSync as vec
 use Rattle.std.specs.contracts.alloc.Global
 use Rattle.std.specs.contracts.impls.GlobalAllocator.TheImpl
-use Rattle.hy_partition.proofs.SendLaws as snapshots
-use Rattle.hy_partition.specs.contracts.snapshot.Snapshot
+use Rattle.hy_crossing.proofs.of_partition.SendLaws as snapshots
+use Rattle.hy_crossing.specs.of_partition.contracts.snapshot.Snapshot
 use Rattle.hy_forks.specs.contracts.snapshot.SnapshotAll.{the_row}
 use Rattle.hy_forks.specs.contracts.snapshot.SnapshotAll.TheInside as inside
 

@@ -2,8 +2,8 @@
 use Rattle.std.proofs.Common.{◌≡◌, ◌∙◌, ◌⊎◌, ◌≤◌, ◌<◌, ◌+◌, ◌-◌, ℕ, List, [], ◌∷◌, ◌++◌, inl, inr, length, arith, subst, sym}
 use Rattle.std.specs.Prelude.{IsSomeAnd, slice_get}
 use Rattle.hy_worlds.specs.Origins.{Origin}
-use Rattle.hy_partition.specs.Partition.{PartitionState}
-use Rattle.hy_partition.specs.Snapshots.{SnapshotState}
+use Rattle.hy_crossing.specs.of_partition.Partition.{PartitionState}
+use Rattle.hy_crossing.specs.of_partition.Snapshots.{SnapshotState}
 use Rattle.hy_crossing.specs.Lists.{ChangesAt, Pairwise}
 use Rattle.hy_crossing.specs.Pairs.{At, Before}
 use Rattle.hy_crossing.proofs.PairLaws.{pairs-then}

@@ -2,8 +2,8 @@
 use Rattle.std.proofs.Common.{◌≡◌, ◌∙◌, ℕ, suc, List, ap}
 use Rattle.std.specs.Prelude.{IfSome, slice_get}
 use Rattle.hy_rows.specs.Tables.{Lists}
-use Rattle.hy_partition.specs.Jobs.{Log}
-use Rattle.hy_partition.specs.Partition.{PartitionState, projection_of, terms_of}
+use Rattle.hy_crossing.specs.of_partition.Jobs.{Log}
+use Rattle.hy_crossing.specs.of_partition.Partition.{PartitionState, projection_of, terms_of}
 use Rattle.hy_crossing.specs.Crossings.{ArePartitions, HaveNoPart, IsPartition}
 use Rattle.hy_crossing.specs.Lists.{Pairwise}
 use Rattle.hy_forks.specs.Drains.{TellsHere}

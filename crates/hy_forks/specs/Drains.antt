@@ -5,8 +5,8 @@ use mathlib.Core.List.{IsPrefix}
 use Rattle.hy_commands.specs.declared.command.Commit.{Commit}
 use Rattle.hy_commands.specs.declared.edition.Edition.TheVariants as editions
 use Rattle.hy_batches.specs.Batches.{Batch}
-use Rattle.hy_partition.specs.Jobs.{Log}
-use Rattle.hy_partition.specs.Partition.{PartitionState, is_new, projection_of}
+use Rattle.hy_crossing.specs.of_partition.Jobs.{Log}
+use Rattle.hy_crossing.specs.of_partition.Partition.{PartitionState, is_new, projection_of}
 
 -- a partition was told the whole serial list, of which it has kept all that names it
 abbrev pub TellsHere : Log → ℕ → PartitionState → PartitionState → Type 0

@@ -11,10 +11,10 @@ use Rattle.hy_commands.specs.Parts.{Database, rows_of}
 use Rattle.hy_frames.specs.FrameTable.{count_of, free_of}
 use Rattle.hy_space.specs.Space.{child_bytes, child_table}
 use Rattle.hy_undo.specs.Touched.{touched}
-use Rattle.hy_partition.specs.Jobs.{Log}
-use Rattle.hy_partition.specs.Partition.{PartitionState, commits_of}
-use Rattle.hy_partition.specs.Snapshots.{SnapshotState}
-use Rattle.hy_partition.specs.Steps.{Closes, Forks, ForksFrom, KeepsJob, is_from}
+use Rattle.hy_crossing.specs.of_partition.Jobs.{Log}
+use Rattle.hy_crossing.specs.of_partition.Partition.{PartitionState, commits_of}
+use Rattle.hy_crossing.specs.of_partition.Snapshots.{SnapshotState}
+use Rattle.hy_crossing.specs.of_partition.Steps.{Closes, Forks, ForksFrom, KeepsJob, is_from}
 use Rattle.hy_crossing.specs.Lists.{Pairwise}
 
 -- the partition of the warehouse with a number was forked, for a client who had seen a beginning of the serial list:

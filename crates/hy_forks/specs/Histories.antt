@@ -4,8 +4,8 @@ use Rattle.hy_passes.specs.Agreement.{Agree}
 use Rattle.hy_passes.specs.SerialList.{IsSerial}
 use Rattle.hy_commands.specs.declared.command.Commit.{Commit}
 use Rattle.hy_commands.specs.Commands.{number_of, warehouses_of_commit}
-use Rattle.hy_partition.specs.Jobs.{Log}
-use Rattle.hy_partition.specs.Partition.{PartitionState, projection_of}
+use Rattle.hy_crossing.specs.of_partition.Jobs.{Log}
+use Rattle.hy_crossing.specs.of_partition.Partition.{PartitionState, projection_of}
 
 -- what a partition has kept, if one is there, and what the warehouse with a number has
 abbrev pub kept_in : Option PartitionState → List Commit

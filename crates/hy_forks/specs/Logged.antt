@@ -7,8 +7,8 @@ use Rattle.hy_commands.specs.declared.command.Commit.{Commit}
 use Rattle.hy_commands.specs.Commands.{number_of, warehouses_of_commit}
 use Rattle.hy_batches.specs.Batches.{Batch}
 use Rattle.hy_batches.specs.Grammar.{are_batches}
-use Rattle.hy_partition.specs.Jobs.{Log}
-use Rattle.hy_partition.specs.Partition.{projection_of}
+use Rattle.hy_crossing.specs.of_partition.Jobs.{Log}
+use Rattle.hy_crossing.specs.of_partition.Partition.{projection_of}
 use Rattle.hy_crossing.specs.Crossings.{next_number}
 use Rattle.hy_sound.specs.Sound.{AreSound, list_at}
 

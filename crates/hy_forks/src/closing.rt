@@ -8,7 +8,7 @@ ghost use Rattle.hy_forks.specs.inside.Places.{AreOf, ClosesExactly, ClosesExact
 
 use crate::snapshot::SnapshotAll;
 use hy_crossing::Parts;
-use hy_partition::{Loaded, Partition, Snapshot};
+use hy_crossing::hy_partition::{Loaded, Partition, Snapshot};
 
 /// Closes a snapshot of the partition at a place.
 fn close_here<const N: usize, K: Loaded, P: Parts<Part = Partition<N, K>>>(

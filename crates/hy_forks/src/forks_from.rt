@@ -1,7 +1,7 @@
 //! Forks of a snapshot of all warehouses.
 
 ghost use Rattle.std.specs.Prelude.{◌≡◌, ◌⊎◌, ◌↔◌, ◌<◌, Err, IfErr, IfOk, IsSomeAnd, OnErr, OnOk, false, length, map, slice_get, true};
-ghost use Rattle.hy_partition.specs.Steps.{StaysUnforked, is_from};
+ghost use Rattle.hy_crossing.specs.of_partition.Steps.{StaysUnforked, is_from};
 ghost use Rattle.hy_crossing.specs.Crossings.{ArePartitions, HaveNoPart};
 ghost use Rattle.hy_crossing.specs.Lists.{ChangesAt, Pairwise};
 ghost use Rattle.hy_forks.specs.Forks.{AreOfKit, ForksAllFrom, IsUnforkedUntold, are_from, shown};
@@ -10,7 +10,7 @@ ghost use Rattle.hy_forks.specs.inside.Places.{ForksFromExactly};
 use crate::closing::{are_mine, close_each};
 use crate::snapshot::SnapshotAll;
 use hy_crossing::Parts;
-use hy_partition::{Loaded, Partition, Snapshot};
+use hy_crossing::hy_partition::{Loaded, Partition, Snapshot};
 use hy_schema::Refusal;
 use std::alloc::{AllocError, Global};
 

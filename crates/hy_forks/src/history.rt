@@ -9,7 +9,7 @@ ghost use Rattle.hy_forks.specs.Histories.{IsOneHistory};
 use crate::knowing::{know_list, know_load};
 use hy_commands::Commit;
 use hy_crossing::Parts;
-use hy_partition::{Loaded, Partition};
+use hy_crossing::hy_partition::{Loaded, Partition};
 use hy_passes::Journal;
 
 /// Tells each partition of the whole serial list: what they have kept are its projections, the commits of several

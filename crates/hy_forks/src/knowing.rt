@@ -6,12 +6,12 @@ ghost use Rattle.hy_schema.specs.Loads.{IsLoad};
 ghost use Rattle.hy_passes.specs.Agreement.{Agree};
 ghost use Rattle.hy_passes.specs.SerialList.{IsSerial};
 ghost use Rattle.hy_commands.specs.Commands.{number_of, warehouses_of_commit};
-ghost use Rattle.hy_partition.specs.Partition.{projection_of};
+ghost use Rattle.hy_crossing.specs.of_partition.Partition.{projection_of};
 ghost use Rattle.hy_crossing.specs.Crossings.{ArePartitions};
 
 use hy_commands::{Command, Commit, Edition, StockLevel};
 use hy_crossing::Parts;
-use hy_partition::{Loaded, Partition};
+use hy_crossing::hy_partition::{Loaded, Partition};
 use hy_passes::{Journal, projections_agree};
 
 /// That the load is a load, where a warehouse is there, and that the kit has a place for each, of which a byte counts all.

@@ -17,7 +17,11 @@ pub use forks_from::fork_all_from;
 pub use history::find_history;
 pub use hy_batches::Batch;
 pub use hy_crossing::Parts;
-pub use hy_partition::{Loaded, Partition, Snapshot};
+pub use hy_crossing::hy_partition::{Loaded, Partition, Snapshot};
 pub use knowing::know_replayed;
 pub use logged::logs_begin;
 pub use snapshot::SnapshotAll;
+
+// what stands below, for the crates above
+pub use hy_crossing;
+pub use hy_crossing::{hy_partition, hy_tpcc};

@@ -2,7 +2,7 @@
 
 ghost use Rattle.std.specs.Prelude.{◌≡◌, ◌<◌, ◌≤◌, length, slice_index_or};
 
-use hy_partition::Snapshot;
+use hy_crossing::hy_partition::Snapshot;
 use std::marker::Model;
 
 /// A snapshot of each warehouse in order, all of one moment. It must be given back by `close_all`.
@@ -13,7 +13,7 @@ pub struct SnapshotAll<const N: usize> {
 // Clauses see the snapshots.
 impl<const N: usize> Model for SnapshotAll<N> {
     ghost use Rattle.std.specs.Prelude.{◌≤◌, List, length};
-    ghost use Rattle.hy_partition.specs.Snapshots.{SnapshotState};
+    ghost use Rattle.hy_crossing.specs.of_partition.Snapshots.{SnapshotState};
 
     ghost Value = { List SnapshotState };
 

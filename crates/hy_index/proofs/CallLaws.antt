@@ -8,12 +8,12 @@ use Rattle.hy_space.specs.Space.{SpaceState, page_count}
 use Rattle.hy_trees.specs.Nodes.{Item, capacity}
 use Rattle.hy_trees.specs.Trees.{height_of, is_less_bytes}
 use Rattle.hy_trees.specs.Searches.{between, first_from, is_at, with_item, without}
-use Rattle.hy_nodes.specs.declared.pages.Tree.{Tree}
-use Rattle.hy_nodes.specs.Nodes.{node_of}
-use Rattle.hy_nodes.specs.Pages.{nodes_in}
-use Rattle.hy_nodes.specs.Ways.{HasFewFree, HasTree, KeepsPages, entries_in}
-use Rattle.hy_nodes.specs.Writes.{pages_of}
-use Rattle.hy_nodes.proofs.SpaceLaws.{length-pages_of}
+use Rattle.hy_joins.specs.of_nodes.declared.pages.Tree.{Tree}
+use Rattle.hy_joins.specs.of_nodes.Nodes.{node_of}
+use Rattle.hy_joins.specs.of_nodes.Pages.{nodes_in}
+use Rattle.hy_joins.specs.of_nodes.Ways.{HasFewFree, HasTree, KeepsPages, entries_in}
+use Rattle.hy_joins.specs.of_nodes.Writes.{pages_of}
+use Rattle.hy_joins.proofs.of_nodes.SpaceLaws.{length-pages_of}
 use Rattle.hy_index.specs.declared.key.Entry.{Entry}
 use Rattle.hy_index.specs.Index.{between as entries_between, first_from as first_entry_from, found, with_entry, without as without_entry}
 use Rattle.hy_index.specs.Writes.{FillsPages, IsIndex, IsSpelled, KeepsPagesFor, entries, entry_of}

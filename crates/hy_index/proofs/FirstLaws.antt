@@ -9,11 +9,11 @@ use Rattle.hy_trees.specs.Trees.{IsBelow, IsSubtree, entries_under, is_less_byte
 use Rattle.hy_trees.specs.Searches.{between, first_from}
 use Rattle.hy_trees.proofs.PlaceLaws.{next_key-at, split_at}
 use Rattle.hy_trees.proofs.RangeLaws.{first_from-child, first_from-next, first_from-none}
-use Rattle.hy_nodes.specs.declared.pages.Tree.{Tree}
-use Rattle.hy_nodes.specs.Nodes.{item_at, item_count, number_at}
-use Rattle.hy_nodes.specs.Pages.{nodes_in, page_in}
-use Rattle.hy_nodes.specs.Places.{IsBound, IsChildPlace, is_below_at}
-use Rattle.hy_nodes.proofs.ReachLaws.{some_least}
+use Rattle.hy_joins.specs.of_nodes.declared.pages.Tree.{Tree}
+use Rattle.hy_joins.specs.of_nodes.Nodes.{item_at, item_count, number_at}
+use Rattle.hy_joins.specs.of_nodes.Pages.{nodes_in, page_in}
+use Rattle.hy_joins.specs.of_nodes.Places.{IsBound, IsChildPlace, is_below_at}
+use Rattle.hy_joins.proofs.of_nodes.ReachLaws.{some_least}
 use Rattle.hy_index.specs.Parts.{IsPartAt}
 use Rattle.hy_index.proofs.PartLaws.{part-count, part-item}
 use Rattle.hy_index.proofs.RunLaws.{between-places}

@@ -10,13 +10,13 @@ use Rattle.hy_index.specs.Index.{found, is_at as is_entry_at}
 use Rattle.hy_trees.specs.Trees.{entries_under, is_less_bytes}
 use Rattle.hy_index.specs.Writes.{IsSpelled, entry_of}
 use Rattle.hy_trees.specs.Nodes.{Item, Node, node_at}
-use Rattle.hy_nodes.specs.Nodes.{item_at, item_count, items_of, key_at, number_at}
-use Rattle.hy_nodes.specs.Places.{AreRising, IsSought}
+use Rattle.hy_joins.specs.of_nodes.Nodes.{item_at, item_count, items_of, key_at, number_at}
+use Rattle.hy_joins.specs.of_nodes.Places.{AreRising, IsSought}
 use Rattle.hy_trees.specs.Leaves.{AreAbove, AreBelow, Leads}
 use Rattle.hy_trees.specs.Searches.{is_at}
 use Rattle.hy_index.specs.Searches.{found_in}
-use Rattle.hy_nodes.proofs.PlaceLaws.{above-behind}
-use Rattle.hy_nodes.proofs.SequenceLaws.{find-first, find-none}
+use Rattle.hy_joins.proofs.of_nodes.PlaceLaws.{above-behind}
+use Rattle.hy_joins.proofs.of_nodes.SequenceLaws.{find-first, find-none}
 
 -- the key isn't among items before or behind it
 none-before : (key : List ℕ) (items : List Item) → AreBelow key items → find (is_at key) items ≡ None

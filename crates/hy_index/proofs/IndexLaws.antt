@@ -9,9 +9,9 @@ use Rattle.hy_index.specs.Index.{IsInOrder, found}
 use Rattle.hy_trees.specs.Trees.{IsTree, entries_under, height_of, is_less_bytes, root_least, times}
 use Rattle.hy_index.specs.Writes.{IsIndex, IsSpelled, entries, entry_of, leaf_items}
 use Rattle.hy_trees.specs.Nodes.{Item, Node, capacity, least_items, no_item, no_node}
-use Rattle.hy_nodes.specs.Nodes.{nodes_of}
+use Rattle.hy_joins.specs.of_nodes.Nodes.{nodes_of}
 use Rattle.hy_index.specs.Searches.{found_in}
-use Rattle.hy_nodes.proofs.NodeLaws.{node-zeros}
+use Rattle.hy_joins.proofs.of_nodes.NodeLaws.{node-zeros}
 use Rattle.hy_trees.proofs.RiseLaws.{AllPairs-entries}
 use Rattle.hy_trees.proofs.NumberLaws.{reads-entries}
 use Rattle.hy_index.proofs.FoundLaws.{found-entries}

@@ -10,12 +10,12 @@ use Rattle.hy_trees.specs.Nodes.{Item, Node, capacity, least_items, no_item, nod
 use Rattle.hy_trees.specs.Trees.{IsTree, entries_under, height_of, root_least}
 use Rattle.hy_trees.specs.Searches.{is_at, with_item, without}
 use Rattle.hy_trees.proofs.SearchLaws.{filter-above, filter-below, without-part}
-use Rattle.hy_nodes.specs.declared.pages.Tree.{Tree}
-use Rattle.hy_nodes.specs.Nodes.{item_at}
-use Rattle.hy_nodes.specs.Pages.{items_in, nodes_in, page_in}
-use Rattle.hy_nodes.specs.Places.{IsSought}
-use Rattle.hy_nodes.specs.Ways.{HasTree, LeadsTo, entries_in}
-use Rattle.hy_nodes.proofs.ReachLaws.{reached-items, reached-rising}
+use Rattle.hy_joins.specs.of_nodes.declared.pages.Tree.{Tree}
+use Rattle.hy_joins.specs.of_nodes.Nodes.{item_at}
+use Rattle.hy_joins.specs.of_nodes.Pages.{items_in, nodes_in, page_in}
+use Rattle.hy_joins.specs.of_nodes.Places.{IsSought}
+use Rattle.hy_joins.specs.of_nodes.Ways.{HasTree, LeadsTo, entries_in}
+use Rattle.hy_joins.proofs.of_nodes.ReachLaws.{reached-items, reached-rising}
 use Rattle.hy_index.proofs.EditLaws.{tree-inserted, tree-numbered, tree-removed}
 use Rattle.hy_index.proofs.FoundLaws.{behind-absent, find-absent, find-there}
 use Rattle.hy_index.proofs.SoughtLaws.{above-there, front-below, items-there, key-there, rest-above, within_items}

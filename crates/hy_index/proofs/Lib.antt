@@ -1,3 +1,5 @@
+-- what stands below, for the crates above
+pub use Rattle.hy_joins.proofs.of_nodes as of_nodes
 pub mod KeyLaws
 pub mod FoundLaws
 pub mod IndexLaws

@@ -9,16 +9,16 @@ use Rattle.hy_trees.proofs.CountLaws.{has_page-no, times-append, times-first}
 use Rattle.hy_trees.proofs.LiftLaws.{IsSubtree-child, StandOnce-child}
 use Rattle.hy_trees.proofs.RootLaws.{IsRooted-from_tree, StandOnce-rooted}
 use Rattle.hy_trees.proofs.PlaceLaws.{filled_at, items-rise, rises-at, split_at}
-use Rattle.hy_nodes.specs.declared.pages.Tree.{Tree}
-use Rattle.hy_nodes.specs.Nodes.{item_at, item_count, items_of, key_at, node_of, number_at}
-use Rattle.hy_nodes.specs.Pages.{nodes_in, page_in}
-use Rattle.hy_nodes.specs.Places.{AreRising, HasItems}
-use Rattle.hy_nodes.specs.Ways.{HasTree}
-use Rattle.hy_nodes.specs.Writes.{pages_of}
-use Rattle.hy_nodes.proofs.SpaceLaws.{length-pages_of, page_number-small}
-use Rattle.hy_nodes.proofs.SequenceLaws.{get_or-first_items, length-first_items}
-use Rattle.hy_nodes.proofs.NodeLaws.{node_at-nodes}
-use Rattle.hy_nodes.proofs.ReachLaws.{capacity_fits, some_least}
+use Rattle.hy_joins.specs.of_nodes.declared.pages.Tree.{Tree}
+use Rattle.hy_joins.specs.of_nodes.Nodes.{item_at, item_count, items_of, key_at, node_of, number_at}
+use Rattle.hy_joins.specs.of_nodes.Pages.{nodes_in, page_in}
+use Rattle.hy_joins.specs.of_nodes.Places.{AreRising, HasItems}
+use Rattle.hy_joins.specs.of_nodes.Ways.{HasTree}
+use Rattle.hy_joins.specs.of_nodes.Writes.{pages_of}
+use Rattle.hy_joins.proofs.of_nodes.SpaceLaws.{length-pages_of, page_number-small}
+use Rattle.hy_joins.proofs.of_nodes.SequenceLaws.{get_or-first_items, length-first_items}
+use Rattle.hy_joins.proofs.of_nodes.NodeLaws.{node_at-nodes}
+use Rattle.hy_joins.proofs.of_nodes.ReachLaws.{capacity_fits, some_least}
 use Rattle.hy_index.specs.Parts.{IsPartAt}
 
 -- the whole tree

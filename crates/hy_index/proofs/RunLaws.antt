@@ -11,9 +11,9 @@ use Rattle.hy_trees.proofs.PartLaws.{IsFrom-trans}
 use Rattle.hy_trees.proofs.PlaceLaws.{split_at}
 use Rattle.hy_trees.proofs.RangeLaws.{between-children, between-no_child}
 use Rattle.hy_trees.proofs.SearchLaws.{between-nothing}
-use Rattle.hy_nodes.specs.Nodes.{first_items, item_at, item_count, items_of, key_at}
-use Rattle.hy_nodes.specs.Places.{IsBound, IsSought, is_below_at}
-use Rattle.hy_nodes.proofs.SequenceLaws.{filter-run, find-first, find-none, first_items-more}
+use Rattle.hy_joins.specs.of_nodes.Nodes.{first_items, item_at, item_count, items_of, key_at}
+use Rattle.hy_joins.specs.of_nodes.Places.{IsBound, IsSought, is_below_at}
+use Rattle.hy_joins.proofs.of_nodes.SequenceLaws.{filter-run, find-first, find-none, first_items-more}
 
 never : (b : Bool) → (b && false) ≡ false
 never true = refl

@@ -8,13 +8,13 @@ use Rattle.hy_trees.specs.Trees.{is_less_bytes}
 use Rattle.hy_trees.specs.Leaves.{AreAbove, AreBelow}
 use Rattle.hy_trees.proofs.OrderLaws.{same-from_not}
 use Rattle.hy_trees.proofs.PlaceLaws.{split_at}
-use Rattle.hy_nodes.specs.declared.pages.Tree.{Tree}
-use Rattle.hy_nodes.specs.Nodes.{item_at, item_count, key_at}
-use Rattle.hy_nodes.specs.Pages.{nodes_in, page_in}
-use Rattle.hy_nodes.specs.Places.{IsSought}
-use Rattle.hy_nodes.specs.Ways.{HasTree, LeadsTo}
-use Rattle.hy_nodes.proofs.PlaceLaws.{above-behind}
-use Rattle.hy_nodes.proofs.ReachLaws.{reached-count, reached-item, reached-rising}
+use Rattle.hy_joins.specs.of_nodes.declared.pages.Tree.{Tree}
+use Rattle.hy_joins.specs.of_nodes.Nodes.{item_at, item_count, key_at}
+use Rattle.hy_joins.specs.of_nodes.Pages.{nodes_in, page_in}
+use Rattle.hy_joins.specs.of_nodes.Places.{IsSought}
+use Rattle.hy_joins.specs.of_nodes.Ways.{HasTree, LeadsTo}
+use Rattle.hy_joins.proofs.of_nodes.PlaceLaws.{above-behind}
+use Rattle.hy_joins.proofs.of_nodes.ReachLaws.{reached-count, reached-item, reached-rising}
 use Rattle.hy_index.proofs.FoundLaws.{behind-absent}
 
 -- what holds of each place holds of all

@@ -1,3 +1,5 @@
+-- what stands below, for the crates above
+pub use Rattle.hy_joins.specs.of_nodes as of_nodes
 pub mod Index
 pub mod KeyBytes
 pub mod Writes

@@ -3,8 +3,8 @@ use Rattle.std.specs.Prelude.{ℕ, ◌<◌, List, Option}
 use Rattle.hy_space.specs.Space.{SpaceState}
 use Rattle.hy_trees.specs.Nodes.{capacity, least_items}
 use Rattle.hy_trees.specs.Trees.{IsSubtree, StandOnce}
-use Rattle.hy_nodes.specs.declared.pages.Tree.{Tree}
-use Rattle.hy_nodes.specs.Pages.{nodes_in}
+use Rattle.hy_joins.specs.of_nodes.declared.pages.Tree.{Tree}
+use Rattle.hy_joins.specs.of_nodes.Pages.{nodes_in}
 
 -- a tree stands under a page, above so many pages, between some bounds, and each of its pages is one of the segment
 pub record IsPartAt (n : ℕ) (space : SpaceState) (tree : Tree) (depth page : ℕ) : Type 0 where

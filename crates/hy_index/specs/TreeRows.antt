@@ -4,7 +4,7 @@ use Rattle.std.proofs.Common.{refl}
 use Rattle.hy_page.specs.Bytes.{bytes_of}
 use Rattle.hy_index.specs.Writes.{leaf_items}
 use Rattle.hy_trees.specs.Nodes.{Item, Node, capacity, least_items, node_at, with_free, with_more, with_number, without_items}
-use Rattle.hy_nodes.specs.Nodes.{nodes_of}
+use Rattle.hy_joins.specs.of_nodes.Nodes.{nodes_of}
 use Rattle.hy_trees.specs.Trees.{height_of, pages_under, times}
 use Rattle.hy_index.specs.Searches.{found_in}
 

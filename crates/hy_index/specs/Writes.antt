@@ -3,7 +3,7 @@ use Rattle.std.specs.Prelude.{◌≡◌, ℕ, ◌+◌, ◌≤◌, List, length, 
 use Rattle.std.specs.List.{AllByRecursion}
 use Rattle.hy_trees.specs.Nodes.{Item, Node, capacity, least_items}
 use Rattle.hy_trees.specs.Trees.{IsTree, entries_under, height_of, most_pages, pages_under}
-use Rattle.hy_nodes.specs.Nodes.{nodes_of}
+use Rattle.hy_joins.specs.of_nodes.Nodes.{nodes_of}
 use Rattle.hy_index.specs.declared.key.Entry.{Entry}
 
 -- the items of the leaves, in order

@@ -4,10 +4,10 @@ ghost use Rattle.std.specs.Prelude.{◌≡◌, ◌+◌, ◌^◌, ◌<◌, ◌≤
 ghost use Rattle.arrayvec.specs.ArrayVec.{array_vec_len};
 ghost use Rattle.hy_page.specs.Bytes.{bytes_at};
 ghost use Rattle.hy_index.specs.KeyBytes.{high_bytes_of, high_number_of};
-ghost use Rattle.hy_nodes.specs.declared.key.TheConstants.{MAX_KEY_BYTES};
+ghost use Rattle.hy_joins.specs.of_nodes.declared.key.TheConstants.{MAX_KEY_BYTES};
 
-use hy_nodes::KeyBytes;
-pub use hy_nodes::push_bytes;
+use hy_joins::hy_nodes::KeyBytes;
+pub use hy_joins::hy_nodes::push_bytes;
 
 /// Appends the lowest `width` bytes of a number, the highest first.
 pub fn push_number(key: &mut KeyBytes, number: u64, width: usize)

@@ -3,9 +3,9 @@
 ghost use Rattle.std.specs.Prelude.{◌≡◌, ℕ, ◌+◌, ◌≤◌, ◌++◌, Bool, List, length};
 ghost use Rattle.arrayvec.specs.ArrayVec.{array_vec_len};
 ghost use Rattle.hy_trees.specs.Trees.{is_less_bytes};
-ghost use Rattle.hy_nodes.specs.declared.key.TheConstants.{MAX_KEY_BYTES};
+ghost use Rattle.hy_joins.specs.of_nodes.declared.key.TheConstants.{MAX_KEY_BYTES};
 
-use hy_nodes::KeyBytes;
+use hy_joins::hy_nodes::KeyBytes;
 
 /// A key and its slot.
 #[derive(Clone, Copy, Debug)]

@@ -8,10 +8,10 @@ ghost use Rattle.hy_undo.specs.PrivatePages.{IsUndoLog};
 ghost use Rattle.hy_undo.specs.Writes.{HasChild, IsOutOfFrames};
 ghost use Rattle.hy_index.specs.Index.{IsInOrder, between, first_from, found, with_entry, without};
 ghost use Rattle.hy_index.specs.Writes.{FillsPages, IsIndex, KeepsPagesFor, entries, entries as entries_of, pages_above};
-ghost use Rattle.hy_nodes.specs.Writes.{WritesSegment, pages_of};
+ghost use Rattle.hy_joins.specs.of_nodes.Writes.{WritesSegment, pages_of};
 
 use hy_frames::Shortage;
-use hy_nodes::Tree;
+use hy_joins::hy_nodes::Tree;
 use hy_space::Space;
 use hy_undo::Undo;
 use std::alloc::{AllocError, Global};
@@ -23,9 +23,12 @@ mod key;
 mod range;
 mod search;
 
-pub use hy_nodes::{KeyBytes, MAX_KEY_BYTES};
+pub use hy_joins::hy_nodes::{KeyBytes, MAX_KEY_BYTES};
 pub use key::{Entry, Key};
 pub use search::Reads;
+
+// what stands below, for the crates above
+pub use hy_joins::hy_nodes;
 
 /// A map from keys to slots, in one segment of a space.
 #[derive(Clone, Copy)]

@@ -5,14 +5,14 @@ ghost use Rattle.std.specs.Prelude.{◌≡◌, ℕ, ◌+◌, ◌<◌, ◌≤◌,
 ghost use Rattle.std.specs.Option.{option_map};
 ghost use Rattle.hy_trees.specs.Trees.{entries_under};
 ghost use Rattle.hy_trees.specs.Searches.{between, first_from};
-ghost use Rattle.hy_nodes.specs.Nodes.{item_at, item_count, item_offset, items_of};
-ghost use Rattle.hy_nodes.specs.Places.{AreRising, HasItems};
-ghost use Rattle.hy_nodes.specs.Pages.{nodes_in};
+ghost use Rattle.hy_joins.specs.of_nodes.Nodes.{item_at, item_count, item_offset, items_of};
+ghost use Rattle.hy_joins.specs.of_nodes.Places.{AreRising, HasItems};
+ghost use Rattle.hy_joins.specs.of_nodes.Pages.{nodes_in};
 ghost use Rattle.hy_index.specs.Parts.{IsPartAt};
 ghost use Rattle.hy_index.specs.Writes.{entry_of};
 
 use crate::key::{Entry, Key};
-use hy_nodes::{Tree, node};
+use hy_joins::hy_nodes::{Tree, node};
 use hy_space::Space;
 use std::alloc::AllocError;
 

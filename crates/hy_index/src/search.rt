@@ -2,17 +2,17 @@
 
 ghost use Rattle.std.specs.Prelude.{◌≡◌, ℕ, ◌+◌, ◌^◌, ◌<◌, ◌≤◌, length};
 ghost use Rattle.hy_space.specs.Space.{HasPage};
-ghost use Rattle.hy_nodes.specs.Pages.{nodes_in, page_in};
-ghost use Rattle.hy_nodes.specs.Places.{IsSought};
+ghost use Rattle.hy_joins.specs.of_nodes.Pages.{nodes_in, page_in};
+ghost use Rattle.hy_joins.specs.of_nodes.Places.{IsSought};
 ghost use Rattle.hy_trees.specs.Trees.{height_of};
-ghost use Rattle.hy_nodes.specs.Ways.{HasTree, LeadsTo};
+ghost use Rattle.hy_joins.specs.of_nodes.Ways.{HasTree, LeadsTo};
 ghost use Rattle.hy_index.specs.Searches.{found_in};
 ghost use Rattle.hy_index.specs.Writes.{leaf_items};
-ghost use Rattle.hy_nodes.specs.Writes.{pages_of};
-ghost use Rattle.hy_nodes.specs.declared.key.TheConstants.{MAX_KEY_BYTES};
+ghost use Rattle.hy_joins.specs.of_nodes.Writes.{pages_of};
+ghost use Rattle.hy_joins.specs.of_nodes.declared.key.TheConstants.{MAX_KEY_BYTES};
 
-use hy_nodes::node::Sought;
-use hy_nodes::{Tree, node};
+use hy_joins::hy_nodes::node::Sought;
+use hy_joins::hy_nodes::{Tree, node};
 use hy_space::Space;
 use std::marker::Model;
 

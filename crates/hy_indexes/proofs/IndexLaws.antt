@@ -4,8 +4,8 @@ use Rattle.std.proofs.Common.{◌≡◌, ◌≢◌, ℕ, ◌⊎◌, inl, inr, Bo
 use Rattle.std.specs.Option.{option_map}
 use Rattle.std.specs.List.{find}
 use Rattle.std.proofs.lemmas.Bool.{and_parts, cases_eq}
-use Rattle.hy_index.specs.declared.key.Entry.{Entry}
-use Rattle.hy_index.specs.Index.{IsInOrder, between, first_from, found, is_above, is_at, is_below, is_from, with_entry, without}
+use Rattle.hy_store.specs.Entry.{Entry}
+use Rattle.hy_store.specs.Index.{IsInOrder, between, first_from, found, is_above, is_at, is_below, is_from, with_entry, without}
 use Rattle.hy_layout.specs.Finds.{IsIn, IsOrder}
 use Rattle.hy_indexes.specs.Finds.{IsIndexOf}
 use Rattle.hy_layout.proofs.MemberLaws.{filter-in, in-append, in-filter, in-left, in-right}

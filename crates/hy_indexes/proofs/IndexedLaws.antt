@@ -3,9 +3,9 @@ use Rattle.std.proofs.Common.{◌≡◌, ◌≢◌, ℕ, zero, suc, ◌<◌, inl
 use Rattle.std.specs.Prelude.{slice_get}
 use Rattle.std.proofs.lemmas.Bool.{cases_eq}
 use Rattle.hy_rows.specs.declared.order.Order.{Order}
-use Rattle.hy_relation.specs.Relation.{row_in}
-use Rattle.hy_index.specs.declared.key.Entry.{Entry}
-use Rattle.hy_index.specs.Index.{with_entry}
+use Rattle.hy_store.specs.of_relation.Relation.{row_in}
+use Rattle.hy_store.specs.Entry.{Entry}
+use Rattle.hy_store.specs.Index.{with_entry}
 use Rattle.hy_store.specs.declared.keys.CustomerKey.{CustomerKey}
 use Rattle.hy_store.specs.Keys.{is_lesser_customer}
 use Rattle.hy_layout.specs.Finds.{IsIn}

@@ -1,7 +1,7 @@
 -- Where rows stand, by places and by indexes.
 use Rattle.hy_layout.specs.Finds.{IsIn}
 use Rattle.std.specs.Prelude.{◌≡◌, ℕ, List, Option, Some}
-use Rattle.hy_index.specs.declared.key.Entry.{Entry}
+use Rattle.hy_store.specs.Entry.{Entry}
 
 -- an index has the slot of each row under the row's key, and nothing else
 pub record IsIndexOf {Key Row : Type 0} (key_of : Row → Key) (row_at : ℕ → Option Row) (entries : List (Entry Key))

@@ -3,8 +3,8 @@ use Rattle.std.specs.Prelude.{◌≡◌, ℕ, ◌≤◌, List, Some, slice_get}
 use Rattle.hy_rows.specs.declared.new_order.NewOrder.{NewOrder}
 use Rattle.hy_rows.specs.declared.order.Order.{Order}
 use Rattle.hy_rows.specs.declared.order_line.OrderLine.{OrderLine}
-use Rattle.hy_relation.specs.Relation.{row_in}
-use Rattle.hy_index.specs.declared.key.Entry.{Entry}
+use Rattle.hy_store.specs.of_relation.Relation.{row_in}
+use Rattle.hy_store.specs.Entry.{Entry}
 use Rattle.hy_store.specs.declared.keys.CustomerKey.{CustomerKey}
 use Rattle.hy_store.specs.declared.keys.LineKey.{LineKey}
 use Rattle.hy_store.specs.declared.keys.OrderKey.{OrderKey}

@@ -2,7 +2,7 @@
 use Rattle.std.specs.Prelude.{◌≡◌, ℕ, zero, suc, ◌≤◌, List, [], ◌∷◌, Some, slice_get}
 use Rattle.std.proofs.Common.{refl, sym, ap, subst, inl, inr, arith}
 use Rattle.hy_rows.specs.declared.order.Order.{Order}
-use Rattle.hy_index.specs.declared.key.Entry.{Entry}
+use Rattle.hy_store.specs.Entry.{Entry}
 use Rattle.hy_store.specs.declared.keys.CustomerKey.{CustomerKey}
 use Rattle.hy_store.specs.declared.keys.OrderKey.{OrderKey}
 use Rattle.hy_indexes.specs.Finds.{IsIndexOf}

@@ -362,3 +362,6 @@ fn write_bound<const N: usize>(
     let bound = copied(node::key(tree.page(space, pair.second), tree.key_bytes, 0));
     tree.write_key(space, undo, pair.page, pair.left + 1, bound.as_slice())
 }
+
+// what stands below, for the crates above
+pub use hy_nodes;

@@ -1,3 +1,5 @@
+-- what stands below, for the crates above
+pub use Rattle.hy_tpcc.proofs as of_tpcc
 pub mod SnapshotLaws
 pub mod ReplayLaws
 pub mod SpellLaws

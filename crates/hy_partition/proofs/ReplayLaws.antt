@@ -27,7 +27,7 @@ use Rattle.hy_slices.specs.Slices.{after_slices, has_item_at, has_items_before, 
 use Rattle.hy_slices.proofs.GrowingSlices.{grown-between}
 use Rattle.hy_slices.proofs.SliceLaws.{slices-act, slices-refused}
 use Rattle.hy_layout.specs.Layout.{KeepsPlaces}
-use Rattle.hy_writers.specs.Limits.{AreInBounds, most_applied}
+use Rattle.hy_tpcc.specs.Limits.{AreInBounds, most_applied}
 use Rattle.hy_tpcc.specs.Executor.{StaysInBounds}
 use Rattle.hy_tpcc.proofs.KeepsLaws.{keeps-part, keeps-slices}
 

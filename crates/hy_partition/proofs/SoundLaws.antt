@@ -25,9 +25,9 @@ use Rattle.hy_undo.specs.UndoLog.{UndoLog, undone, empty_log}
 use Rattle.hy_undo.specs.PrivatePages.{IsUndoLog}
 use Rattle.hy_undo.proofs.RollBackLaws.{undone-empty_log}
 use Rattle.hy_layout.specs.Layout.{LayoutState, own_rows}
-use Rattle.hy_store.specs.Stored.{HasStore, stored}
-use Rattle.hy_writers.specs.Limits.{most_applied}
-use Rattle.hy_writers.specs.Waiting.{IsSoundStore}
+use Rattle.hy_tpcc.specs.Stored.{HasStore, stored}
+use Rattle.hy_tpcc.specs.Limits.{most_applied}
+use Rattle.hy_tpcc.specs.Waiting.{IsSoundStore}
 use Rattle.hy_tpcc.specs.Executor.{ExecutorState, IsUnderWay, StaysInBounds}
 use Rattle.hy_tpcc.specs.Parts.{DoesPart, HasPart}
 use Rattle.hy_partition.specs.Headline.{SpellsBeginning}

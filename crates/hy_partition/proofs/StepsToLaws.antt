@@ -14,8 +14,8 @@ use Rattle.hy_commands.specs.Transactions.{Outcome}
 use Rattle.hy_slices.specs.Slices.{has_item_at, has_items_before, slice_count}
 use Rattle.hy_slices.proofs.SliceLaws.{slices-refused}
 use Rattle.hy_space.specs.Space.{CountsAreExact, SpaceState, owner_bytes}
-use Rattle.hy_store.specs.Stored.{HasStore, stored}
-use Rattle.hy_store.specs.Writes.{WritesStore}
+use Rattle.hy_tpcc.specs.Stored.{HasStore, stored}
+use Rattle.hy_tpcc.specs.Writes.{WritesStore}
 use Rattle.hy_undo.specs.PrivatePages.{GivesUpPages}
 use Rattle.hy_undo.specs.UndoLog.{UndoLog, undone, empty_log}
 use Rattle.hy_layout.specs.Layout.{LayoutState}

@@ -1,3 +1,7 @@
+-- what stands below, for the crates above
+pub use Rattle.hy_tpcc.specs as of_tpcc
+-- how many frames a load takes, which whoever makes all warehouses names
+pub use Rattle.hy_fill.specs.Frames
 pub mod Worlds
 pub mod Limits
 pub mod Jobs

@@ -16,7 +16,7 @@ use Rattle.hy_frames.specs.FrameTable.{free_of}
 use Rattle.hy_space.specs.Space.{CountsAreExact, SameForChildren, SpaceState, owner_bytes}
 use Rattle.hy_undo.specs.UndoLog.{UndoLog, undone, empty_log}
 use Rattle.hy_undo.specs.PrivatePages.{GivesUpPages}
-use Rattle.hy_tpcc.specs.Parts.{reply_of_part}
+pub use Rattle.hy_tpcc.specs.Parts.{FindsPayer, HasPart, reply_of_part}
 use Rattle.hy_partition.specs.Accounts.{with_command}
 use Rattle.hy_partition.specs.Jobs.{Log, share_of}
 use Rattle.hy_partition.specs.Partition.{PartitionState, layout_of, rows_now, terms_of}

@@ -9,8 +9,12 @@ mod schedules;
 mod snapshot;
 mod world;
 
+pub use hy_tpcc::has_districts;
 pub use job::{Done, Job, Progress};
 pub use partition::Partition;
 pub use schedules::{calls_are_events, every_schedule};
 pub use snapshot::Snapshot;
 pub use world::Loaded;
+
+// what stands below, for the crates above
+pub use hy_tpcc;

@@ -11,7 +11,7 @@ use Rattle.hy_rows.specs.declared.catalogue.Table.{Table}
 use Rattle.hy_query.specs.Language.{query_of}
 use Rattle.hy_query.specs.Meaning.{answer_of}
 use Rattle.hy_query.specs.Queries.{QueryState}
-use Rattle.hy_session.specs.Texts.{answer_text}
+use Rattle.hy_storm.specs.of_session.Texts.{answer_text}
 use Rattle.hy_program.specs.declared.fault.RunFault.{RunFault}
 use Rattle.hy_program.specs.declared.fault.RunFault.TheVariants as fault
 use Rattle.hy_program.specs.Check.{HasLoad}

@@ -13,9 +13,9 @@ use Rattle.hy_commands.specs.declared.edition.Edition.TheVariants as editions
 use Rattle.hy_commands.specs.Commands.{is_reader}
 use Rattle.hy_commands.specs.Replay.{replay}
 use Rattle.hy_commands.specs.Transactions.{act, begin_refusal_of, refusal_of}
-use Rattle.hy_partition.specs.Jobs.{RunningJob}
-use Rattle.hy_partition.specs.Partition.{PartState, PartitionState, Terms, refusal_now, rows_now}
-use Rattle.hy_partition.specs.Steps.{Begins, begin_refusal, is_busy, is_full}
+use Rattle.hy_recovery.specs.of_partition.Jobs.{RunningJob}
+use Rattle.hy_recovery.specs.of_partition.Partition.{PartState, PartitionState, Terms, refusal_now, rows_now}
+use Rattle.hy_recovery.specs.of_partition.Steps.{Begins, begin_refusal, is_busy, is_full}
 use Rattle.hy_program.specs.First.{IsFirstRefusal, IsPaid, IsPayRefusal, IsYtdAfter, first_command, first_payment, ytds_of}
 use Rattle.hy_program.specs.Generated.{generated, generated_items}
 

@@ -9,11 +9,11 @@ use Rattle.hy_frames.specs.FrameTable.{free_of}
 use Rattle.hy_undo.specs.UndoLog.{UndoLog, empty_log}
 use Rattle.hy_undo.specs.Touched.{touched}
 use Rattle.hy_commands.specs.Parts.{database_of}
-use Rattle.hy_partition.specs.Partition.{PartitionState}
-use Rattle.hy_partition.specs.Steps.{Begins}
-use Rattle.hy_partition.proofs.SeatLaws.{length-numbered}
-use Rattle.hy_crossing.specs.Making.{AllBegin}
-use Rattle.hy_forks.specs.Forks.{IsWhyUnforked, SomeLacks}
+use Rattle.hy_recovery.specs.of_partition.Partition.{PartitionState}
+use Rattle.hy_recovery.specs.of_partition.Steps.{Begins}
+use Rattle.hy_recovery.proofs.of_partition.SeatLaws.{length-numbered}
+use Rattle.hy_recovery.specs.of_crossing.Making.{AllBegin}
+use Rattle.hy_recovery.specs.of_forks.Forks.{IsWhyUnforked, SomeLacks}
 use Rattle.hy_query.specs.Language.{query_of}
 use Rattle.hy_query.specs.Queries.{QueryState}
 use Rattle.hy_program.specs.Query.{IsWhyUnanswered, IsWhyUnasked, WhyUnasked}

@@ -17,13 +17,13 @@ use Rattle.hy_files.specs.Files.{FilesByPath, KnownPaths}
 use Rattle.hy_batches.specs.Batches.{Batch}
 use Rattle.hy_commands.specs.Commands.{number_of, warehouses_of_commit}
 use Rattle.hy_passes.specs.SerialList.{IsSerial}
-use Rattle.hy_partition.specs.Jobs.{Log}
-use Rattle.hy_partition.specs.Partition.{PartitionState, projection_of}
-use Rattle.hy_crossing.specs.Crossings.{commits_in, database_behind}
+use Rattle.hy_recovery.specs.of_partition.Jobs.{Log}
+use Rattle.hy_recovery.specs.of_partition.Partition.{PartitionState, projection_of}
+use Rattle.hy_recovery.specs.of_crossing.Crossings.{commits_in, database_behind}
 use Rattle.hy_database.proofs.EachLaws.{count-after}
 use Rattle.hy_database.specs.Database.{all_rows}
-use Rattle.hy_forks.specs.Forks.{IsWhyUnforked}
-use Rattle.hy_forks.specs.Histories.{IsOneHistory}
+use Rattle.hy_recovery.specs.of_forks.Forks.{IsWhyUnforked}
+use Rattle.hy_recovery.specs.of_forks.Histories.{IsOneHistory}
 use Rattle.hy_sound.specs.Sound.{IsSoundLog}
 use Rattle.hy_recovery.specs.Recovering.{AreRecovered, GoesOn, IsRecovered, NoneAreTooMany, joined}
 use Rattle.hy_program.specs.declared.fault.RunFault.{RunFault}

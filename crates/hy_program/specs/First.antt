@@ -12,12 +12,12 @@ use Rattle.hy_commands.specs.declared.edition.Edition.TheVariants as editions
 use Rattle.hy_rows.specs.Tables.{Tables}
 use Rattle.hy_schema.specs.declared.refusal.Refusal.{Refusal}
 use Rattle.hy_schema.specs.declared.refusal.Refusal.TheVariants as refusals
-use Rattle.hy_partition.specs.Jobs.{RunningJob}
+use Rattle.hy_recovery.specs.of_partition.Jobs.{RunningJob}
 use Rattle.hy_slices.specs.Slices.{slice_count}
-use Rattle.hy_partition.specs.Steps.{begin_refusal}
+use Rattle.hy_recovery.specs.of_partition.Steps.{begin_refusal}
 use Rattle.hy_rows.specs.Spelling.{tables_of}
-use Rattle.hy_partition.specs.Partition.{PartitionState, refusal_now, terms_of}
-use Rattle.hy_partition.specs.Snapshots.{SnapshotState}
+use Rattle.hy_recovery.specs.of_partition.Partition.{PartitionState, refusal_now, terms_of}
+use Rattle.hy_recovery.specs.of_partition.Snapshots.{SnapshotState}
 use Rattle.hy_undo.specs.UndoLog.{empty_log}
 use Rattle.hy_program.specs.declared.fault.RunFault.{RunFault}
 use Rattle.hy_program.specs.declared.fault.RunFault.TheVariants as fault

@@ -7,9 +7,9 @@ use Rattle.hy_schema.specs.declared.refusal.Refusal.TheVariants as refusals
 use Rattle.hy_files.specs.Files.{FilesByPath}
 use Rattle.hy_files.specs.Loads.{IsReadFault}
 use Rattle.hy_commands.specs.Parts.{database_of}
-use Rattle.hy_crossing.specs.Making.{SomeIsShort}
-use Rattle.hy_session.specs.Databases.{lists_of}
-use Rattle.hy_session.specs.Texts.{answer_text}
+use Rattle.hy_recovery.specs.of_crossing.Making.{SomeIsShort}
+use Rattle.hy_storm.specs.of_session.Databases.{lists_of}
+use Rattle.hy_storm.specs.of_session.Texts.{answer_text}
 use Rattle.hy_query.specs.Language.{query_of}
 use Rattle.hy_query.specs.Meaning.{answer_of}
 use Rattle.hy_query.specs.Queries.{QueryState}

@@ -18,9 +18,9 @@ use Rattle.hy_commands.specs.Commands.{number_of, warehouses_of_commit}
 use Rattle.hy_passes.specs.SerialList.{IsSerial}
 use Rattle.hy_batches.specs.Batches.{Batch}
 use Rattle.hy_batches.specs.Logs.{IsLog, Reads}
-use Rattle.hy_partition.specs.Jobs.{Log}
-use Rattle.hy_partition.specs.Partition.{projection_of}
-use Rattle.hy_crossing.specs.Crossings.{database_behind}
+use Rattle.hy_recovery.specs.of_partition.Jobs.{Log}
+use Rattle.hy_recovery.specs.of_partition.Partition.{projection_of}
+use Rattle.hy_recovery.specs.of_crossing.Crossings.{database_behind}
 use Rattle.hy_database.specs.Database.{all_rows}
 use Rattle.hy_sound.specs.Sound.{IsSoundLog}
 use Rattle.hy_recovery.specs.Recovering.{IsWhyUnrecovered, NoneAreTooMany, joined}

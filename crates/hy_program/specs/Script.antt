@@ -4,7 +4,7 @@ use Rattle.hy_schema.specs.declared.refusal.Refusal.TheVariants as refusals
 use Rattle.hy_rows.specs.Tables.{Lists}
 use Rattle.hy_files.specs.Files.{FilesByPath}
 use Rattle.hy_script.specs.Scripts.{IsPrinted}
-use Rattle.hy_crossing.specs.Making.{SomeIsShort}
+use Rattle.hy_recovery.specs.of_crossing.Making.{SomeIsShort}
 use Rattle.hy_program.specs.declared.fault.RunFault.{RunFault}
 use Rattle.hy_program.specs.declared.fault.RunFault.TheVariants as fault
 use Rattle.hy_program.specs.declared.script.Limits.{Limits}

@@ -8,8 +8,8 @@ use Rattle.hy_schema.specs.declared.refusal.Refusal.{Refusal}
 use Rattle.hy_schema.specs.declared.refusal.Refusal.TheVariants as refusals
 use Rattle.hy_batches.specs.Batches.{Batch}
 use Rattle.hy_batches.specs.Encoding.{log_bytes}
-use Rattle.hy_partition.specs.Jobs.{Log}
-use Rattle.hy_forks.specs.Logged.{SaySame}
+use Rattle.hy_recovery.specs.of_partition.Jobs.{Log}
+use Rattle.hy_recovery.specs.of_forks.Logged.{SaySame}
 use Rattle.hy_files.specs.Files.{AddsPath, FilesByPath, HasFile, IsOutOfMemory, KeepsOthers, KnownPaths}
 use Rattle.hy_files.specs.Loads.{IsReadFault}
 use Rattle.hy_storm.specs.declared.ending.Figures.{Figures}

@@ -4,10 +4,10 @@ ghost use Rattle.std.specs.Prelude.{◌≡◌, ◌≤◌, ◌⊎◌, ◌∷◌, 
 ghost use Rattle.hy_schema.specs.declared.refusal.Refusal.{Refusal};
 ghost use Rattle.hy_tables.specs.Generated.{generated_lists};
 ghost use Rattle.hy_passes.specs.Worlds.{new_partition};
-ghost use Rattle.hy_partition.specs.Steps.{Accepts, Begins, Refuses};
+ghost use Rattle.hy_recovery.specs.of_partition.Steps.{Accepts, Begins, Refuses};
 ghost use Rattle.hy_program.specs.Faults.{IsBlamedRightly};
 ghost use Rattle.hy_program.specs.First.{HasTwoSlices, IsFirstFault, IsFirstPrinted, IsFirstRefusal, IsPaid, IsPayRefusal, IsYtdAfter, first_payment, ytds, ytds_of};
-ghost use Rattle.hy_partition.specs.Partition.{rows_now};
+ghost use Rattle.hy_recovery.specs.of_partition.Partition.{rows_now};
 ghost use Rattle.hy_undo.specs.UndoLog.{empty_log};
 
 use crate::PAGE_BYTES;
@@ -15,8 +15,8 @@ use crate::fault::RunFault;
 use hy_commands::{Command, Commit, Payment, Reply, Who};
 use hy_loads::Load;
 use hy_output::Output;
-use hy_partition::{Job, Loaded, Partition, Progress, Snapshot};
 use hy_passes::{Journal, Kit, PartitionSeat, Pass, make};
+use hy_recovery::hy_partition::{Job, Loaded, Partition, Progress, Snapshot};
 use hy_rows::Warehouse;
 use hy_schema::Refusal;
 use hy_tables::generate;

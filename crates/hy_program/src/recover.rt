@@ -18,15 +18,15 @@ use crate::reading::read_all;
 use hy_batches::{Batches, read_log};
 use hy_commands::Commit;
 use hy_files::{FileSystem, write_load};
-use hy_forks::fork_all;
 use hy_loads::Load;
 use hy_output::Output;
-use hy_partition::Loaded;
 use hy_passes::Kit;
+use hy_recovery::hy_forks::fork_all;
+use hy_recovery::hy_partition::Loaded;
 use hy_recovery::{check_batches, kit_for, recover};
 use hy_rows::{Lists, Tables};
 use hy_schema::Refusal;
-use hy_session::Session;
+use hy_storm::hy_session::Session;
 use std::alloc::{AllocError, Global};
 use std::marker::Brand;
 

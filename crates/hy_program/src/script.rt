@@ -1,7 +1,7 @@
 //! The command `script`: the events of a file, run on the database in the files of a folder.
 
 ghost use Rattle.std.specs.Prelude.{◌≡◌, ◌≤◌, IfErr, OnOk};
-ghost use Rattle.hy_partition.specs.Limits.{most_kept};
+ghost use Rattle.hy_recovery.specs.of_partition.Limits.{most_kept};
 ghost use Rattle.hy_frames.specs.FrameTable.{max_frames as most_frames};
 ghost use Rattle.hy_program.specs.Faults.{IsBlamedRightly};
 ghost use Rattle.hy_program.specs.Script.{IsScriptDone, IsScriptFaultOf};

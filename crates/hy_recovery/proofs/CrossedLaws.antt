@@ -24,16 +24,16 @@ use Rattle.hy_database.specs.Database.{act_on_all, customer_rows, kept_in, whole
 use Rattle.hy_database.proofs.PartLaws.{number-chosen}
 use Rattle.hy_batches.specs.Grammar.{names}
 use Rattle.hy_space.specs.Space.{SpaceState}
-use Rattle.hy_partition.specs.Headline.{Headline}
-use Rattle.hy_partition.specs.Jobs.{DoneState, JobState, Log, RunningJob, told}
-use Rattle.hy_partition.specs.Parts.{PartLacksFrame}
-use Rattle.hy_partition.specs.Partition.{PartitionState, replays, terms_of}
-use Rattle.hy_partition.specs.Steps.{is_full}
-use Rattle.hy_crossing.specs.Crossings.{AcceptsAll, AllMayRun, Crosses, EndsIfNamed, KeepsIfNamed, RefusesAll, SomeLacksFrame, TellsIfNamed, MayRunIfNamed, crossing_refusal, database_behind, entry_of, is_named, next_number, some_is_full, with_full}
-use Rattle.hy_crossing.specs.Lists.{InTurn, Pairwise}
-use Rattle.hy_crossing.proofs.AcceptLaws.{same-refusal}
-use Rattle.hy_crossing.proofs.InformLaws.{some-two}
-use Rattle.hy_crossing.proofs.PairLaws.{pairs-then}
+use Rattle.hy_forks.specs.of_partition.Headline.{Headline}
+use Rattle.hy_forks.specs.of_partition.Jobs.{DoneState, JobState, Log, RunningJob, told}
+use Rattle.hy_forks.specs.of_partition.Parts.{PartLacksFrame}
+use Rattle.hy_forks.specs.of_partition.Partition.{PartitionState, replays, terms_of}
+use Rattle.hy_forks.specs.of_partition.Steps.{is_full}
+use Rattle.hy_forks.specs.of_crossing.Crossings.{AcceptsAll, AllMayRun, Crosses, EndsIfNamed, KeepsIfNamed, RefusesAll, SomeLacksFrame, TellsIfNamed, MayRunIfNamed, crossing_refusal, database_behind, entry_of, is_named, next_number, some_is_full, with_full}
+use Rattle.hy_forks.specs.of_crossing.Lists.{InTurn, Pairwise}
+use Rattle.hy_forks.proofs.of_crossing.AcceptLaws.{same-refusal}
+use Rattle.hy_forks.proofs.of_crossing.InformLaws.{some-two}
+use Rattle.hy_forks.proofs.of_crossing.PairLaws.{pairs-then}
 use Rattle.hy_recovery.specs.inside.Ways.{CanRunCrossing, Enters, IsAlone, IsAtRest, IsShortage, KeepsWhereNamed, SomeHasNoFrame}
 use Rattle.hy_recovery.proofs.FrameLaws.{part-no-frame, some-lacks}
 use Rattle.hy_recovery.proofs.LocalLaws.{accepted-reply, none-is}

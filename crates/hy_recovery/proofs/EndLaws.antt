@@ -9,11 +9,11 @@ use Rattle.hy_schema.specs.declared.refusal.Refusal.TheVariants as refusals
 use Rattle.hy_passes.proofs.Beginnings.{begins_longer}
 use Rattle.hy_commands.specs.declared.command.Commit.{Commit}
 use Rattle.hy_batches.specs.Batches.{Batch}
-use Rattle.hy_partition.specs.Jobs.{Log}
-use Rattle.hy_partition.specs.Partition.{PartitionState}
-use Rattle.hy_crossing.specs.Crossings.{ArePartitions, HaveNoPart, IsPartition}
-use Rattle.hy_crossing.specs.Making.{IsWhyNoneMade}
-use Rattle.hy_crossing.proofs.InformLaws.{some-then}
+use Rattle.hy_forks.specs.of_partition.Jobs.{Log}
+use Rattle.hy_forks.specs.of_partition.Partition.{PartitionState}
+use Rattle.hy_forks.specs.of_crossing.Crossings.{ArePartitions, HaveNoPart, IsPartition}
+use Rattle.hy_forks.specs.of_crossing.Making.{IsWhyNoneMade}
+use Rattle.hy_forks.proofs.of_crossing.InformLaws.{some-then}
 use Rattle.hy_sound.specs.Sound.{IsSoundLog, Looks, list_at}
 use Rattle.hy_recovery.specs.Recovering.{IsUnfit, IsWhyUnrecovered, LacksFrame, NoneAreTooMany, StopsAtCommit, joined}
 use Rattle.hy_recovery.specs.inside.Ways.{Aim, AreThere, IsBound, IsShortage}

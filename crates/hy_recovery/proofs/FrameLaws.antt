@@ -15,14 +15,14 @@ use Rattle.hy_passes.proofs.Beginnings.{begins_itself, begins_longer}
 use Rattle.hy_commands.specs.declared.command.Command.{Command}
 use Rattle.hy_commands.specs.declared.command.Command.TheVariants as commands
 use Rattle.hy_commands.specs.declared.command.Commit.{Commit}
-use Rattle.hy_tpcc.specs.Shortages.{adds_no_page}
+use Rattle.hy_forks.specs.of_tpcc.Shortages.{adds_no_page}
 use Rattle.hy_batches.specs.Grammar.{names_several}
-use Rattle.hy_partition.specs.Headline.{Headline}
-use Rattle.hy_partition.specs.Jobs.{JobState}
-use Rattle.hy_partition.specs.Partition.{PartitionState, Terms, commits_of, rows_now, terms_of}
-use Rattle.hy_partition.specs.Parts.{PartLacksFrame}
-use Rattle.hy_partition.specs.Steps.{LacksFrame, with_job}
-use Rattle.hy_crossing.specs.Crossings.{SomeLacksFrame}
+use Rattle.hy_forks.specs.of_partition.Headline.{Headline}
+use Rattle.hy_forks.specs.of_partition.Jobs.{JobState}
+use Rattle.hy_forks.specs.of_partition.Partition.{PartitionState, Terms, commits_of, rows_now, terms_of}
+use Rattle.hy_forks.specs.of_partition.Parts.{PartLacksFrame}
+use Rattle.hy_forks.specs.of_partition.Steps.{LacksFrame, with_job}
+use Rattle.hy_forks.specs.of_crossing.Crossings.{SomeLacksFrame}
 use Rattle.hy_recovery.specs.Recovering.{HasNoFrameLeft}
 use Rattle.hy_recovery.specs.inside.Ways.{HasNoFrame, HasNoFrameFor, IsAlone, IsShortage}
 

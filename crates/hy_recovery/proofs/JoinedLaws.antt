@@ -17,12 +17,12 @@ use Rattle.hy_commands.specs.Commands.{edition_of}
 use Rattle.hy_batches.specs.Batches.{Batch, is_edition, may_follow}
 use Rattle.hy_batches.specs.Grammar.{are_batches, are_batches_behind, are_lists, commit_fits, fits, is_allowed, is_batch, is_commit, is_list}
 use Rattle.hy_batches.proofs.ListLaws.{flat_map-taken}
-use Rattle.hy_partition.specs.Jobs.{Log}
-use Rattle.hy_partition.specs.Partition.{PartitionState, terms_of}
-use Rattle.hy_partition.specs.Steps.{Begins}
-use Rattle.hy_crossing.specs.Lists.{Pairwise}
-use Rattle.hy_crossing.specs.Making.{AllBegin}
-use Rattle.hy_crossing.proofs.InformLaws.{some-then, some-two}
+use Rattle.hy_forks.specs.of_partition.Jobs.{Log}
+use Rattle.hy_forks.specs.of_partition.Partition.{PartitionState, terms_of}
+use Rattle.hy_forks.specs.of_partition.Steps.{Begins}
+use Rattle.hy_forks.specs.of_crossing.Lists.{Pairwise}
+use Rattle.hy_forks.specs.of_crossing.Making.{AllBegin}
+use Rattle.hy_forks.proofs.of_crossing.InformLaws.{some-then, some-two}
 use Rattle.hy_forks.specs.Drains.{TellsHere}
 use Rattle.hy_sound.specs.Sound.{AreSound, list_at}
 use Rattle.hy_sound.specs.Merges.{left_of}

@@ -24,10 +24,10 @@ use Rattle.hy_commands.proofs.DatabaseLaws.{rows-load, there-load}
 use Rattle.hy_commands.proofs.SameCustomers.{has_customer-same, same-customers}
 use Rattle.hy_database.proofs.PartLaws.{named-customer_home}
 use Rattle.hy_batches.specs.Grammar.{command_fits, is_allowed, names, names_several}
-use Rattle.hy_partition.specs.Headline.{Headline}
-use Rattle.hy_partition.specs.Jobs.{DoneState, JobState, Log, begun, entered_by}
-use Rattle.hy_partition.specs.Partition.{PartitionState, may_run, outcome_now, refusal_now, rows_now, terms_of}
-use Rattle.hy_partition.specs.Steps.{Accepts, IsUnbegun, Refuses, begin_refusal, is_full, with_job}
+use Rattle.hy_forks.specs.of_partition.Headline.{Headline}
+use Rattle.hy_forks.specs.of_partition.Jobs.{DoneState, JobState, Log, begun, entered_by}
+use Rattle.hy_forks.specs.of_partition.Partition.{PartitionState, may_run, outcome_now, refusal_now, rows_now, terms_of}
+use Rattle.hy_forks.specs.of_partition.Steps.{Accepts, IsUnbegun, Refuses, begin_refusal, is_full, with_job}
 use Rattle.hy_recovery.specs.inside.Ways.{CanRunLocal, Enters, HasNoFrameFor, IsShortage, KeepsOne}
 use Rattle.hy_recovery.proofs.FrameLaws.{no-frame-for}
 

@@ -3,8 +3,8 @@ use Rattle.std.proofs.Common.{◌≡◌, ℕ, suc, ◌<◌, true, List, length, 
 use Rattle.hy_rows.specs.Tables.{Lists}
 use Rattle.hy_batches.specs.Batches.{Batch}
 use Rattle.hy_batches.specs.Grammar.{are_batches}
-use Rattle.hy_partition.specs.Jobs.{Log}
-use Rattle.hy_partition.specs.Partition.{PartitionState, projection_of}
+use Rattle.hy_forks.specs.of_partition.Jobs.{Log}
+use Rattle.hy_forks.specs.of_partition.Partition.{PartitionState, projection_of}
 use Rattle.hy_forks.specs.Histories.{IsOneHistory}
 use Rattle.hy_forks.specs.Logged.{SaySame}
 use Rattle.hy_recovery.specs.Recovering.{AreRecovered, GoesOn, IsRecovered, joined}

@@ -2,7 +2,7 @@
 use Rattle.std.proofs.Common.{◌≡◌, ◌≢◌, ℕ, zero, suc, ◌+◌, ◌<◌, ◌≤◌, ◌==◌, Bool, true, false, List, [], ◌∷◌, length, slice_get, Option, Some, None, refl, sym, ap, arith, subst}
 use Rattle.std.specs.Prelude.{IfSome, IsSomeAnd, slice_index_or, slice_set}
 use Rattle.std.proofs.lemmas.Bool.{eqb-false, eqb-true}
-use Rattle.hy_crossing.specs.Lists.{Pairwise}
+use Rattle.hy_forks.specs.of_crossing.Lists.{Pairwise}
 
 pub get-past : {Row : Type 0} (rows : List Row) (place : ℕ) → length rows ≤ place → slice_get rows place ≡ None
 get-past [] place past = refl

@@ -14,11 +14,11 @@ use Rattle.hy_commands.specs.declared.edition.Edition.{Edition}
 use Rattle.hy_commands.specs.Commands.{is_in_range, number_of}
 use Rattle.hy_commands.specs.Parts.{is_by_number}
 use Rattle.hy_batches.specs.Grammar.{commit_fits, is_allowed, names, names_several}
-use Rattle.hy_partition.specs.Jobs.{Log}
-use Rattle.hy_partition.specs.Partition.{PartitionState, replays}
-use Rattle.hy_crossing.specs.Crossings.{ArePartitions, HaveNoPart}
-use Rattle.hy_crossing.specs.Lists.{Pairwise}
-use Rattle.hy_crossing.proofs.InformLaws.{pairs-count}
+use Rattle.hy_forks.specs.of_partition.Jobs.{Log}
+use Rattle.hy_forks.specs.of_partition.Partition.{PartitionState, replays}
+use Rattle.hy_forks.specs.of_crossing.Crossings.{ArePartitions, HaveNoPart}
+use Rattle.hy_forks.specs.of_crossing.Lists.{Pairwise}
+use Rattle.hy_forks.proofs.of_crossing.InformLaws.{pairs-count}
 use Rattle.hy_sound.specs.Sound.{are_replayable, crossings_of, is_known, names_one_of}
 use Rattle.hy_sound.specs.Merges.{FindsCrossing, FindsNone, LacksCrossing, MergeState, PassesCrossing, count_of, left_of, next_of}
 use Rattle.hy_sound.specs.inside.Steps.{IsAtCrossing, IsSoundFrom}

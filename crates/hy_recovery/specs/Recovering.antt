@@ -12,11 +12,11 @@ use Rattle.hy_commands.specs.Replay.{rows_after}
 use Rattle.hy_frames.specs.FrameTable.{free_of}
 use Rattle.hy_space.specs.Space.{CountsAreExact, SpaceState, child_table, owner_bytes}
 use Rattle.hy_undo.specs.UndoLog.{UndoLog, undone}
-use Rattle.hy_tpcc.specs.Shortages.{adds_no_page}
+use Rattle.hy_forks.specs.of_tpcc.Shortages.{adds_no_page}
 use Rattle.hy_batches.specs.Batches.{Batch}
-use Rattle.hy_partition.specs.Limits.{most_kept}
-use Rattle.hy_partition.specs.Partition.{PartitionState, commits_of, terms_of}
-use Rattle.hy_crossing.specs.Making.{SomeIsShort}
+use Rattle.hy_forks.specs.of_partition.Limits.{most_kept}
+use Rattle.hy_forks.specs.of_partition.Partition.{PartitionState, commits_of, terms_of}
+use Rattle.hy_forks.specs.of_crossing.Making.{SomeIsShort}
 pub use Rattle.hy_forks.specs.Logged.{GoesOn, joined}
 use Rattle.hy_sound.specs.Sound.{IsFirstUnsound, IsSoundLog}
 

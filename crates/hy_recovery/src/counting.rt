@@ -1,7 +1,7 @@
 //! How many commits the batches of a log have of each warehouse.
 
 ghost use Rattle.std.specs.Prelude.{◌≡◌, ◌<◌, ◌≤◌, ◌↔◌, ℕ, IfOk, IsTrue, MatchBool, length, slice_index_or};
-ghost use Rattle.hy_partition.specs.Limits.{most_kept};
+ghost use Rattle.hy_forks.specs.of_partition.Limits.{most_kept};
 ghost use Rattle.hy_rows.specs.Tables.{Lists};
 ghost use Rattle.hy_sound.specs.Sound.{list_at};
 ghost use Rattle.hy_passes.specs.SerialList.{max_clients};

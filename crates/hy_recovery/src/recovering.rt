@@ -6,8 +6,8 @@ ghost use Rattle.hy_frames.specs.FrameTable.{IsPageSize, max_frames as most_fram
 ghost use Rattle.hy_passes.specs.Worlds.{new_partition};
 ghost use Rattle.hy_schema.specs.Conditions.{first_broken};
 ghost use Rattle.hy_database.specs.Database.{all_rows};
-ghost use Rattle.hy_partition.specs.Limits.{most_kept};
-ghost use Rattle.hy_crossing.specs.Crossings.{ArePartitions, HaveNoPart, database_behind};
+ghost use Rattle.hy_forks.specs.of_partition.Limits.{most_kept};
+ghost use Rattle.hy_forks.specs.of_crossing.Crossings.{ArePartitions, HaveNoPart, database_behind};
 ghost use Rattle.hy_forks.specs.Histories.{IsOneHistory};
 ghost use Rattle.hy_recovery.specs.Recovering.{AreRecovered, Counts, GoesOn, IsWhyUnrecovered, NoneAreTooMany};
 
@@ -15,20 +15,21 @@ use crate::checking::check_batches;
 use crate::replaying::run_batch;
 use hy_batches::Batches;
 use hy_commands::Commit;
-use hy_crossing::partitions_of;
 use hy_database::every_database_is_consistent;
+use hy_forks::hy_crossing::partitions_of;
+use hy_forks::hy_partition::{Loaded, Partition};
 use hy_forks::{find_history, know_replayed};
 use hy_loads::Load;
-use hy_partition::{Loaded, Partition};
 use hy_passes::{Journal, PartitionSeat, Pass};
 use hy_schema::Refusal;
 use std::alloc::Global;
 
 /// The partitions of all warehouses of a load once the batches of a log were run again, each by its edition, with the
 /// journal and the pass of the client who runs them. Each partition has kept its lists of all batches, one behind another.
-/// The kit has to know how many these are (`kit_for`). Refused by the first of these: E15 (`LogMalformed`) and then E3, as `check_batches` says; E2 where
-/// `max_frames` are too few for the rows of a warehouse or for one of its commits; E1, where memory lacks before a frame
-/// does. Takes time in proportion to the commits, beside what `check_batches` and `partitions_of` take.
+/// The kit has to know how many these are (`kit_for`). Refused by the first of these: E15 (`LogMalformed`) and then E3,
+/// as `check_batches` says; E2 where `max_frames` are too few for the rows of a warehouse or for one of its commits;
+/// E1, where memory lacks before a frame does. Takes time in proportion to the commits, beside what `check_batches` and
+/// `partitions_of` take.
 pub fn recover<const N: usize, K: Loaded>(
     alloc: Global,
     load: &Load,

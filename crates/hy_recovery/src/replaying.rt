@@ -10,7 +10,7 @@ ghost use Rattle.hy_recovery.specs.inside.Ways.{Aim, AreOnWay, AreThere, IsShort
 use crate::running::{run_crossing, run_local};
 use hy_batches::Batch;
 use hy_commands::Commit;
-use hy_partition::{Loaded, Partition};
+use hy_forks::hy_partition::{Loaded, Partition};
 use hy_passes::{Journal, Pass};
 use hy_schema::Refusal;
 use hy_sound::Merge;

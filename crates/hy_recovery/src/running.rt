@@ -4,15 +4,15 @@ ghost use Rattle.std.specs.Prelude.{◌≡◌, ℕ, IfErr, IfOk, IfSome, None, O
 ghost use Rattle.hy_commands.specs.declared.command.Commit.TheVariants as commits;
 ghost use Rattle.hy_commands.specs.declared.reply.Reply.TheVariants as replies;
 ghost use Rattle.hy_schema.specs.declared.refusal.Refusal.{Refusal};
-ghost use Rattle.hy_partition.specs.Headline.{Headline};
-ghost use Rattle.hy_partition.specs.Steps.{begin_refusal};
-ghost use Rattle.hy_crossing.specs.Crossings.{ArePartitions, HaveNoPart};
-ghost use Rattle.hy_crossing.specs.Lists.{Pairwise};
+ghost use Rattle.hy_forks.specs.of_partition.Headline.{Headline};
+ghost use Rattle.hy_forks.specs.of_partition.Steps.{begin_refusal};
+ghost use Rattle.hy_forks.specs.of_crossing.Crossings.{ArePartitions, HaveNoPart};
+ghost use Rattle.hy_forks.specs.of_crossing.Lists.{Pairwise};
 ghost use Rattle.hy_recovery.specs.inside.Ways.{CanRunCrossing, CanRunLocal, Enters, HasNoFrameFor, IsShortage, KeepsOne, KeepsWhereNamed, SomeHasNoFrame};
 
 use hy_commands::{Command, Commit, Edition, Reply};
-use hy_crossing::cross;
-use hy_partition::{Done, Job, Loaded, Partition};
+use hy_forks::hy_crossing::cross;
+use hy_forks::hy_partition::{Done, Job, Loaded, Partition};
 use hy_passes::{Journal, Pass};
 use hy_schema::Refusal;
 

@@ -18,8 +18,8 @@ use Rattle.hy_redo.specs.Writers.{Told}
 use Rattle.hy_redo.proofs.CallLaws.{handed-append, join, none_lost}
 use Rattle.hy_sound.specs.Sound.{list_at}
 use Rattle.hy_sound.proofs.LogLaws.{sound-beginning}
-use Rattle.hy_partition.specs.Jobs.{Log}
-use Rattle.hy_partition.specs.Partition.{projection_of}
+use Rattle.hy_forks.specs.of_partition.Jobs.{Log}
+use Rattle.hy_forks.specs.of_partition.Partition.{projection_of}
 use Rattle.hy_forks.specs.Logged.{SaySame, joined}
 use Rattle.hy_redo_drains.specs.Following.{DrainState, Follows, LeaveBeginnings, LeavesBeginning, WasHanded, WritesDue, all_of, due_of, least_of}
 

@@ -8,8 +8,8 @@ use Rattle.hy_batches.specs.Batches.{Batch}
 use Rattle.hy_batches.specs.Logs.{IsLog, Reads}
 use Rattle.hy_redo.specs.Calls.{Answers, AreCalls, Call, LogState, acknowledged, handed, log_behind}
 use Rattle.hy_redo.specs.Disk.{BeginsBehind, MayLeave}
-use Rattle.hy_partition.specs.Jobs.{Log}
-use Rattle.hy_partition.specs.Partition.{projection_of}
+use Rattle.hy_forks.specs.of_partition.Jobs.{Log}
+use Rattle.hy_forks.specs.of_partition.Partition.{projection_of}
 use Rattle.hy_sound.specs.Sound.{IsSoundLog}
 use Rattle.hy_forks.specs.Logged.{SaySame, joined}
 

@@ -6,14 +6,14 @@ use Rattle.hy_worlds.specs.Origins.{Origin}
 use Rattle.hy_rows.specs.Tables.{Lists}
 use Rattle.hy_commands.specs.declared.command.Commit.{Commit}
 use Rattle.hy_space.specs.Space.{child_bytes}
-use Rattle.hy_partition.specs.Jobs.{Log}
-use Rattle.hy_partition.specs.Partition.{PartitionState, commits_of, terms_of}
-use Rattle.hy_partition.specs.Parts.{KeepsBeside}
-use Rattle.hy_partition.specs.Schedules as one
-use Rattle.hy_partition.specs.Schedules.{Does, DoesStep, Event, IsTaken, IsWorldOf, Leads, Taken, Underway, World, begins, closes, enters, forks, forks_from, fresh_world, rows_of, steps, takes, underway, with_known, with_open}
-use Rattle.hy_partition.specs.Snapshots.{SnapshotState}
-use Rattle.hy_partition.specs.Steps.{Begins, Closes, Forks, ForksFrom, KeepsJob}
-use Rattle.hy_crossing.specs.Lists.{Pairwise}
+use Rattle.hy_forks.specs.of_partition.Jobs.{Log}
+use Rattle.hy_forks.specs.of_partition.Partition.{PartitionState, commits_of, terms_of}
+use Rattle.hy_forks.specs.of_partition.Parts.{KeepsBeside}
+use Rattle.hy_forks.specs.of_partition.Schedules as one
+use Rattle.hy_forks.specs.of_partition.Schedules.{Does, DoesStep, Event, IsTaken, IsWorldOf, Leads, Taken, Underway, World, begins, closes, enters, forks, forks_from, fresh_world, rows_of, steps, takes, underway, with_known, with_open}
+use Rattle.hy_forks.specs.of_partition.Snapshots.{SnapshotState}
+use Rattle.hy_forks.specs.of_partition.Steps.{Begins, Closes, Forks, ForksFrom, KeepsJob}
+use Rattle.hy_forks.specs.of_crossing.Lists.{Pairwise}
 use Rattle.hy_forks.specs.Drains.{TellsHere}
 use Rattle.hy_forks.specs.Forks.{ClosesHere, ForksAll, ForksAllFrom, ForksFromHere, ForksHere, IsUnforked}
 use Rattle.hy_schedules.specs.Schedules.{ArePlacesOf, DoesAll, EventOfAll, IsPlaceOf, IsWholeOf, LeadsAll, Place, Whole, at, children_of, closes_all, drains, each_changed, forks_all, forks_all_from, fresh_place, fresh_whole, is_local, looks, place_at, with_drained, with_places, with_snapshot, with_snapshot_from, without_snapshot, world_at}

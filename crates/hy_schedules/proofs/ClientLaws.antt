@@ -10,10 +10,10 @@ use Rattle.std.proofs.lemmas.List.Sorted.{All-permutation, IsPermutation-append_
 use Rattle.std.proofs.lemmas.List.Sums.{sum_by-append, sum_by-cons}
 use Rattle.hy_passes.specs.Worlds.{PassState, new_client}
 use Rattle.hy_commands.specs.declared.command.Commit.{Commit}
-use Rattle.hy_partition.specs.Jobs.{DoneState, Log, RunningJob}
-use Rattle.hy_partition.specs.Partition.{PartitionState}
-use Rattle.hy_partition.specs.Schedules.{with_known}
-use Rattle.hy_crossing.specs.Lists.{Pairwise}
+use Rattle.hy_forks.specs.of_partition.Jobs.{DoneState, Log, RunningJob}
+use Rattle.hy_forks.specs.of_partition.Partition.{PartitionState}
+use Rattle.hy_forks.specs.of_partition.Schedules.{with_known}
+use Rattle.hy_forks.specs.of_crossing.Lists.{Pairwise}
 use Rattle.hy_schedules.specs.Clients.{AreApart, IsTold, KnowsClients, is_of, passes_between, passes_in, passes_of}
 
 -- a client's pass

@@ -20,12 +20,12 @@ use Rattle.hy_commands.specs.Transactions.{refusal_of}
 use Rattle.hy_database.specs.Database.{customer_rows, kept_in}
 use Rattle.hy_database.proofs.PartLaws.{by_number-warehouses}
 use Rattle.hy_space.specs.Space.{child_bytes}
-use Rattle.hy_partition.specs.Jobs.{DoneState, JobState, Log, RunningJob, accepted_answer, entered_by, refused_answer}
-use Rattle.hy_partition.specs.Partition.{PartitionState, commits_of, outcome_now}
-use Rattle.hy_partition.specs.Schedules.{IsTaken, IsWorldOf, Taken, Underway, World, entered, rows_of, underway, with_accepted, with_known, with_refused}
-use Rattle.hy_partition.specs.Steps.{Accepts, Ends as EndsWith, KeepsRest, Refuses}
-use Rattle.hy_crossing.specs.Crossings.{AcceptsAll, ArePartitions, Crosses, EndsIfNamed, EndsJob, KeepsIfNamed, LeavesIfNamed, RefusesAll, TellsIfNamed, crossing_entry, database_behind, entry_of, is_named, with_full}
-use Rattle.hy_crossing.specs.Lists.{InTurn}
+use Rattle.hy_forks.specs.of_partition.Jobs.{DoneState, JobState, Log, RunningJob, accepted_answer, entered_by, refused_answer}
+use Rattle.hy_forks.specs.of_partition.Partition.{PartitionState, commits_of, outcome_now}
+use Rattle.hy_forks.specs.of_partition.Schedules.{IsTaken, IsWorldOf, Taken, Underway, World, entered, rows_of, underway, with_accepted, with_known, with_refused}
+use Rattle.hy_forks.specs.of_partition.Steps.{Accepts, Ends as EndsWith, KeepsRest, Refuses}
+use Rattle.hy_forks.specs.of_crossing.Crossings.{AcceptsAll, ArePartitions, Crosses, EndsIfNamed, EndsJob, KeepsIfNamed, LeavesIfNamed, RefusesAll, TellsIfNamed, crossing_entry, database_behind, entry_of, is_named, with_full}
+use Rattle.hy_forks.specs.of_crossing.Lists.{InTurn}
 use Rattle.hy_schedules.specs.Clients.{passes_in, passes_of}
 use Rattle.hy_schedules.specs.Schedules.{ArePlacesOf, ChangesPlace, Ends, DoesAll, EndsIn, EventOfAll, IsPlaceOf, IsWholeOf, LeadsAll, Place, Whole, crosses, entry_behind, place_at, refusal_behind, with_commit, with_entry, with_place, world_at}
 use Rattle.hy_schedules.proofs.ClientLaws.{Moves, Pass, moves-answered, moves-both, moves-same, moves-then, moves-told, passes-beside, passes-pairs}

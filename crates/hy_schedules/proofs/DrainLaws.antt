@@ -7,9 +7,9 @@ use Rattle.hy_rows.specs.Tables.{Lists}
 use Rattle.hy_commands.specs.declared.command.Command.{Command}
 use Rattle.hy_commands.specs.declared.command.Commit.{Commit}
 use Rattle.hy_commands.specs.Commands.{warehouses_of_commit}
-use Rattle.hy_partition.specs.Jobs.{Log}
-use Rattle.hy_partition.specs.Partition.{projection_of}
-use Rattle.hy_partition.specs.Schedules.{World}
+use Rattle.hy_forks.specs.of_partition.Jobs.{Log}
+use Rattle.hy_forks.specs.of_partition.Partition.{projection_of}
+use Rattle.hy_forks.specs.of_partition.Schedules.{World}
 use Rattle.hy_schedules.specs.Schedules.{ChangesPlace, DoesAll, DoesCross, Ends, EndsIn, EventOfAll, IsDrainedTo, KeepsEverything, KeepsPlace, Place, Whole, each_changed, entry_behind, fresh_place, fresh_whole, place_at, rested_places, rested_whole, with_commit, with_drained, with_snapshot, with_snapshot_from, without_snapshot}
 use Rattle.hy_schedules.specs.Schedules as all
 use Rattle.hy_schedules.proofs.PlaceLaws.{each-changed, each-replaced, holds-place}

@@ -6,7 +6,7 @@ use Rattle.std.specs.Option.{ForSome, option_map, unwrap_or}
 use Rattle.std.proofs.lemmas.Bool.{and_from, eq-eqb, lt-ltb}
 use Rattle.std.proofs.lemmas.Option.{none-some, slice_get_within}
 use Rattle.std.proofs.lemmas.List.Elements.{All-nil}
-use Rattle.hy_crossing.proofs.PlaceLaws.{get-some}
+use Rattle.hy_forks.proofs.of_crossing.PlaceLaws.{get-some}
 use Rattle.hy_passes.specs.Agreement.{Agree, AreProjections, IsWarehouse}
 use Rattle.hy_passes.specs.SerialList.{IsSerial, are_warehouses, names, numbers_of}
 use Rattle.hy_passes.specs.declared.entry.Entry.{Entry}
@@ -30,12 +30,12 @@ use Rattle.hy_database.proofs.Consistent.{consistent-after}
 use Rattle.hy_database.proofs.EachLaws.{count-after}
 use Rattle.hy_database.proofs.PartLaws.{by_number-warehouses}
 use Rattle.hy_database.proofs.Replays.{replay-after}
-use Rattle.hy_partition.specs.Jobs.{Log}
-use Rattle.hy_partition.specs.Partition.{projection_of}
-use Rattle.hy_partition.specs.Schedules as one
-use Rattle.hy_partition.specs.Schedules.{Does, Event, Taken, with_known}
-use Rattle.hy_partition.proofs.ReplayLaws.{sound-rows}
-use Rattle.hy_crossing.specs.Crossings.{commits_in, database_behind}
+use Rattle.hy_forks.specs.of_partition.Jobs.{Log}
+use Rattle.hy_forks.specs.of_partition.Partition.{projection_of}
+use Rattle.hy_forks.specs.of_partition.Schedules as one
+use Rattle.hy_forks.specs.of_partition.Schedules.{Does, Event, Taken, with_known}
+use Rattle.hy_forks.proofs.of_partition.ReplayLaws.{sound-rows}
+use Rattle.hy_forks.specs.of_crossing.Crossings.{commits_in, database_behind}
 use Rattle.hy_schedules.specs.Schedules.{ChangesPlace, DoesAll, DoesCross, Ends, EndsIn, EventOfAll, HasSnapshotOf, KeepsEverything, KeepsPlace, Place, RunsAll, Whole, at, closes_all, crosses, drains, entry_behind, forks_all, forks_all_from, fresh_place, fresh_whole, is_local, kept_at, looks, place_at, refusal_behind, rested_place, rested_places, rested_whole, with_commit, with_drained, with_entry, with_place, with_places, with_snapshot, with_snapshot_from, without_snapshot, world_at}
 use Rattle.hy_schedules.proofs.PlaceLaws.{each-changed, each-replaced, holds-place, length-each, length-with_place}
 use Rattle.hy_schedules.proofs.StepLaws.{HasRows, IsStep, added-elsewhere, added-here, added-longer, added-rows, added-serial, known-more, rows-more, rows-now, step-ends, step-event}

@@ -21,9 +21,9 @@ use Rattle.hy_commands.specs.Commands.{is_reader, kept_of, number_of, warehouses
 use Rattle.hy_commands.specs.Replay.{rows_after}
 use Rattle.hy_commands.specs.Transactions.{refusal_of}
 use Rattle.hy_commands.proofs.NamedLaws.{named-accepted}
-use Rattle.hy_partition.specs.Jobs.{Log}
-use Rattle.hy_partition.specs.Partition.{projection_of}
-use Rattle.hy_partition.specs.Schedules.{Does, DoesStep, Event, Taken, Underway, World, begins, closes, entered, enters, forks, forks_from, looks, rows_of, steps, takes, with_accepted, with_known, with_open, with_refused}
+use Rattle.hy_forks.specs.of_partition.Jobs.{Log}
+use Rattle.hy_forks.specs.of_partition.Partition.{projection_of}
+use Rattle.hy_forks.specs.of_partition.Schedules.{Does, DoesStep, Event, Taken, Underway, World, begins, closes, entered, enters, forks, forks_from, looks, rows_of, steps, takes, with_accepted, with_known, with_open, with_refused}
 use Rattle.hy_schedules.specs.Schedules.{Ends, is_local}
 
 -- ---- what is added

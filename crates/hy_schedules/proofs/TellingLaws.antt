@@ -10,14 +10,14 @@ use Rattle.hy_rows.specs.Tables.{Lists}
 use Rattle.hy_schema.specs.declared.refusal.Refusal.{Refusal}
 use Rattle.hy_schema.specs.declared.refusal.Refusal.TheVariants as refusals
 use Rattle.hy_commands.specs.declared.command.Command.{Command}
-use Rattle.hy_partition.specs.declared.job.Progress.{Progress}
-use Rattle.hy_partition.specs.declared.job.Progress.TheVariants as progress
-use Rattle.hy_partition.specs.Jobs.{DoneState, JobState, Log, RunningJob, begun}
-use Rattle.hy_partition.specs.Partition.{PartState, PartitionState}
-use Rattle.hy_partition.specs.Schedules.{Does, DoesStep, IsWorldOf, Underway, World, steps, underway, with_accepted, with_refused, with_slice}
-use Rattle.hy_partition.specs.Snapshots.{SnapshotState}
-use Rattle.hy_partition.specs.Steps.{Begins, Closes, Forks, ForksFrom, StepsTo, begin_refusal, with_job}
-use Rattle.hy_crossing.specs.Lists.{Pairwise}
+use Rattle.hy_forks.specs.of_partition.declared.job.Progress.{Progress}
+use Rattle.hy_forks.specs.of_partition.declared.job.Progress.TheVariants as progress
+use Rattle.hy_forks.specs.of_partition.Jobs.{DoneState, JobState, Log, RunningJob, begun}
+use Rattle.hy_forks.specs.of_partition.Partition.{PartState, PartitionState}
+use Rattle.hy_forks.specs.of_partition.Schedules.{Does, DoesStep, IsWorldOf, Underway, World, steps, underway, with_accepted, with_refused, with_slice}
+use Rattle.hy_forks.specs.of_partition.Snapshots.{SnapshotState}
+use Rattle.hy_forks.specs.of_partition.Steps.{Begins, Closes, Forks, ForksFrom, StepsTo, begin_refusal, with_job}
+use Rattle.hy_forks.specs.of_crossing.Lists.{Pairwise}
 use Rattle.hy_forks.specs.Drains.{TellsHere}
 use Rattle.hy_forks.specs.Forks.{ClosesHere, ForksFromHere, ForksHere, IsUnforked}
 use Rattle.hy_schedules.specs.Clients.{AreApart, IsWholeKnowing, KnowsClients, LeadsKnowing, passes_between, passes_in, passes_of}

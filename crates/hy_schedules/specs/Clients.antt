@@ -3,8 +3,8 @@
 use Rattle.std.specs.Prelude.{ℕ, ◌≡◌, ◌≤◌, ◌==◌, Bool, List, ◌++◌, length, count_by, flat_map, All, Option, option_map, option_to_list}
 use Rattle.hy_passes.specs.Worlds.{PassState}
 use Rattle.hy_commands.specs.declared.command.Commit.{Commit}
-use Rattle.hy_partition.specs.Jobs.{DoneState, Log, RunningJob}
-use Rattle.hy_partition.specs.Partition.{PartitionState}
+use Rattle.hy_forks.specs.of_partition.Jobs.{DoneState, Log, RunningJob}
+use Rattle.hy_forks.specs.of_partition.Partition.{PartitionState}
 use Rattle.hy_schedules.specs.Schedules.{DoesAll, EventOfAll, IsWholeOf, Whole}
 
 -- the passes that lie in a partition: in the job that runs, and in the answer that waits

@@ -19,12 +19,12 @@ use Rattle.hy_commands.specs.Commands.{number_of, warehouses_of, warehouses_of_c
 use Rattle.hy_commands.specs.Parts.{Database, refusal_in, rows_of}
 use Rattle.hy_commands.specs.Transactions.{refusal_of}
 use Rattle.hy_database.specs.Database.{all_rows, kept_in}
-use Rattle.hy_partition.specs.Jobs.{Log}
-use Rattle.hy_partition.specs.Partition.{PartitionState, projection_of}
-use Rattle.hy_partition.specs.Schedules as one
-use Rattle.hy_partition.specs.Schedules.{Does, Event, IsWorldOf, KeepsAll, Taken, Underway, World, with_accepted, with_known, with_open, with_refused}
-use Rattle.hy_partition.specs.Snapshots.{SnapshotState}
-use Rattle.hy_crossing.specs.Crossings.{crossing_entry, database_behind, is_named}
+use Rattle.hy_forks.specs.of_partition.Jobs.{Log}
+use Rattle.hy_forks.specs.of_partition.Partition.{PartitionState, projection_of}
+use Rattle.hy_forks.specs.of_partition.Schedules as one
+use Rattle.hy_forks.specs.of_partition.Schedules.{Does, Event, IsWorldOf, KeepsAll, Taken, Underway, World, with_accepted, with_known, with_open, with_refused}
+use Rattle.hy_forks.specs.of_partition.Snapshots.{SnapshotState}
+use Rattle.hy_forks.specs.of_crossing.Crossings.{crossing_entry, database_behind, is_named}
 
 -- ---- the model's database
 

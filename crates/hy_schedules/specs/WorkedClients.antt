@@ -11,9 +11,9 @@ use Rattle.hy_commands.specs.declared.command.Command.TheVariants as commands
 use Rattle.hy_commands.specs.declared.command.Commit.{Commit}
 use Rattle.hy_commands.specs.declared.edition.Edition.TheVariants as editions
 use Rattle.hy_commands.specs.declared.reply.Reply.TheVariants as replies
-use Rattle.hy_partition.specs.Jobs.{DoneState, Log, RunningJob, accepted_answer, refused_answer, told}
-use Rattle.hy_partition.specs.Partition.{PartitionState}
-use Rattle.hy_partition.specs.Schedules.{underway, with_accepted}
+use Rattle.hy_forks.specs.of_partition.Jobs.{DoneState, Log, RunningJob, accepted_answer, refused_answer, told}
+use Rattle.hy_forks.specs.of_partition.Partition.{PartitionState}
+use Rattle.hy_forks.specs.of_partition.Schedules.{underway, with_accepted}
 use Rattle.hy_schedules.specs.Clients.{AreApart, IsTold, KnowsClients, passes_in}
 use Rattle.hy_schedules.specs.Schedules.{world_at}
 use Rattle.hy_schedules.specs.WorkedSchedules.{bought, drained, forked, last, lists, paid, pay, paying, place_in, start}

@@ -21,8 +21,8 @@ use Rattle.hy_commands.specs.declared.command.Who.TheVariants as who
 use Rattle.hy_commands.specs.declared.edition.Edition.TheVariants as editions
 use Rattle.hy_commands.specs.Commands.{number_of}
 use Rattle.hy_commands.specs.WorkedSample.{customers, district, each, items, stock, up_to, warehouse}
-use Rattle.hy_partition.specs.Schedules as one
-use Rattle.hy_partition.specs.Schedules.{Taken, Underway, World, begins, steps, takes, with_accepted, with_known}
+use Rattle.hy_forks.specs.of_partition.Schedules as one
+use Rattle.hy_forks.specs.of_partition.Schedules.{Taken, Underway, World, begins, steps, takes, with_accepted, with_known}
 use Rattle.hy_schedules.specs.Schedules.{ChangesPlace, DoesAll, Ends, EventOfAll, Place, RunsAll, Whole, at, closes_all, crosses, drains, entry_behind, forks_all, forks_all_from, fresh_place, fresh_whole, kept_at, looks, place_at, refusal_behind, rested_whole, with_drained, with_entry, with_place, with_places, with_snapshot, with_snapshot_from, without_snapshot, world_at}
 
 -- ---- two warehouses with a district each, where a load has ten

@@ -11,21 +11,21 @@ ghost use Rattle.hy_commands.specs.declared.edition.Edition.TheVariants as editi
 ghost use Rattle.hy_passes.specs.SerialList.{IsSerial};
 ghost use Rattle.hy_passes.specs.Worlds.{PassState, new_client};
 ghost use Rattle.hy_commands.specs.Commands.{number_of, warehouses_of, warehouses_of_commit};
-ghost use Rattle.hy_partition.specs.declared.job.Progress.{Progress};
-ghost use Rattle.hy_partition.specs.Jobs.{DoneState, JobState, Log, RunningJob, told};
-ghost use Rattle.hy_partition.specs.Partition.{PartitionState};
-ghost use Rattle.hy_partition.specs.Schedules.{begins, closes, forks, forks_from, steps, takes};
-ghost use Rattle.hy_partition.specs.Snapshots.{SnapshotState};
-ghost use Rattle.hy_partition.specs.Steps.{begin_refusal, Begins, Closes, Forks, ForksFrom, StaysUnforked, StepsTo, with_job};
-ghost use Rattle.hy_crossing.specs.Crossings.{ArePartitions, Crosses, database_behind};
-ghost use Rattle.hy_crossing.specs.Lists.{ChangesAt, Pairwise};
+ghost use Rattle.hy_forks.specs.of_partition.declared.job.Progress.{Progress};
+ghost use Rattle.hy_forks.specs.of_partition.Jobs.{DoneState, JobState, Log, RunningJob, told};
+ghost use Rattle.hy_forks.specs.of_partition.Partition.{PartitionState};
+ghost use Rattle.hy_forks.specs.of_partition.Schedules.{begins, closes, forks, forks_from, steps, takes};
+ghost use Rattle.hy_forks.specs.of_partition.Snapshots.{SnapshotState};
+ghost use Rattle.hy_forks.specs.of_partition.Steps.{begin_refusal, Begins, Closes, Forks, ForksFrom, StaysUnforked, StepsTo, with_job};
+ghost use Rattle.hy_forks.specs.of_crossing.Crossings.{ArePartitions, Crosses, database_behind};
+ghost use Rattle.hy_forks.specs.of_crossing.Lists.{ChangesAt, Pairwise};
 ghost use Rattle.hy_forks.specs.Drains.{TellsHere};
 ghost use Rattle.hy_forks.specs.Forks.{ClosesHere, ForksAll, ForksAllFrom, IsUnforked};
 ghost use Rattle.hy_schedules.specs.Clients.{AreApart, IsWholeKnowing, KnowsClients, LeadsKnowing, passes_in};
 ghost use Rattle.hy_schedules.specs.Schedules.{DoesAll, EventOfAll, HasSnapshotOf, IsDrainedTo, IsWholeOf, KeepsEverything, LeadsAll, RunsAll, Whole, at, children_of, closes_all, crosses, drains, forks_all, forks_all_from, fresh_whole, looks, place_at, rested_whole};
 
 use hy_commands::{Command, Commit, Edition, StockLevel};
-use hy_partition::calls_are_events;
+use hy_forks::hy_partition::calls_are_events;
 use hy_passes::projections_agree;
 
 /// Does nothing that is seen: its contract says what holds after every list of events on all warehouses of a load. Each

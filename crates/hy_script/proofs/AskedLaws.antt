@@ -4,7 +4,7 @@ use Rattle.std.specs.Prelude.{IsOk, IsOkAnd, IsSomeAnd, MatchResult, slice_get}
 use Rattle.std.specs.Io.KnownBytes.{Appends}
 use Rattle.hy_schema.specs.declared.refusal.Refusal.{Refusal}
 use Rattle.hy_schema.specs.declared.refusal.Refusal.TheVariants as refusals
-use Rattle.hy_partition.specs.Snapshots.{SnapshotState}
+use Rattle.hy_session.specs.of_partition.Snapshots.{SnapshotState}
 use Rattle.hy_session.specs.Snapshots.{lists_of_all}
 use Rattle.hy_session.specs.Texts.{answer_text}
 use Rattle.hy_query.specs.Meaning.{answer_of}

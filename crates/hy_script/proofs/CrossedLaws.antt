@@ -3,12 +3,12 @@ use Rattle.std.proofs.Common.{ℕ, suc, List, [], ◌∷◌, inl, inr, refl, ap}
 use Rattle.hy_rows.specs.Tables.{Lists}
 use Rattle.hy_commands.specs.declared.command.Command.{Command}
 use Rattle.hy_commands.specs.declared.command.Commit.{Commit}
-use Rattle.hy_partition.specs.Jobs.{DoneState, JobState, Log}
-use Rattle.hy_partition.specs.Partition.{PartitionState}
-use Rattle.hy_crossing.specs.Crossings.{Crosses, EndsIfNamed, Informs, KeepsIfNamed, LeavesIfNamed, TellsIfNamed, entry_of}
-use Rattle.hy_crossing.specs.Lists.{InTurn, Pairwise}
-use Rattle.hy_crossing.proofs.PairLaws.{pairs-then}
-use Rattle.hy_forks.proofs.RelationLaws.{pairs-map}
+use Rattle.hy_session.specs.of_partition.Jobs.{DoneState, JobState, Log}
+use Rattle.hy_session.specs.of_partition.Partition.{PartitionState}
+use Rattle.hy_session.specs.of_crossing.Crossings.{Crosses, EndsIfNamed, Informs, KeepsIfNamed, LeavesIfNamed, TellsIfNamed, entry_of}
+use Rattle.hy_session.specs.of_crossing.Lists.{InTurn, Pairwise}
+use Rattle.hy_session.proofs.of_crossing.PairLaws.{pairs-then}
+use Rattle.hy_session.proofs.of_forks.RelationLaws.{pairs-map}
 use Rattle.hy_script.specs.inside.Invariants.{KeepsServed}
 use Rattle.hy_script.proofs.ServedLaws.{keeps-beside, keeps-finished, keeps-same, keeps-then}
 

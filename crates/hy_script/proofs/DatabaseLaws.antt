@@ -3,13 +3,13 @@ use Rattle.std.proofs.Common.{◌≡◌, ◌∙◌, ◌+◌, ◌<◌, ℕ, zero,
 use Rattle.std.proofs.lemmas.List.{length-set}
 use Rattle.std.proofs.lemmas.List.Elements.{All-head, All-tail}
 use Rattle.hy_rows.specs.Tables.{Lists}
-use Rattle.hy_partition.specs.Partition.{PartitionState}
-use Rattle.hy_partition.specs.Steps.{Begins}
-use Rattle.hy_crossing.specs.Crossings.{ArePartitions, HaveNoPart, IsPartition}
-use Rattle.hy_crossing.specs.Lists.{Pairwise}
-use Rattle.hy_crossing.specs.Making.{AllBegin}
-use Rattle.hy_crossing.specs.Pairs.{At}
-use Rattle.hy_crossing.proofs.PairLaws.{pairs-hold, pairs-replaced}
+use Rattle.hy_session.specs.of_partition.Partition.{PartitionState}
+use Rattle.hy_session.specs.of_partition.Steps.{Begins}
+use Rattle.hy_session.specs.of_crossing.Crossings.{ArePartitions, HaveNoPart, IsPartition}
+use Rattle.hy_session.specs.of_crossing.Lists.{Pairwise}
+use Rattle.hy_session.specs.of_crossing.Making.{AllBegin}
+use Rattle.hy_session.specs.of_crossing.Pairs.{At}
+use Rattle.hy_session.proofs.of_crossing.PairLaws.{pairs-hold, pairs-replaced}
 use Rattle.hy_script.specs.declared.answer.Request.{Request}
 use Rattle.hy_script.specs.declared.terminal.Terminal.{Terminal}
 use Rattle.hy_script.specs.Databases.{DatabaseState, with_part}

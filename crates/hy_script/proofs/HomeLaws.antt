@@ -6,7 +6,7 @@ use Rattle.hy_commands.specs.Commands.{home_of}
 use Rattle.hy_commands.specs.declared.command.Command.{Command}
 use Rattle.hy_commands.specs.declared.reply.Reply.{Reply}
 use Rattle.hy_events.specs.Replies.{reply_text}
-use Rattle.hy_partition.specs.Partition.{PartitionState}
+use Rattle.hy_session.specs.of_partition.Partition.{PartitionState}
 use Rattle.hy_script.specs.declared.answer.Request.TheVariants as requests
 use Rattle.hy_script.specs.Answers.{Asks, RunsWhole, refused_text}
 use Rattle.hy_script.specs.Databases.{DatabaseState, part_at}

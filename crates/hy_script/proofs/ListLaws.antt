@@ -1,7 +1,7 @@
 -- Lists: what stands at a place, and what is left where an item comes or goes.
 use Rattle.std.proofs.Common.{◌≡◌, ◌∙◌, ◌+◌, ◌<◌, ℕ, zero, suc, List, [], ◌∷◌, ◌++◌, Option, None, Some, All, IfSome, IsSomeAnd, length, slice_get, slice_index_or, remove, ap, refl, sym, subst, arith, inl, inr}
 use Rattle.std.proofs.lemmas.Bool.{cases_lt}
-use Rattle.hy_forks.proofs.PlaceLaws.{get-last}
+use Rattle.hy_session.proofs.of_forks.PlaceLaws.{get-last}
 use Rattle.std.proofs.lemmas.List.Edits.{get_or-remove_above, get_or-remove_below, length-remove}
 
 -- the item at a place that is there

@@ -3,12 +3,12 @@ use Rattle.std.proofs.Common.{◌≡◌, ◌⊎◌, ◌∙◌, ◌+◌, ◌≤�
 use Rattle.std.proofs.lemmas.Bool.{false≢true}
 use Rattle.hy_schema.specs.declared.refusal.Refusal.{Refusal}
 use Rattle.hy_schema.specs.declared.refusal.Refusal.TheVariants as refusals
-use Rattle.hy_partition.specs.declared.job.Progress.{Progress}
-use Rattle.hy_partition.specs.declared.job.Progress.TheVariants as progress
-use Rattle.hy_partition.specs.Jobs.{DoneState, Log, RunningJob}
-use Rattle.hy_partition.specs.Partition.{PartitionState}
-use Rattle.hy_partition.specs.Parts.{KeepsBeside}
-use Rattle.hy_partition.specs.Steps.{Accepts, Ends, KeepsJob, Refuses, RefusesAt, StepsTo}
+use Rattle.hy_session.specs.of_partition.declared.job.Progress.{Progress}
+use Rattle.hy_session.specs.of_partition.declared.job.Progress.TheVariants as progress
+use Rattle.hy_session.specs.of_partition.Jobs.{DoneState, Log, RunningJob}
+use Rattle.hy_session.specs.of_partition.Partition.{PartitionState}
+use Rattle.hy_session.specs.of_partition.Parts.{KeepsBeside}
+use Rattle.hy_session.specs.of_partition.Steps.{Accepts, Ends, KeepsJob, Refuses, RefusesAt, StepsTo}
 use Rattle.hy_script.specs.declared.terminal.Terminal.{Terminal}
 use Rattle.hy_script.specs.inside.Invariants.{IsServed, KeepsPlace, KeepsServed, StaysServed, held}
 

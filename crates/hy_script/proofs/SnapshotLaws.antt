@@ -6,15 +6,15 @@ use Rattle.hy_worlds.specs.Origins.{Origin, desk_of}
 use Rattle.hy_rows.specs.Tables.{Lists}
 use Rattle.hy_schema.specs.declared.refusal.Refusal.{Refusal}
 use Rattle.hy_schema.specs.declared.refusal.Refusal.TheVariants as refusals
-use Rattle.hy_partition.specs.Jobs.{Log}
-use Rattle.hy_partition.specs.Partition.{PartitionState}
-use Rattle.hy_partition.specs.Snapshots.{SnapshotState}
-use Rattle.hy_partition.specs.Steps.{Closes, Forks, ForksFrom, KeepsJob, is_from}
-use Rattle.hy_crossing.specs.Crossings.{ArePartitions, IsPartition}
-use Rattle.hy_crossing.specs.Lists.{Pairwise}
-use Rattle.hy_crossing.proofs.PairLaws.{pairs-hold, pairs-same}
-use Rattle.hy_forks.proofs.RelationLaws.{pairs-map}
-use Rattle.hy_forks.specs.Forks.{AreOfKit, ClosesHere, ForksAll, ForksAllFrom, ForksFromHere, ForksHere, IsUnforked, IsUnforkedUntold, are_from}
+use Rattle.hy_session.specs.of_partition.Jobs.{Log}
+use Rattle.hy_session.specs.of_partition.Partition.{PartitionState}
+use Rattle.hy_session.specs.of_partition.Snapshots.{SnapshotState}
+use Rattle.hy_session.specs.of_partition.Steps.{Closes, Forks, ForksFrom, KeepsJob, is_from}
+use Rattle.hy_session.specs.of_crossing.Crossings.{ArePartitions, IsPartition}
+use Rattle.hy_session.specs.of_crossing.Lists.{Pairwise}
+use Rattle.hy_session.proofs.of_crossing.PairLaws.{pairs-hold, pairs-same}
+use Rattle.hy_session.proofs.of_forks.RelationLaws.{pairs-map}
+use Rattle.hy_session.specs.of_forks.Forks.{AreOfKit, ClosesHere, ForksAll, ForksAllFrom, ForksFromHere, ForksHere, IsUnforked, IsUnforkedUntold, are_from}
 use Rattle.hy_script.specs.Databases.{OpenSnapshot}
 use Rattle.hy_script.specs.inside.Invariants.{IsOf, IsOfAll, KeepsServed}
 use Rattle.hy_script.proofs.CrossedLaws.{Keeps}

@@ -12,14 +12,14 @@ use Rattle.hy_events.specs.declared.event.Event.TheVariants as events
 use Rattle.hy_events.specs.Replies.{reply_text}
 use Rattle.hy_frames.specs.FrameTable.{IsLimitFor, free_of, shared_of}
 use Rattle.hy_undo.specs.Touched.{touched}
-use Rattle.hy_partition.specs.declared.job.Progress.{Progress}
-use Rattle.hy_partition.specs.declared.job.Progress.TheVariants as progress
-use Rattle.hy_partition.specs.Jobs.{Log}
-use Rattle.hy_partition.specs.Partition.{PartitionState}
-use Rattle.hy_partition.specs.Steps.{IsUnbegun, StepsTo}
-use Rattle.hy_crossing.specs.Lists.{Pairwise}
-use Rattle.hy_forks.specs.Forks.{IsUnforked, IsUnforkedUntold, IsWhyUnforked}
-use Rattle.hy_partition.specs.Snapshots.{SnapshotState}
+use Rattle.hy_session.specs.of_partition.declared.job.Progress.{Progress}
+use Rattle.hy_session.specs.of_partition.declared.job.Progress.TheVariants as progress
+use Rattle.hy_session.specs.of_partition.Jobs.{Log}
+use Rattle.hy_session.specs.of_partition.Partition.{PartitionState}
+use Rattle.hy_session.specs.of_partition.Steps.{IsUnbegun, StepsTo}
+use Rattle.hy_session.specs.of_crossing.Lists.{Pairwise}
+use Rattle.hy_session.specs.of_forks.Forks.{IsUnforked, IsUnforkedUntold, IsWhyUnforked}
+use Rattle.hy_session.specs.of_partition.Snapshots.{SnapshotState}
 use Rattle.hy_query.specs.Language.{query_of}
 use Rattle.hy_query.specs.Meaning.{answer_of}
 use Rattle.hy_query.specs.Queries.{QueryState}

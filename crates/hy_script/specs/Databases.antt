@@ -1,8 +1,8 @@
 -- The partitions that a script runs on, with the snapshots that it has open.
 use Rattle.std.specs.Prelude.{◌≡◌, ℕ, zero, suc, List, Option, None, IsSomeAnd, slice_get, slice_set}
-use Rattle.hy_partition.specs.Jobs.{Log}
-use Rattle.hy_partition.specs.Partition.{PartitionState}
-use Rattle.hy_partition.specs.Snapshots.{SnapshotState}
+use Rattle.hy_session.specs.of_partition.Jobs.{Log}
+use Rattle.hy_session.specs.of_partition.Partition.{PartitionState}
+use Rattle.hy_session.specs.of_partition.Snapshots.{SnapshotState}
 
 -- a snapshot of the whole database, one of each warehouse in order, under its name
 pub record OpenSnapshot : Type 0 where

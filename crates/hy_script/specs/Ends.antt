@@ -2,7 +2,7 @@
 use Rattle.std.specs.Prelude.{◌≡◌, ℕ, List, Option, Some}
 use Rattle.hy_schema.specs.declared.refusal.Refusal.TheVariants as refusals
 use Rattle.hy_rows.specs.Tables.{Lists}
-use Rattle.hy_crossing.specs.Making.{IsWhyNoneMade}
+use Rattle.hy_session.specs.of_crossing.Making.{IsWhyNoneMade}
 use Rattle.hy_script.specs.declared.event.Unanswered.{Unanswered}
 use Rattle.hy_script.specs.declared.event.Unanswered.TheVariants as unanswered
 use Rattle.hy_script.specs.declared.script.ScriptFault.{ScriptFault}

@@ -6,7 +6,7 @@ use Rattle.hy_rows.specs.Tables.{Lists}
 use Rattle.hy_events.specs.declared.event.Event.{Event}
 use Rattle.hy_events.specs.Events.{TakesMemory, event_of}
 use Rattle.hy_events.specs.Lines.{lines, numbered}
-use Rattle.hy_crossing.specs.Making.{AllBegin}
+use Rattle.hy_session.specs.of_crossing.Making.{AllBegin}
 use Rattle.hy_script.specs.Answers.{Answers, IsMisnamed, refused_text}
 use Rattle.hy_script.specs.Databases.{DatabaseState}
 

@@ -9,13 +9,13 @@ use Rattle.hy_commands.specs.Commands.{warehouses_of}
 use Rattle.hy_frames.specs.FrameTable.{FrameTable, IsLimitFor, free_of}
 use Rattle.hy_rows.specs.Tables.{Lists}
 use Rattle.hy_space.specs.Space.{SameForChildren}
-use Rattle.hy_partition.specs.Jobs.{DoneState, JobState, Log, RunningJob, begun}
-use Rattle.hy_partition.specs.Partition.{PartitionState}
-use Rattle.hy_partition.specs.Snapshots.{SnapshotState}
-use Rattle.hy_partition.specs.Steps.{Accepts, IsUnbegun, KeepsJob, Refuses, begin_refusal, with_job}
-use Rattle.hy_crossing.specs.Crossings.{ArePartitions, Crosses, database_behind}
-use Rattle.hy_crossing.specs.Lists.{Pairwise}
-use Rattle.hy_forks.specs.Forks.{ClosesHere, ForksAll, ForksAllFrom, SpellsDatabase, shown}
+use Rattle.hy_session.specs.of_partition.Jobs.{DoneState, JobState, Log, RunningJob, begun}
+use Rattle.hy_session.specs.of_partition.Partition.{PartitionState}
+use Rattle.hy_session.specs.of_partition.Snapshots.{SnapshotState}
+use Rattle.hy_session.specs.of_partition.Steps.{Accepts, IsUnbegun, KeepsJob, Refuses, begin_refusal, with_job}
+use Rattle.hy_session.specs.of_crossing.Crossings.{ArePartitions, Crosses, database_behind}
+use Rattle.hy_session.specs.of_crossing.Lists.{Pairwise}
+use Rattle.hy_session.specs.of_forks.Forks.{ClosesHere, ForksAll, ForksAllFrom, SpellsDatabase, shown}
 use Rattle.hy_script.specs.Databases.{DatabaseState, OpenSnapshot}
 
 -- ---- commands of one warehouse

@@ -7,7 +7,7 @@ use Rattle.hy_commands.specs.declared.command.Command.TheVariants as commands
 use Rattle.hy_commands.specs.declared.command.Who.TheVariants as who
 use Rattle.hy_commands.specs.declared.reply.Reply.TheVariants as replies
 use Rattle.hy_frames.specs.FrameTable.{empty_frame}
-use Rattle.hy_partition.specs.declared.job.Progress.TheVariants as progress
+use Rattle.hy_session.specs.of_partition.declared.job.Progress.TheVariants as progress
 use Rattle.hy_script.specs.Answers.{closed_text, count_text, progress_text, refused_text, snapshot_text, waiting_text}
 use Rattle.hy_script.specs.Steps.{is_crossing, limit_for}
 

@@ -2,7 +2,7 @@
 
 ghost use Rattle.std.specs.Prelude.{◌≡◌, ◌++◌, IsTrue, OnErr, OnOk, codes, decimal};
 ghost use Rattle.std.specs.Io.KnownBytes.{Appends};
-ghost use Rattle.hy_partition.specs.Jobs.{Log};
+ghost use Rattle.hy_session.specs.of_partition.Jobs.{Log};
 ghost use Rattle.hy_script.specs.Answers.{AnswersQuery, Grants, begun_text, count_text, progress_text, refused_text, waiting_text};
 ghost use Rattle.hy_script.specs.Printed.{IsGranted, IsWritten};
 ghost use Rattle.hy_script.specs.inside.Invariants.{IsServed, KeepsPlace, KeepsServed, StaysServed};
@@ -11,10 +11,10 @@ use crate::terminal::Terminal;
 use hy_commands::{Command, Commit, Reply};
 use hy_events::{QueryText, write_reply};
 use hy_output::Output;
-use hy_partition::{Loaded, Partition, Progress};
 use hy_passes::Journal;
 use hy_schema::Refusal;
 use hy_session::Session;
+use hy_session::hy_partition::{Loaded, Partition, Progress};
 use std::alloc::Global;
 use std::io;
 

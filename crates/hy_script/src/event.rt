@@ -12,8 +12,8 @@ use crate::database::Database;
 use hy_commands::Command;
 use hy_events::{Event, QueryText, SnapshotName, write_reply};
 use hy_output::Output;
-use hy_partition::Loaded;
 use hy_schema::Refusal;
+use hy_session::hy_partition::Loaded;
 use std::io;
 
 /// Why an event has no answer.

@@ -3,7 +3,7 @@
 ghost use Rattle.std.specs.Prelude.{◌≡◌, ℕ, ◌+◌, ◌≤◌, IfErr, IfOk, IsTrue, None, OnOk, length};
 ghost use Rattle.hy_schema.specs.declared.refusal.Refusal.{Refusal};
 ghost use Rattle.hy_frames.specs.FrameTable.{IsPageSize, max_frames as most_frames};
-ghost use Rattle.hy_partition.specs.Limits.{most_kept};
+ghost use Rattle.hy_session.specs.of_partition.Limits.{most_kept};
 ghost use Rattle.hy_script.specs.Ends.{IsScriptFault};
 ghost use Rattle.hy_script.specs.Scripts.{IsPrinted};
 
@@ -12,9 +12,9 @@ use crate::script::{ScriptFault, run_buffered};
 use hy_commands::Commit;
 use hy_loads::Load;
 use hy_output::{Output, Take};
-use hy_partition::Loaded;
 use hy_passes::{Kit, make};
 use hy_schema::Refusal;
+use hy_session::hy_partition::Loaded;
 use std::alloc::Global;
 
 /// The name of a script's kit, which has no other beside it.

@@ -2,7 +2,7 @@
 
 ghost use Rattle.std.specs.Prelude.{◌≡◌, ◌≤◌, IfErr, IsTrue, None, OnOk};
 ghost use Rattle.hy_frames.specs.FrameTable.{IsPageSize, max_frames as most_frames};
-ghost use Rattle.hy_partition.specs.Limits.{most_kept};
+ghost use Rattle.hy_session.specs.of_partition.Limits.{most_kept};
 ghost use Rattle.hy_events.specs.Lines.{lines, numbered};
 ghost use Rattle.hy_script.specs.declared.script.ScriptFault.TheVariants as faults;
 ghost use Rattle.hy_script.specs.Printed.{ArePrinted, IsLineAnswered};
@@ -18,8 +18,8 @@ use crate::kit::{Pages, kit_for, run_over};
 use hy_events::{EventFault, Lines, ScriptLine, read_event};
 use hy_loads::Load;
 use hy_output::{Output, Take};
-use hy_partition::Loaded;
 use hy_schema::Refusal;
+use hy_session::hy_partition::Loaded;
 use std::alloc::Global;
 use std::marker::Brand;
 use std::{io, mem};

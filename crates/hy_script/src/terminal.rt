@@ -3,14 +3,14 @@
 ghost use Rattle.std.specs.Prelude.{◌≡◌, ◌+◌, All, IfErr, IfOk, IsErr, None, OnErr, OnOk, length};
 ghost use Rattle.std.specs.Option.{option_map};
 ghost use Rattle.hy_frames.specs.FrameTable.{IsLimitFor};
-ghost use Rattle.hy_partition.specs.Steps.{IsUnbegun};
+ghost use Rattle.hy_session.specs.of_partition.Steps.{IsUnbegun};
 ghost use Rattle.hy_script.specs.Steps.{IsBegun, IsLimited, Runs, limit_for};
 ghost use Rattle.hy_script.specs.inside.Invariants.{IsReady, IsServed, StaysServed};
 
 use hy_commands::{Command, Commit, Reply};
-use hy_partition::{Job, Loaded, Partition};
 use hy_passes::{Journal, Pass};
 use hy_schema::Refusal;
+use hy_session::hy_partition::{Job, Loaded, Partition};
 use std::alloc::{AllocError, Global};
 
 /// What the script knows of a warehouse beside its partition.

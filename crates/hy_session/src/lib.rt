@@ -9,3 +9,7 @@ mod session;
 pub use hy_answers::{Answer, text_of};
 pub use scans::{run, run_counted, run_in, run_par};
 pub use session::{Session, WarehouseReport};
+
+// what stands below, for the crates above
+pub use hy_forks;
+pub use hy_forks::{hy_crossing, hy_partition};

@@ -11,7 +11,7 @@ use Rattle.hy_space.specs.Space.{SpaceState, owner_bytes}
 use Rattle.hy_undo.specs.UndoLog.{UndoLog}
 use Rattle.hy_relation.specs.Relation.{ChangesSegment, HasFewPages, owner_pages, relation_slots}
 use Rattle.hy_relation.proofs.RelationLaws.{length-slots_of}
-use Rattle.hy_nodes.specs.Writes.{WritesSegment, pages_of}
+use Rattle.hy_index.specs.of_nodes.Writes.{WritesSegment, pages_of}
 use Rattle.hy_index.specs.Writes.{KeepsPagesFor}
 use Rattle.hy_store.specs.Pages.{IsIndexAt, KeepsPagesUpTo, index_pages, key_widths}
 

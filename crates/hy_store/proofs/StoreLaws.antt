@@ -15,7 +15,7 @@ use Rattle.hy_undo.specs.UndoLog.{UndoLog}
 use Rattle.hy_relation.specs.Relation.{ChangesSegment}
 use Rattle.hy_relation.proofs.TablesLaws.{has_tables-changed, tables_respelled}
 use Rattle.hy_index.specs.declared.key.Entry.{Entry}
-use Rattle.hy_nodes.specs.Writes.{WritesSegment, pages_of}
+use Rattle.hy_index.specs.of_nodes.Writes.{WritesSegment, pages_of}
 use Rattle.hy_index.specs.Writes.{IsIndex, entries}
 use Rattle.hy_store.specs.Keys.{IsCustomerKey, IsLineKey, IsOrderKey, IsWaitingKey, customer_key_bytes, customer_key_of, line_key_bytes, line_key_of, order_key_bytes, order_key_of, waiting_key_bytes, waiting_key_of}
 use Rattle.hy_store.specs.Stored.{AreIndexes, HasAllRows, HasIndexSegments, HasStore, Stored, all_segments, last_order_index, line_index, order_index, stored, waiting_index}

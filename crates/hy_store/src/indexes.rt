@@ -5,7 +5,7 @@ ghost use Rattle.hy_frames.specs.FrameTable.{free_of};
 ghost use Rattle.hy_index.specs.declared.key.Entry.{Entry};
 ghost use Rattle.hy_index.specs.Index.{IsInOrder, between, first_from, found, with_entry, without};
 ghost use Rattle.hy_index.specs.Writes.{IsIndex, entries as entries_of};
-ghost use Rattle.hy_nodes.specs.Writes.{pages_of};
+ghost use Rattle.hy_index.specs.of_nodes.Writes.{pages_of};
 ghost use Rattle.hy_rows.specs.Spelling.{list_at};
 ghost use Rattle.hy_rows.specs.Catalogue.{segments};
 ghost use Rattle.hy_space.specs.Space.{owner_bytes};

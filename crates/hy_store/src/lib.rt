@@ -15,3 +15,7 @@ pub use rows::{
     erase_new_order, glance_at, know_store, part_at, push_new_order, push_row, put_part, put_row,
     row_at, row_bytes_at,
 };
+
+// what stands below, for the crates above
+pub use hy_index;
+pub use hy_relation;

@@ -6,10 +6,10 @@ use Rattle.hy_ledger.specs.Books.{BookState, no_totals, with_book}
 use Rattle.hy_ledger.specs.declared.totals.Totals.{Totals}
 use Rattle.hy_commands.specs.declared.command.Commit.{Commit}
 use Rattle.hy_commands.specs.Replay.{rows_after}
-use Rattle.hy_partition.specs.Accounts.{IsBookOf, home_commits, taken_in}
-use Rattle.hy_partition.specs.Jobs.{Log}
-use Rattle.hy_partition.specs.Partition.{PartitionState, projection_of}
-use Rattle.hy_crossing.specs.Crossings.{IsPartition}
+use Rattle.hy_session.specs.of_partition.Accounts.{IsBookOf, home_commits, taken_in}
+use Rattle.hy_session.specs.of_partition.Jobs.{Log}
+use Rattle.hy_session.specs.of_partition.Partition.{PartitionState, projection_of}
+use Rattle.hy_session.specs.of_crossing.Crossings.{IsPartition}
 use Rattle.hy_storm.specs.Storms.{HaveBooks, grown_up_to, kept_up_to}
 
 module _ (lists : Lists) (log : Log) where

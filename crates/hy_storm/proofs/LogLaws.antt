@@ -7,10 +7,10 @@ use Rattle.hy_rows.specs.Tables.{Lists}
 use Rattle.hy_schema.specs.declared.refusal.Refusal.{Refusal}
 use Rattle.hy_redo.specs.Calls.{LogState}
 use Rattle.hy_redo.specs.Disk.{BeginsBehind}
-use Rattle.hy_partition.specs.Jobs.{Log}
-use Rattle.hy_forks.specs.Logged.{SaySame}
-use Rattle.hy_redo_drains.specs.Following.{DrainState, Follows}
-use Rattle.hy_redo_drains.proofs.FollowLaws.{all-there}
+use Rattle.hy_session.specs.of_partition.Jobs.{Log}
+use Rattle.hy_session.specs.of_forks.Logged.{SaySame}
+use Rattle.hy_engine.specs.Following.{DrainState, Follows}
+use Rattle.hy_engine.proofs.FollowLaws.{all-there}
 use Rattle.hy_storm.specs.declared.ending.Figures.{Figures}
 use Rattle.hy_storm.specs.Storms.{AreFigures, AreFiguresBehind, AreLogged, HasAll}
 

@@ -6,15 +6,15 @@ use Rattle.hy_ledger.specs.declared.totals.Totals.{Totals}
 use Rattle.hy_commands.specs.Commands.{number_of, warehouses_of_commit}
 use Rattle.hy_commands.specs.Replay.{rows_after}
 use Rattle.hy_passes.specs.SerialList.{IsSerial}
-use Rattle.hy_partition.specs.Accounts.{home_commits, taken_in}
-use Rattle.hy_partition.specs.Jobs.{Log}
-use Rattle.hy_partition.specs.Partition.{PartitionState, projection_of}
-use Rattle.hy_crossing.specs.Crossings.{database_behind}
+use Rattle.hy_session.specs.of_partition.Accounts.{home_commits, taken_in}
+use Rattle.hy_session.specs.of_partition.Jobs.{Log}
+use Rattle.hy_session.specs.of_partition.Partition.{PartitionState, projection_of}
+use Rattle.hy_session.specs.of_crossing.Crossings.{database_behind}
 use Rattle.hy_database.specs.Database.{all_rows}
 use Rattle.hy_batches.specs.Batches.{Batch}
 use Rattle.hy_redo.specs.Calls.{LogState}
 use Rattle.hy_redo.specs.Disk.{BeginsBehind}
-use Rattle.hy_forks.specs.Logged.{SaySame}
+use Rattle.hy_session.specs.of_forks.Logged.{SaySame}
 use Rattle.hy_storm.specs.declared.ending.Figures.{Figures}
 
 -- how many commits of a serial list have one of the first warehouses as their home

@@ -3,23 +3,23 @@
 ghost use Rattle.std.specs.Prelude.{◌≡◌, ◌≤◌, ◌+◌, IfOk, IsTrue, None, length};
 ghost use Rattle.hy_schema.specs.Conditions.{first_broken};
 ghost use Rattle.hy_ledger.specs.Books.{no_totals, with_book};
-ghost use Rattle.hy_partition.specs.Accounts.{IsBookOf};
-ghost use Rattle.hy_partition.specs.Jobs.{Log};
-ghost use Rattle.hy_crossing.specs.Crossings.{ArePartitions, HaveNoPart, database_behind};
+ghost use Rattle.hy_session.specs.of_partition.Accounts.{IsBookOf};
+ghost use Rattle.hy_session.specs.of_partition.Jobs.{Log};
+ghost use Rattle.hy_session.specs.of_crossing.Crossings.{ArePartitions, HaveNoPart, database_behind};
 ghost use Rattle.hy_database.specs.Database.{all_rows};
-ghost use Rattle.hy_forks.specs.Forks.{AreOfKit, are_from};
+ghost use Rattle.hy_session.specs.of_forks.Forks.{AreOfKit, are_from};
 ghost use Rattle.hy_session.specs.Reports.{broken_condition};
 ghost use Rattle.hy_storm.specs.Storms.{AreFiguresBehind, HaveBooks, HaveKept, warehouses_of_load};
 
 use crate::PAGE_BYTES;
 use crate::threads::Gathered;
 use hy_commands::Commit;
-use hy_forks::{find_history, fork_all};
 use hy_ledger::Balance;
-use hy_partition::{Loaded, Partition};
 use hy_passes::{Journal, Pass};
 use hy_schema::Refusal;
 use hy_session::Session;
+use hy_session::hy_forks::{find_history, fork_all};
+use hy_session::hy_partition::{Loaded, Partition};
 use std::alloc::Global;
 
 /// What a storm came to.

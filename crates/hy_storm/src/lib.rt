@@ -18,5 +18,10 @@ pub use hy_engine::{Gate, Open};
 pub use run::{Size, storm};
 pub use shape::Shape;
 
+// what stands below, for the crates above
+pub use hy_engine;
+pub use hy_engine::hy_redo_drains;
+pub use hy_session;
+
 /// The size of a page in bytes.
 const PAGE_BYTES: usize = 4096;

@@ -2,19 +2,18 @@
 
 ghost use Rattle.std.specs.Prelude.{◌≡◌, ◌≤◌, [], false, IfSome, IsSome, None, OnOk, length};
 ghost use Rattle.hy_redo.specs.Disk.{BeginsBehind};
-ghost use Rattle.hy_crossing.specs.Crossings.{ArePartitions, HaveNoPart};
+ghost use Rattle.hy_session.specs.of_crossing.Crossings.{ArePartitions, HaveNoPart};
 ghost use Rattle.hy_storm.specs.Storms.{HasAll, warehouses_of_load};
 
 use crate::PAGE_BYTES;
 use crate::kept::Kept;
 use hy_commands::Commit;
-use hy_engine::{Engine, Gate};
-use hy_forks::logs_begin;
-use hy_partition::{Loaded, Partition};
+use hy_engine::{DrainLog, Engine, Gate};
 use hy_passes::{Cursor, Journal};
 use hy_redo::{Log, LogOut};
-use hy_redo_drains::DrainLog;
 use hy_schema::Refusal;
+use hy_session::hy_forks::logs_begin;
+use hy_session::hy_partition::{Loaded, Partition};
 use std::alloc::Global;
 use std::sync::{Mutex, Wait};
 

@@ -1,7 +1,7 @@
 //! What an analyst does.
 
 ghost use Rattle.std.specs.Prelude.{◌≡◌, ◌≤◌, [], vec_capacity};
-ghost use Rattle.hy_forks.specs.Forks.{AreOfKit};
+ghost use Rattle.hy_session.specs.of_forks.Forks.{AreOfKit};
 ghost use Rattle.hy_engine.specs.Engines.{AreMine};
 
 use crate::PAGE_BYTES;
@@ -9,11 +9,11 @@ use crate::kept::Kept;
 use crate::logging::{Logged, drain_to};
 use hy_commands::Commit;
 use hy_engine::{Engine, Gate, Held};
-use hy_partition::Loaded;
 use hy_passes::Pass;
 use hy_redo::LogOut;
 use hy_schema::Refusal;
 use hy_session::Session;
+use hy_session::hy_partition::Loaded;
 use std::alloc::Global;
 use std::sync::Wait;
 

@@ -9,9 +9,9 @@ use crate::shape::Shape;
 use hy_commands::{Command, Commit, Reply};
 use hy_engine::{Engine, Gate};
 use hy_ledger::{Purse, Share};
-use hy_partition::{Job, Loaded};
 use hy_passes::Pass;
 use hy_schema::Refusal;
+use hy_session::hy_partition::{Job, Loaded};
 use std::alloc::Global;
 use std::sync::Wait;
 

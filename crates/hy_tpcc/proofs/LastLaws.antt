@@ -8,18 +8,18 @@ use Rattle.hy_rows.specs.declared.item.Item.{Item}
 use Rattle.hy_rows.specs.declared.order.Order.{Order}
 use Rattle.hy_rows.specs.Tables.{Tables}
 use Rattle.hy_schema.specs.Related.{is_order_by, orders_by}
-use Rattle.hy_index.specs.declared.key.Entry.{Entry}
-use Rattle.hy_index.specs.Index.{found}
+use Rattle.hy_writers.specs.of_index.declared.key.Entry.{Entry}
+use Rattle.hy_writers.specs.of_index.Index.{found}
 use Rattle.hy_commands.specs.Invariant.{IsOwnOrder, IsSoundWarehouse, order_key}
 use Rattle.hy_commands.specs.OrderStatus.{last_order, later_of}
 use Rattle.hy_commands.proofs.ListLaws.{filter-none}
 use Rattle.hy_commands.proofs.OnceLaws.{passes-three, tells-three}
-use Rattle.hy_store.specs.declared.keys.CustomerKey.{CustomerKey}
-use Rattle.hy_store.specs.Keys.{is_lesser_customer}
+use Rattle.hy_writers.specs.of_store.declared.keys.CustomerKey.{CustomerKey}
+use Rattle.hy_writers.specs.of_store.Keys.{is_lesser_customer}
 use Rattle.hy_layout.specs.Finds.{IsIn}
-use Rattle.hy_indexes.specs.Indexes.{AreLastOrders, buyer_key_at}
-use Rattle.hy_indexes.proofs.IndexLaws.{found-in, found-none}
-use Rattle.hy_indexes.proofs.KeyOrders.{order-of_customers}
+use Rattle.hy_writers.specs.of_indexes.Indexes.{AreLastOrders, buyer_key_at}
+use Rattle.hy_writers.proofs.of_indexes.IndexLaws.{found-in, found-none}
+use Rattle.hy_writers.proofs.of_indexes.KeyOrders.{order-of_customers}
 use Rattle.hy_layout.proofs.MemberLaws.{filter-in, in-filter, in-place, place-in}
 use Rattle.hy_layout.proofs.PlaceLaws.{unique-places}
 use Rattle.hy_writers.proofs.WaitingLaws.{all-in}

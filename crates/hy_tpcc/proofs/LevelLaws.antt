@@ -16,19 +16,19 @@ use Rattle.hy_rows.specs.Rows.{district_of}
 use Rattle.hy_rows.specs.Tables.{Tables}
 use Rattle.hy_schema.specs.Keys.{AreUnique, IsOneWarehouse}
 use Rattle.hy_schema.specs.Related.{is_item, is_order, lines_of_district}
-use Rattle.hy_index.specs.declared.key.Entry.{Entry}
+use Rattle.hy_writers.specs.of_index.declared.key.Entry.{Entry}
 use Rattle.hy_commands.specs.Invariant.{IsSoundWarehouse, stock_key}
 use Rattle.hy_commands.specs.NewOrders.{is_stock}
 use Rattle.hy_commands.specs.StockLevels.{is_low, is_recent}
 use Rattle.hy_commands.proofs.OnceLaws.{tells-two}
 use Rattle.hy_layout.specs.Layout.{IsStockAt}
-use Rattle.hy_store.specs.declared.keys.LineKey.{LineKey}
-use Rattle.hy_store.specs.Keys.{is_lesser_line}
+use Rattle.hy_writers.specs.of_store.declared.keys.LineKey.{LineKey}
+use Rattle.hy_writers.specs.of_store.Keys.{is_lesser_line}
 use Rattle.hy_layout.specs.Finds.{IsIn}
-use Rattle.hy_indexes.specs.Finds.{IsIndexOf}
-use Rattle.hy_indexes.specs.Indexes.{line_key_at}
-use Rattle.hy_indexes.proofs.IndexLaws.{between-in, in-between}
-use Rattle.hy_indexes.proofs.KeyOrders.{order-of_lines}
+use Rattle.hy_writers.specs.of_indexes.Finds.{IsIndexOf}
+use Rattle.hy_writers.specs.of_indexes.Indexes.{line_key_at}
+use Rattle.hy_writers.proofs.of_indexes.IndexLaws.{between-in, in-between}
+use Rattle.hy_writers.proofs.of_indexes.KeyOrders.{order-of_lines}
 use Rattle.hy_layout.proofs.MemberLaws.{filter-in, in-filter, in-place, place-in}
 use Rattle.hy_layout.proofs.PlaceLaws.{only-unique}
 use Rattle.hy_writers.proofs.DeliverLaws.{any-place}

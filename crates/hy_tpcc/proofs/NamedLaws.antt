@@ -1,14 +1,14 @@
 -- The lines that entries name.
 use Rattle.std.specs.Prelude.{◌<◌, List, length, slice_get, All}
 use Rattle.hy_rows.specs.declared.order_line.OrderLine.{OrderLine}
-use Rattle.hy_index.specs.declared.key.Entry.{Entry}
-use Rattle.hy_index.specs.Index.{between}
-use Rattle.hy_store.specs.declared.keys.LineKey.{LineKey}
-use Rattle.hy_store.specs.Keys.{is_lesser_line as is_lesser_key}
-use Rattle.hy_indexes.specs.Finds.{IsIndexOf}
-use Rattle.hy_indexes.specs.Indexes.{line_key_at}
-use Rattle.hy_indexes.proofs.IndexLaws.{between-in}
-use Rattle.hy_indexes.proofs.KeyOrders.{order-of_lines}
+use Rattle.hy_writers.specs.of_index.declared.key.Entry.{Entry}
+use Rattle.hy_writers.specs.of_index.Index.{between}
+use Rattle.hy_writers.specs.of_store.declared.keys.LineKey.{LineKey}
+use Rattle.hy_writers.specs.of_store.Keys.{is_lesser_line as is_lesser_key}
+use Rattle.hy_writers.specs.of_indexes.Finds.{IsIndexOf}
+use Rattle.hy_writers.specs.of_indexes.Indexes.{line_key_at}
+use Rattle.hy_writers.proofs.of_indexes.IndexLaws.{between-in}
+use Rattle.hy_writers.proofs.of_indexes.KeyOrders.{order-of_lines}
 use Rattle.hy_writers.proofs.FindLaws.{within-at}
 use Rattle.hy_writers.proofs.WaitingLaws.{all-in}
 

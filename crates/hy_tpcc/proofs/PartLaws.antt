@@ -50,8 +50,8 @@ use Rattle.hy_layout.specs.Layout.{IsMeantAt, KeepsPlaces, LayoutState, own_rows
 use Rattle.hy_slices.specs.Begun.{BeginsPart}
 use Rattle.hy_slices.proofs.GrowingSlices.{grown-slices, items-fit, number-near}
 use Rattle.hy_slices.proofs.SliceLaws.{slices-part}
-use Rattle.hy_store.specs.Stored.{Stored}
-use Rattle.hy_indexes.specs.Indexes.{HasIndexes}
+use Rattle.hy_writers.specs.of_store.Stored.{Stored}
+use Rattle.hy_writers.specs.of_indexes.Indexes.{HasIndexes}
 use Rattle.hy_writers.specs.Begun.{IsHomePayment}
 use Rattle.hy_writers.specs.Payments.{CanPayCustomer, CanPayHome, payment_reply, with_customer_paid, with_home_paid}
 use Rattle.hy_writers.specs.Purchases.{CanSellLine, with_line_sold}

@@ -45,8 +45,8 @@ use Rattle.hy_slices.proofs.GrowingSlices.{items-fit, number-near}
 use Rattle.hy_slices.proofs.BetweenSlices.{number-slices, placing-slices}
 use Rattle.hy_slices.proofs.SliceLaws.{find-with_changed, purchase-known}
 use Rattle.hy_slices.proofs.WholeLaws.{home-district, number-is, whole-sound}
-use Rattle.hy_store.specs.Stored.{Stored}
-use Rattle.hy_indexes.specs.Indexes.{HasIndexes}
+use Rattle.hy_writers.specs.of_store.Stored.{Stored}
+use Rattle.hy_writers.specs.of_indexes.Indexes.{HasIndexes}
 use Rattle.hy_writers.specs.Begun.{IsBegunLine, IsBegunPurchase}
 use Rattle.hy_writers.specs.Changes.{IsFoundAt}
 use Rattle.hy_writers.specs.Limits.{most_applied}

@@ -26,11 +26,11 @@ use Rattle.hy_slices.specs.Begun.{Begins}
 use Rattle.hy_slices.specs.Slices.{slice_count}
 use Rattle.hy_slices.proofs.BegunLaws.{alone-delivery, alone-level, alone-payment, alone-status, begun-delivery, begun-payment}
 use Rattle.hy_slices.proofs.BetweenSlices.{oldest-before, sound-slices, whole-slices}
-use Rattle.hy_store.specs.Stored.{Stored}
+use Rattle.hy_writers.specs.of_store.Stored.{Stored}
 use Rattle.hy_writers.specs.Begun.{IsBegunDelivery, IsCustomerPayment, IsHomePayment}
 use Rattle.hy_writers.specs.Limits.{AreInBounds}
 use Rattle.hy_commands.specs.declared.reply.Reply.{Reply}
-use Rattle.hy_indexes.specs.Indexes.{HasIndexes}
+use Rattle.hy_writers.specs.of_indexes.Indexes.{HasIndexes}
 use Rattle.hy_writers.specs.Payments.{CanPayCustomer, CanPayHome, payment_reply, with_home_paid}
 use Rattle.hy_writers.proofs.PaymentLaws.{payer-at}
 use Rattle.hy_tpcc.proofs.KeepsLaws.{keeps-slices}

@@ -7,7 +7,7 @@ use Rattle.hy_commands.specs.declared.edition.Edition.{Edition}
 use Rattle.hy_commands.specs.declared.reply.Reply.{Reply}
 use Rattle.hy_commands.specs.Deliveries.{oldest}
 use Rattle.hy_layout.specs.Layout.{LayoutState}
-use Rattle.hy_store.specs.Stored.{Stored}
+use Rattle.hy_writers.specs.of_store.Stored.{Stored}
 use Rattle.hy_tpcc.specs.Executor.{AnswersSlice, ExecutorState, HasDone, IsUnderWay, RunsSlice}
 
 -- an executor that has noted a place and some orders

@@ -13,8 +13,8 @@ use Rattle.hy_commands.specs.Transactions.{accepted, has_customer}
 use Rattle.hy_layout.specs.Layout.{IsMeantAt, KeepsPlaces, LayoutState, own_rows}
 use Rattle.hy_slices.specs.Begun.{Begins, BeginsAlone}
 use Rattle.hy_slices.specs.Slices.{after_slices, has_items_before, slice_count}
-use Rattle.hy_store.specs.Stored.{Stored}
-use Rattle.hy_indexes.specs.Indexes.{HasIndexes}
+use Rattle.hy_writers.specs.of_store.Stored.{Stored}
+use Rattle.hy_writers.specs.of_indexes.Indexes.{HasIndexes}
 use Rattle.hy_writers.specs.Limits.{AreInBounds}
 
 -- what an executor has noted of the command that runs: the place of the customer whom it names, and the orders that it has

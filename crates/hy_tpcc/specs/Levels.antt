@@ -1,13 +1,13 @@
 -- Items that are gathered one by one, each once.
 use Rattle.std.specs.Prelude.{ℕ, ◌+◌, ◌&&◌, not, Bool, if◌then◌else◌, List, [], ◌∷◌, ◌++◌, fold, map}
 use Rattle.hy_rows.specs.declared.order_line.OrderLine.{OrderLine}
-use Rattle.hy_index.specs.declared.key.Entry.{Entry}
-use Rattle.hy_index.specs.Index.{between}
+use Rattle.hy_writers.specs.of_index.declared.key.Entry.{Entry}
+use Rattle.hy_writers.specs.of_index.Index.{between}
 use Rattle.hy_commands.specs.declared.command.StockLevel.{StockLevel}
 use Rattle.hy_commands.specs.StockLevels.{is_low}
-use Rattle.hy_store.specs.declared.keys.LineKey.{LineKey}
-use Rattle.hy_store.specs.Keys.{is_lesser_line}
-use Rattle.hy_store.specs.Stored.{Stored}
+use Rattle.hy_writers.specs.of_store.declared.keys.LineKey.{LineKey}
+use Rattle.hy_writers.specs.of_store.Keys.{is_lesser_line}
+use Rattle.hy_writers.specs.of_store.Stored.{Stored}
 use Rattle.hy_writers.specs.Deliveries.{is_listed}
 use Rattle.hy_tpcc.specs.Lines.{lines_named}
 

@@ -10,8 +10,8 @@ use Rattle.hy_commands.specs.Commands.{warehouses_of}
 use Rattle.hy_commands.specs.Parts.{customer_home_of, database_of, is_by_number, part, payer_number, refusal_in}
 use Rattle.hy_commands.specs.Transactions.{accepted, has_customer}
 use Rattle.hy_layout.specs.Layout.{LayoutState}
-use Rattle.hy_store.specs.Stored.{Stored}
-use Rattle.hy_indexes.specs.Indexes.{HasIndexes}
+use Rattle.hy_writers.specs.of_store.Stored.{Stored}
+use Rattle.hy_writers.specs.of_indexes.Indexes.{HasIndexes}
 use Rattle.hy_writers.specs.Purchases.{with_line_sold}
 
 -- a command names this warehouse and another one, and the database of the load doesn't refuse it; the customer who pays

@@ -6,7 +6,7 @@ use Rattle.hy_commands.specs.declared.command.Payment.{Payment}
 use Rattle.hy_commands.specs.declared.edition.Edition.{Edition}
 use Rattle.hy_commands.specs.declared.reply.Reply.{Reply}
 use Rattle.hy_layout.specs.Layout.{LayoutState}
-use Rattle.hy_store.specs.Stored.{Stored}
+use Rattle.hy_writers.specs.of_store.Stored.{Stored}
 use Rattle.hy_tpcc.specs.Executor.{HasDone, answer_of}
 
 -- so many of its slices are done, and it began with some rows

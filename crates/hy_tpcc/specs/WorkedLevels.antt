@@ -2,8 +2,8 @@
 use Rattle.std.specs.Prelude.{◌≡◌, ℕ, nat_lt, pos, List, [], ◌∷◌}
 use Rattle.std.proofs.Common.{refl}
 use Rattle.hy_rows.specs.declared.order_line.OrderLine.{OrderLine}
-use Rattle.hy_index.specs.declared.key.Entry.{Entry}
-use Rattle.hy_store.specs.declared.keys.LineKey.{LineKey}
+use Rattle.hy_writers.specs.of_index.declared.key.Entry.{Entry}
+use Rattle.hy_writers.specs.of_store.declared.keys.LineKey.{LineKey}
 use Rattle.hy_tpcc.specs.Levels.{entries_of, items_named, with_item, with_items}
 use Rattle.hy_tpcc.specs.Lines.{lines_named}
 

@@ -1,13 +1,13 @@
 //! Reading ahead: rows that a command will need, fetched side by side.
 
 ghost use Rattle.hy_space.specs.Space.{owner_bytes};
-ghost use Rattle.hy_store.specs.Stored.{HasStore};
+ghost use Rattle.hy_writers.specs.of_store.Stored.{HasStore};
 
 use hy_commands::{Command, PurchaseLines};
 use hy_layout::Layout;
 use hy_rows::{Customer, Stock};
 use hy_space::Space;
-use hy_store::glance_at;
+use hy_writers::hy_store::glance_at;
 
 /// Looks at the rows of CUSTOMER, ITEM and STOCK that a command will need, whose customer stands at a place. No look
 /// waits for another one, so that the processor fetches the rows side by side, and the slices find them near. The number

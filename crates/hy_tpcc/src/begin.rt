@@ -6,8 +6,8 @@ ghost use Rattle.hy_commands.specs.Parts.{customer_home_of};
 ghost use Rattle.hy_commands.specs.Transactions.{begin_refusal_of, has_districts, is_district_number};
 ghost use Rattle.hy_layout.specs.Layout.{KeepsPlaces, own_rows};
 ghost use Rattle.hy_space.specs.Space.{owner_bytes};
-ghost use Rattle.hy_store.specs.Stored.{HasStore};
-ghost use Rattle.hy_store.specs.Writes.{stored_in};
+ghost use Rattle.hy_writers.specs.of_store.Stored.{HasStore};
+ghost use Rattle.hy_writers.specs.of_store.Writes.{stored_in};
 ghost use Rattle.hy_writers.specs.Waiting.{IsSoundStore};
 ghost use Rattle.hy_tpcc.specs.Executor.{FindsCustomer, KnowsCustomer};
 
@@ -16,7 +16,7 @@ use hy_layout::Layout;
 use hy_rows::DISTRICTS_PER_WAREHOUSE;
 use hy_schema::Refusal;
 use hy_space::Space;
-use hy_store::know_store;
+use hy_writers::hy_store::know_store;
 
 /// Whether a district has this number.
 fn is_district_number(number: u64) -> bool

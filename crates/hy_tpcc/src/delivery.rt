@@ -2,19 +2,19 @@
 
 ghost use Rattle.std.specs.Prelude.{◌≡◌, ◌<◌, IfOk, IsErrOf, OnOk, length};
 ghost use Rattle.hy_undo.specs.Writes.{IsOutOfFrames};
-ghost use Rattle.hy_store.specs.Writes.{IsWritableStore, LeavesStore, WritesStore, stored_in};
+ghost use Rattle.hy_writers.specs.of_store.Writes.{IsWritableStore, LeavesStore, WritesStore, stored_in};
 ghost use Rattle.hy_tpcc.specs.Deliveries.{AnswersDelivery, DeliversNext, IsNextDelivered, RunsDelivery, noting};
 ghost use Rattle.hy_tpcc.specs.Executor.{DoesSlice, IsPartlyDone};
 
 use arrayvec::ArrayVec;
 use hy_commands::{Command, Delivery, Reply};
 use hy_frames::Shortage;
-use hy_index::Entry;
 use hy_layout::Layout;
 use hy_space::Space;
-use hy_store::LineKey;
 use hy_undo::Undo;
 use hy_writers::deliver_in;
+use hy_writers::hy_index::Entry;
+use hy_writers::hy_store::LineKey;
 
 /// The next slice of a delivery behind so many: that of district `done + 1`. Gives the number of the order that was
 /// delivered, or 0.

@@ -10,12 +10,12 @@ use crate::reading::{answer_level, answer_status};
 use crate::refused::with_refusal;
 use arrayvec::ArrayVec;
 use hy_commands::{Command, Delivery, Edition, OrderStatus, Reply, StockLevel};
-use hy_index::Entry;
 use hy_layout::Layout;
 use hy_schema::Refusal;
 use hy_space::Space;
-use hy_store::LineKey;
 use hy_undo::Undo;
+use hy_writers::hy_index::Entry;
+use hy_writers::hy_store::LineKey;
 use std::alloc::Global;
 use std::marker::Model;
 
@@ -53,8 +53,8 @@ impl Executor {
     ghost use Rattle.hy_commands.specs.Parts.{customer_home_of};
     ghost use Rattle.hy_commands.specs.Transactions.{begin_refusal_of, has_items};
     ghost use Rattle.hy_slices.specs.Slices.{has_item_at, slice_count};
-    ghost use Rattle.hy_store.specs.Stored.{HasStore};
-    ghost use Rattle.hy_store.specs.Writes.{IsWritableStore, LeavesStore, WritesStore, stored_in};
+    ghost use Rattle.hy_writers.specs.of_store.Stored.{HasStore};
+    ghost use Rattle.hy_writers.specs.of_store.Writes.{IsWritableStore, LeavesStore, WritesStore, stored_in};
     ghost use Rattle.hy_writers.specs.Waiting.{IsSoundStore};
     ghost use Rattle.hy_commands.specs.declared.edition.Edition.{Edition};
     ghost use Rattle.hy_tpcc.specs.Deliveries.{AnswersDelivery, DeliversNext, RunsDelivery};

@@ -7,22 +7,22 @@ ghost use Rattle.hy_rows.specs.Rows.{district_of};
 ghost use Rattle.hy_schema.specs.Keys.{IsOneWarehouse};
 ghost use Rattle.hy_schema.specs.Related.{is_item};
 ghost use Rattle.hy_space.specs.Space.{owner_bytes};
-ghost use Rattle.hy_index.specs.declared.key.Entry.{Entry};
+ghost use Rattle.hy_writers.specs.of_index.declared.key.Entry.{Entry};
 ghost use Rattle.hy_commands.specs.StockLevels.{low_items};
-ghost use Rattle.hy_store.specs.Stored.{HasStore};
-ghost use Rattle.hy_store.specs.Writes.{stored_in};
-ghost use Rattle.hy_store.specs.declared.keys.LineKey.{LineKey};
+ghost use Rattle.hy_writers.specs.of_store.Stored.{HasStore};
+ghost use Rattle.hy_writers.specs.of_store.Writes.{stored_in};
+ghost use Rattle.hy_writers.specs.of_store.declared.keys.LineKey.{LineKey};
 ghost use Rattle.hy_writers.specs.Begun.{IsDistrict};
 ghost use Rattle.hy_writers.specs.Deliveries.{is_listed};
 ghost use Rattle.hy_writers.specs.Waiting.{IsSoundStore};
 ghost use Rattle.hy_tpcc.specs.Levels.{counts_item, entries_of, with_item, with_low_items};
 
 use hy_commands::StockLevel;
-use hy_index::Entry;
 use hy_layout::Layout;
 use hy_rows::{District, OrderLine, Stock};
 use hy_space::Space;
-use hy_store::{LineKey, read_entries, row_at};
+use hy_writers::hy_index::Entry;
+use hy_writers::hy_store::{LineKey, read_entries, row_at};
 use std::alloc::AllocError;
 
 /// Stock-Level (TPC-C clause 2.8): how many different items of a district's last 20 orders have less in stock than the

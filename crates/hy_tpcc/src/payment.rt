@@ -3,8 +3,8 @@
 ghost use Rattle.std.specs.Prelude.{◌≡◌, ◌<◌, ◌⊎◌, IfErr, IfOk, IsErrOf, OnOk, Some, length, slice_get};
 ghost use Rattle.hy_rows.specs.declared.customer.Customer.{Customer};
 ghost use Rattle.hy_space.specs.Space.{owner_bytes};
-ghost use Rattle.hy_store.specs.Stored.{HasStore};
-ghost use Rattle.hy_store.specs.Writes.{IsWritableStore, LeavesStore, WritesStore, stored_in};
+ghost use Rattle.hy_writers.specs.of_store.Stored.{HasStore};
+ghost use Rattle.hy_writers.specs.of_store.Writes.{IsWritableStore, LeavesStore, WritesStore, stored_in};
 ghost use Rattle.hy_tpcc.specs.Payments.{AnswersPayment, IsPartlyPaid, PaysNext};
 ghost use Rattle.hy_tpcc.specs.Shortages.{FindsNoFrame};
 
@@ -14,8 +14,8 @@ use hy_layout::Layout;
 use hy_rows::CustomerNumber;
 use hy_schema::Refusal;
 use hy_space::Space;
-use hy_store::part_at;
 use hy_undo::Undo;
+use hy_writers::hy_store::part_at;
 use hy_writers::{pay_customer, pay_home};
 
 /// The number of the customer at a place.

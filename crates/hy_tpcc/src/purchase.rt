@@ -4,8 +4,8 @@ ghost use Rattle.std.specs.Prelude.{◌≡◌, ◌+◌, ◌<◌, ◌⊎◌, ◌�
 ghost use Rattle.hy_frames.specs.FrameTable.{free_of};
 ghost use Rattle.hy_space.specs.Space.{owner_bytes};
 ghost use Rattle.hy_slices.specs.Slices.{has_item_at, line_behind};
-ghost use Rattle.hy_store.specs.Stored.{HasStore};
-ghost use Rattle.hy_store.specs.Writes.{IsWritableStore, LeavesStore, WritesStore, stored_in};
+ghost use Rattle.hy_writers.specs.of_store.Stored.{HasStore};
+ghost use Rattle.hy_writers.specs.of_store.Writes.{IsWritableStore, LeavesStore, WritesStore, stored_in};
 ghost use Rattle.hy_tpcc.specs.Executor.{DoesSlice, IsAnswer, IsPartlyDone, IsReply};
 
 use crate::refused::refusal_of_shortage;
@@ -14,8 +14,8 @@ use hy_frames::Shortage;
 use hy_layout::Layout;
 use hy_schema::Refusal;
 use hy_space::Space;
-use hy_store::know_store;
 use hy_undo::Undo;
+use hy_writers::hy_store::know_store;
 use hy_writers::{add_line, add_order, own_next_order, purchase_total};
 
 /// The first slice of a purchase: its head.

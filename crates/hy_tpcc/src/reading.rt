@@ -2,17 +2,17 @@
 
 ghost use Rattle.std.specs.Prelude.{IfOk};
 ghost use Rattle.hy_space.specs.Space.{owner_bytes};
-ghost use Rattle.hy_store.specs.Stored.{HasStore};
-ghost use Rattle.hy_store.specs.Writes.{stored_in};
+ghost use Rattle.hy_writers.specs.of_store.Stored.{HasStore};
+ghost use Rattle.hy_writers.specs.of_store.Writes.{stored_in};
 ghost use Rattle.hy_tpcc.specs.Executor.{IsPartlyDone, IsReply};
 
 use crate::level::stock_level;
 use crate::status::order_status;
 use hy_commands::{Command, OrderStatus, Reply, StockLevel};
-use hy_index::Entry;
 use hy_layout::Layout;
 use hy_space::Space;
-use hy_store::LineKey;
+use hy_writers::hy_index::Entry;
+use hy_writers::hy_store::LineKey;
 use std::alloc::{AllocError, Global};
 
 /// The one slice of Order-Status.

@@ -4,24 +4,26 @@ ghost use Rattle.std.specs.Prelude.{◌≡◌, ◌<◌, ◌≤◌, All, IfOk, le
 ghost use Rattle.hy_rows.specs.RowParts.{identity_of};
 ghost use Rattle.hy_rows.specs.declared.customer.Customer.{Customer};
 ghost use Rattle.hy_space.specs.Space.{owner_bytes};
-ghost use Rattle.hy_index.specs.Index.{found};
-ghost use Rattle.hy_index.specs.declared.key.Entry.{Entry};
+ghost use Rattle.hy_writers.specs.of_index.Index.{found};
+ghost use Rattle.hy_writers.specs.of_index.declared.key.Entry.{Entry};
 ghost use Rattle.hy_commands.specs.OrderStatus.{last_placed, placed};
 ghost use Rattle.hy_commands.specs.Transactions.{asker, status_reply};
 ghost use Rattle.hy_layout.specs.Layout.{IsMeantAt};
-ghost use Rattle.hy_store.specs.Keys.{is_lesser_customer};
-ghost use Rattle.hy_store.specs.Stored.{HasStore};
-ghost use Rattle.hy_store.specs.Writes.{stored_in};
-ghost use Rattle.hy_store.specs.declared.keys.LineKey.{LineKey};
+ghost use Rattle.hy_writers.specs.of_store.Keys.{is_lesser_customer};
+ghost use Rattle.hy_writers.specs.of_store.Stored.{HasStore};
+ghost use Rattle.hy_writers.specs.of_store.Writes.{stored_in};
+ghost use Rattle.hy_writers.specs.of_store.declared.keys.LineKey.{LineKey};
 ghost use Rattle.hy_writers.specs.Waiting.{IsSoundStore};
 ghost use Rattle.hy_tpcc.specs.Lines.{lines_named};
 
 use hy_commands::{OrderStatus, PlacedOrder, Reply, StatusLines};
-use hy_index::Entry;
 use hy_layout::Layout;
 use hy_rows::{CustomerAccount, CustomerIdentity, Order, OrderLine};
 use hy_space::Space;
-use hy_store::{CustomerKey, LineKey, find_slot, know_entries, part_at, read_entries, row_at};
+use hy_writers::hy_index::Entry;
+use hy_writers::hy_store::{
+    CustomerKey, LineKey, find_slot, know_entries, part_at, read_entries, row_at,
+};
 use std::alloc::{AllocError, Global};
 
 /// Order-Status (TPC-C clause 2.6) for the customer at a place: the customer's number, names and balance, in cents, and

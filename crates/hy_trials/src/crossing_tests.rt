@@ -359,14 +359,14 @@ fn drained<K: Loaded, R: Abort + AllocGlobal>(rt: &R, mut hall: Hall<K>) {
             Reply::Payment { .. }
         )
     );
-    let batch = hall.drain(rt.alloc()).expect(rt, "a batch");
+    let batch = hall.drain(rt);
     assert!(rt; batch.len() == 2);
     let ([first], [own, second]) = (batch.list(0), batch.list(1)) else {
         panic!(rt; "three commits")
     };
     assert!(rt; matches!(own, Commit::Local(Edition::Second, Command::NewOrder(_))));
     assert!(rt; numbers_of(first) == Some((1, 3)) && numbers_of(second) == Some((1, 3)));
-    let batch = hall.drain(rt.alloc()).expect(rt, "a batch");
+    let batch = hall.drain(rt);
     assert!(rt; batch.len() == 2 && batch.list(0).is_empty() && batch.list(1).is_empty());
     assert!(rt; hall.kept(rt, 1).len() == 1 && hall.kept(rt, 2).len() == 2);
 }

@@ -1,11 +1,12 @@
 //! For tests: the partitions of all warehouses of a load, with their journal and a client.
 
-ghost use Rattle.std.specs.Prelude.{◌≡◌, [], ◌≤◌, length};
+ghost use Rattle.std.specs.Prelude.{◌≡◌, [], ◌≤◌, None, length};
 ghost use Rattle.hy_recovery.specs.Recovering.{Counts};
 ghost use Rattle.std.proofs.Props.{props};
 ghost use Rattle.hy_partition.specs.Partition.{terms_of};
 ghost use Rattle.hy_crossing.specs.Crossings.{ArePartitions, HaveNoPart};
 ghost use Rattle.hy_forks.specs.Forks.{AreOfKit};
+ghost use Rattle.hy_forks.specs.Logged.{SaySame};
 
 use hy_batches::Batches;
 use hy_commands::{Command, Commit, Reply};
@@ -14,9 +15,11 @@ use hy_forks::{Batch, SnapshotAll, close_all, drain, end_of, find_history, fork_
 use hy_loads::Load;
 use hy_partition::{Job, Loaded, Partition};
 use hy_passes::{Cursor, Journal, Kit, Pass};
-use hy_recovery::recover;
+use hy_recovery::{recover, recovered_say_the_same};
+use hy_redo::LogOut;
 use hy_schema::Refusal;
-use hy_session::Session;
+use hy_storm::hy_redo_drains::DrainLog;
+use hy_storm::hy_session::Session;
 use std::alloc::Global;
 use std::marker::PhantomData;
 use std::process::Abort;
@@ -109,13 +112,25 @@ pub struct OpenSession<K: Loaded> {
     ghost own: { AreOfKit K.passes session } by { Prim.hlevel props },
 }
 
-/// The partitions of all warehouses, their journal, and the clients who are at home.
+impl<K: Loaded> OpenSession<K> {
+    /// A session over this snapshot.
+    pub fn of(taken: TakenAll<K>) -> OpenSession<K> {
+        let TakenAll { all, of } = taken;
+        OpenSession {
+            session: Session::new(all),
+            of,
+        }
+    }
+}
+
+/// The partitions of all warehouses, their journal, and the clients who are at home. Where they weren't recovered, also the
+/// place up to which their commits were drained.
 #[derive(Drop)]
 pub struct Hall<K: Loaded> {
     parts: Vec<Partition<4096, K>>,
     journal: Journal<Commit, K>,
     clients: Vec<Pass<Commit, K>>,
-    cursor: Cursor<Commit, K>,
+    cursor: Option<Cursor<Commit, K>>,
     ghost partitions: { ArePartitions K.load parts.items } by { Prim.hlevel props },
     ghost whole: { HaveNoPart parts.items } by { Prim.hlevel props },
 }
@@ -142,22 +157,26 @@ impl<K: Loaded> Hall<K> {
             parts,
             journal,
             clients,
-            cursor,
+            cursor: Some(cursor),
         }
     }
 
-    /// All partitions of a load, recovered from batches.
+    /// All partitions of a load, recovered from batches, and the place behind these, from which a log goes on.
     pub fn recovered<R: Abort + AllocGlobal>(
         rt: &R,
         load: &Load,
         kit: Kit<Commit>,
         batches: &Batches,
-    ) -> Hall<K>
+    ) -> (Hall<K>, Cursor<Commit, K>)
         requires load { load.now ≡ K.load }
         requires kit { kit ≡ K.passes }
         requires partitions { kit.partitions ≡ length load.now.tables.warehouses }
         requires counts { Counts kit load.now batches.now }
+        ensures same { SaySame K.load batches.now result.1 }
+        ensures partitions { K.passes.partitions ≡ length K.load.tables.warehouses }
     {
+        batches.sound();
+        recovered_say_the_same();
         let (_passes, journal, seats, mut clients) = kit.open::<K>().expect(rt, "passes");
         let (Some(place), Some(pass)) = (clients.pop(), clients.pop()) else {
             panic!(rt; "two clients")
@@ -175,11 +194,23 @@ impl<K: Loaded> Hall<K> {
         .expect(rt, "partitions");
         clients.push(pass).expect(rt, "a place");
         let cursor = end_of(rt.alloc(), &mut parts, &mut journal, place).expect(rt, "a place");
+        (Hall::with(parts, journal, clients), cursor)
+    }
+
+    /// These partitions, with their journal and their clients.
+    pub fn with(
+        parts: Vec<Partition<4096, K>>,
+        journal: Journal<Commit, K>,
+        clients: Vec<Pass<Commit, K>>,
+    ) -> Hall<K>
+        requires partitions { ArePartitions K.load parts.items }
+        requires whole { HaveNoPart parts.items }
+    {
         Hall {
             parts,
             journal,
             clients,
-            cursor,
+            cursor: None,
         }
     }
 
@@ -248,27 +279,20 @@ impl<K: Loaded> Hall<K> {
 
     /// Opens a session over all warehouses.
     pub fn open_session(&mut self, rt: &impl Abort, alloc: Global) -> OpenSession<K> {
-        let TakenAll { all, of } = self.fork(rt, alloc).expect(rt, "a snapshot");
-        OpenSession {
-            session: Session::new(all),
-            of,
-        }
+        OpenSession::of(self.fork(rt, alloc).expect(rt, "a snapshot"))
     }
 
     /// Opens a session on what another one sees.
     pub fn fork_session(
         &mut self,
-        rt: &impl Abort,
         alloc: Global,
         opened: &OpenSession<K>,
-    ) -> OpenSession<K> {
-        OpenSession {
-            session: opened
-                .session
-                .fork(alloc, &mut self.parts)
-                .expect(rt, "a session"),
+    ) -> Result<OpenSession<K>, Refusal> {
+        let session = opened.session.fork(alloc, &mut self.parts)?;
+        Ok(OpenSession {
+            session,
             of: PhantomData,
-        }
+        })
     }
 
     /// Closes a session.
@@ -281,11 +305,28 @@ impl<K: Loaded> Hall<K> {
     }
 
     /// The commits since the last drain, of a warehouse at least.
-    pub fn drain(&mut self, alloc: Global) -> Result<Batch, Refusal> {
-        if self.parts.is_empty() {
-            return Err(Refusal::NoSuchWarehouse);
-        }
-        drain(alloc, &mut self.parts, &mut self.journal, &mut self.cursor)
+    pub fn drain<R: Abort + AllocGlobal>(&mut self, rt: &R) -> Batch {
+        let Some(cursor) = &mut self.cursor else {
+            panic!(rt; "a place")
+        };
+        assert!(rt; !self.parts.is_empty());
+        drain(rt.alloc(), &mut self.parts, &mut self.journal, cursor).expect(rt, "a batch")
+    }
+
+    /// Hands a log the commits since its last drain, of a warehouse at least, and writes them, which may be refused.
+    pub fn drain_to<W: LogOut, R: Abort + AllocGlobal>(
+        &mut self,
+        rt: &R,
+        drains: &mut DrainLog<W, K>,
+    ) -> Result<(), Refusal>
+        requires due { drains.old.due ≡ None }
+        ensures due { drains.new.due ≡ None }
+    {
+        assert!(rt; !self.parts.is_empty());
+        drains
+            .drain(rt.alloc(), &mut self.parts, &mut self.journal)
+            .expect(rt, "a batch");
+        drains.write()
     }
 
     /// Finds that the lists are those of one history.

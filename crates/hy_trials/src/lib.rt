@@ -6,6 +6,8 @@ mod commands;
 #[cfg(test)]
 mod crossing_tests;
 #[cfg(test)]
+mod frame_tests;
+#[cfg(test)]
 mod halls;
 #[cfg(test)]
 mod life_tests;
@@ -17,3 +19,7 @@ mod lock_tests;
 mod model;
 #[cfg(test)]
 mod query_tests;
+#[cfg(test)]
+mod refusal_tests;
+#[cfg(test)]
+mod writer_tests;

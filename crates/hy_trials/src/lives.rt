@@ -1,10 +1,11 @@
 //! For tests: a life of a log. It is held and read, a database is recovered from it and goes on, and a stop leaves some of it.
 
-ghost use Rattle.std.specs.Prelude.{◌≡◌, length};
+ghost use Rattle.std.specs.Prelude.{◌≡◌, None, length};
+ghost use Rattle.hy_redo.specs.Disk.{BeginsBehind};
 ghost use Rattle.hy_recovery.specs.Recovering.{Counts};
 
 use crate::halls::Hall;
-use hy_batches::{Batch, Batches, Text, read_log, write_batch};
+use hy_batches::{Batches, read_log};
 use hy_commands::Commit;
 use hy_files::{FileSystem, HeldLog, MemoryFiles};
 use hy_loads::Load;
@@ -12,6 +13,7 @@ use hy_partition::Loaded;
 use hy_passes::Kit;
 use hy_recovery::kit_for;
 use hy_redo::{Log, LogOut};
+use hy_storm::hy_redo_drains::DrainLog;
 use hy_storm::{Shape, command_of};
 use std::marker::Brand;
 use std::process::Abort;
@@ -70,11 +72,19 @@ pub fn whole_in(bytes: &[u8]) -> u64 {
     bytes.len() as u64
 }
 
-/// How many bytes a batch has.
-fn bytes_of<R: Abort + AllocGlobal>(rt: &R, batch: &Batch) -> u64 {
-    let mut text = Text::new(rt.alloc());
-    write_batch(&mut text, batch);
-    text.bytes().expect(rt, "memory lasts").len() as u64
+/// Where the whole batches of a log end that stand behind its first so many bytes, by the lengths that they say; those bytes
+/// first.
+fn ends_behind<R: Abort + AllocGlobal>(rt: &R, bytes: &[u8], first: u64) -> Vec<u64> {
+    let mut ends = Vec::new(rt.alloc());
+    let mut end = first;
+    for _ in 0..=bytes.len() {
+        ends.push(end).expect(rt, "an end");
+        let Some(size) = size_at(bytes, end as usize) else {
+            return ends;
+        };
+        end = end.saturating_add(size as u64);
+    }
+    ends
 }
 
 /// How many commits the lists of a warehouse have in all batches.
@@ -90,7 +100,11 @@ fn commits_in(rt: &impl Abort, batches: &Batches, warehouse: u64) -> u64 {
 }
 
 /// A database of two warehouses has kept what the batches have, and meets the conditions.
-fn is_recovered<K: Loaded, R: Abort + AllocGlobal>(rt: &R, hall: &mut Hall<K>, batches: &Batches) {
+pub fn is_recovered<K: Loaded, R: Abort + AllocGlobal>(
+    rt: &R,
+    hall: &mut Hall<K>,
+    batches: &Batches,
+) {
     for warehouse in 1..=2u64 {
         let kept = hall.kept(rt, warehouse).len() as u64;
         assert!(rt; kept == commits_in(rt, batches, warehouse));
@@ -116,46 +130,46 @@ fn storm_on<K: Loaded, R: Abort + AllocGlobal>(
     }
 }
 
-/// Some rounds: commands, and a drain that is acknowledged. The sizes of the log behind each of them.
+/// Some rounds: commands, and a drain that is acknowledged. How many they were.
 fn rounds<K: Loaded, W: LogOut, R: Abort + AllocGlobal>(
     rt: &R,
     hall: &mut Hall<K>,
     shape: &Shape,
-    log: &mut Log<W>,
+    drains: &mut DrainLog<W, K>,
     numbers: &mut Numbers,
-    size: u64,
-) -> Vec<u64> {
-    let mut sizes = Vec::new(rt.alloc());
-    sizes.push(size).expect(rt, "a size");
-    let mut end = size;
-    for _ in 0..numbers.up_to(3).saturating_add(1) {
+) -> u64
+    requires due { drains.old.due ≡ None }
+{
+    let count = numbers.up_to(3).saturating_add(1);
+    for _ in 0..count {
         storm_on(rt, hall, shape, numbers);
-        let batch = hall.drain(rt.alloc()).expect(rt, "a batch");
-        assert!(rt; log.write_batch(&batch).is_ok());
-        end = end.wrapping_add(bytes_of(rt, &batch));
-        sizes.push(end).expect(rt, "a size");
+        assert!(rt; hall.drain_to(rt, drains).is_ok());
     }
-    sizes
+    count
 }
 
-/// What a life does with the log behind these batches, in the world of the load and the kit: the sizes of the log.
+/// What a life does with the log behind these batches, in the world of the load and the kit: how many drains the log was
+/// handed, and the log.
 fn live_in<K: Loaded, W: LogOut, R: Abort + AllocGlobal>(
     rt: &R,
     load: &Load,
     kit: Kit<Commit>,
     batches: &Batches,
-    log: &mut Log<W>,
+    log: Log<W>,
     numbers: &mut Numbers,
-) -> Vec<u64>
+) -> (u64, Log<W>)
     requires load { load.now ≡ K.load }
     requires kit { kit ≡ K.passes }
     requires partitions { kit.partitions ≡ length load.now.tables.warehouses }
     requires counts { Counts kit load.now batches.now }
+    requires begins { BeginsBehind batches.now log }
 {
-    let mut hall = Hall::<K>::recovered(rt, load, kit, batches);
+    let (mut hall, cursor) = Hall::<K>::recovered(rt, load, kit, batches);
+    let mut drains = DrainLog::new(log, cursor);
     is_recovered(rt, &mut hall, batches);
     let shape = Shape::of(rt.alloc(), load).expect(rt, "a shape");
-    rounds(rt, &mut hall, &shape, log, numbers, batches.bytes())
+    let count = rounds(rt, &mut hall, &shape, &mut drains, numbers);
+    (count, drains.into_log())
 }
 
 /// A life of the log behind what stands in it, of which so many batches at least were acknowledged.
@@ -174,10 +188,15 @@ pub fn live<R: Abort + AllocGlobal>(
     let size = batches.bytes();
     assert!(rt; size <= held.bytes().len() as u64);
     let out = files.go_on_log(held, size).expect(rt, "a log");
-    let mut log = Log::new(alloc, out);
     let kit = kit_for(alloc, load, &batches, 2, 1).expect(rt, "a kit");
-    let sizes = live_in::<Brand, _, R>(rt, load, kit, &batches, &mut log, numbers);
+    let log = Log::new(alloc, out);
+    let (count, log) = live_in::<Brand, _, R>(rt, load, kit, &batches, log, numbers);
     assert!(rt; files.end_log(LOG, log.into_out()).is_ok());
+    let bytes = files.read(alloc, LOG).expect(rt, "bytes");
+    assert!(rt; whole_in(&bytes) == batches.count().wrapping_add(count));
+    let sizes = ends_behind(rt, &bytes, size);
+    assert!(rt; sizes.len() as u64 == count.wrapping_add(1));
+    assert!(rt; sizes.get(count as usize) == Some(&(bytes.len() as u64)));
     Life {
         before: batches.count(),
         sizes,

@@ -10,7 +10,7 @@ use hy_partition::Loaded;
 use hy_passes::{Kit, make};
 use hy_query::parse_query;
 use hy_schema::Refusal;
-use hy_session::{Session, WarehouseReport, run_counted, text_of};
+use hy_storm::hy_session::{Session, WarehouseReport, run_counted, text_of};
 use hy_tables::generate;
 use std::marker::Brand;
 use std::process::Abort;
@@ -212,7 +212,9 @@ fn totals<R: Abort + AllocGlobal>(rt: &R, session: &Session<4096>) -> (i64, i64)
 fn passed_on<K: Loaded, R: Abort + AllocGlobal>(rt: &R, mut hall: Hall<K>) {
     let first = hall.open_session(rt, rt.alloc());
     assert!(rt; matches!(hall.run(rt, payment_by(1)), Reply::Payment { .. }));
-    let second = hall.fork_session(rt, rt.alloc(), &first);
+    let second = hall
+        .fork_session(rt.alloc(), &first)
+        .expect(rt, "a session");
     hall.close_session(rt, first);
     assert!(rt; matches!(hall.run(rt, payment_by(1)), Reply::Payment { .. }));
     assert!(rt; totals(rt, &second.session) == (30_000, 30_000));

@@ -18,8 +18,8 @@ use Rattle.hy_rows.specs.Spelling.{live_rows}
 use Rattle.hy_schema.specs.Conditions.{column_sum, least}
 use Rattle.hy_schema.specs.Keys.{customer_key}
 use Rattle.hy_schema.specs.Related.{is_line_of, is_new_order, is_order, lines_of, new_orders_of}
-use Rattle.hy_index.specs.declared.key.Entry.{Entry}
-use Rattle.hy_index.specs.Index.{IsInOrder, first_from, found, without}
+use Rattle.hy_indexes.specs.of_index.declared.key.Entry.{Entry}
+use Rattle.hy_indexes.specs.of_index.Index.{IsInOrder, first_from, found, without}
 use Rattle.hy_relation.specs.Relation.{row_in}
 use Rattle.hy_commands.specs.declared.command.Delivery.{Delivery}
 use Rattle.hy_commands.specs.Deliveries.{carried, customer_delivered, delivered_in, oldest, delivered_line, order_cents as cents_of, with_delivered}
@@ -31,10 +31,10 @@ use Rattle.hy_commands.proofs.MeetsLaws.{CountsLines, meets-facts}
 use Rattle.hy_commands.proofs.OnceLaws.{passes-three, tells-three}
 use Rattle.hy_commands.specs.declared.command.Who.TheVariants as who
 use Rattle.hy_layout.specs.Layout.{IsMeantAt, LayoutState}
-use Rattle.hy_store.specs.declared.keys.OrderKey.{OrderKey}
-use Rattle.hy_store.specs.declared.keys.WaitingKey.{WaitingKey}
-use Rattle.hy_store.specs.Keys.{is_lesser_order, is_lesser_waiting}
-use Rattle.hy_store.specs.Stored.{Stored}
+use Rattle.hy_indexes.specs.of_store.declared.keys.OrderKey.{OrderKey}
+use Rattle.hy_indexes.specs.of_store.declared.keys.WaitingKey.{WaitingKey}
+use Rattle.hy_indexes.specs.of_store.Keys.{is_lesser_order, is_lesser_waiting}
+use Rattle.hy_indexes.specs.of_store.Stored.{Stored}
 use Rattle.hy_layout.specs.Finds.{IsIn}
 use Rattle.hy_indexes.specs.Indexes.{order_key_at, waiting_key_at}
 use Rattle.hy_indexes.proofs.IndexLaws.{index-finds, index-has, index-lacks}

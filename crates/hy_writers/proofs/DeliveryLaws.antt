@@ -11,18 +11,18 @@ use Rattle.hy_rows.specs.Limits.{max_lines}
 use Rattle.hy_rows.specs.Rows.{order_line_of}
 use Rattle.hy_schema.specs.Conditions.{column_sum}
 use Rattle.hy_schema.specs.Related.{is_line_of, lines_of}
-use Rattle.hy_index.specs.Index.{IsInOrder, between}
+use Rattle.hy_indexes.specs.of_index.Index.{IsInOrder, between}
 use Rattle.hy_commands.specs.OrderStatus.{is_lesser_line}
 use Rattle.hy_commands.specs.Sorting.{inserted, sorted, with_all_changed}
-use Rattle.hy_store.specs.Keys.{is_lesser_line as is_lesser_key}
+use Rattle.hy_indexes.specs.of_store.Keys.{is_lesser_line as is_lesser_key}
 use Rattle.hy_indexes.proofs.IndexLaws.{between-in}
 use Rattle.hy_indexes.proofs.KeyOrders.{order-of_lines}
 use Rattle.hy_commands.specs.Growth.{IsLineAmount}
 use Rattle.hy_rows.specs.declared.order_line.OrderLine.{OrderLine}
-use Rattle.hy_index.specs.declared.key.Entry.{Entry}
+use Rattle.hy_indexes.specs.of_index.declared.key.Entry.{Entry}
 use Rattle.hy_commands.specs.Deliveries.{delivered_line, order_cents}
-use Rattle.hy_store.specs.declared.keys.LineKey.{LineKey}
-use Rattle.hy_store.specs.Stored.{Stored}
+use Rattle.hy_indexes.specs.of_store.declared.keys.LineKey.{LineKey}
+use Rattle.hy_indexes.specs.of_store.Stored.{Stored}
 use Rattle.hy_writers.proofs.FindLaws.{within-at}
 use Rattle.hy_writers.proofs.LineLaws.{walked-cents, walked-rows}
 use Rattle.hy_writers.proofs.OrderLinesLaws.{behind_lines, first_line, line_places, lines-sorted, listed-lines}

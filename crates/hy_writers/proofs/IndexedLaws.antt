@@ -10,11 +10,11 @@ use Rattle.hy_commands.specs.declared.command.Purchase.{Purchase}
 use Rattle.hy_commands.specs.declared.command.PurchaseLine.{PurchaseLine}
 use Rattle.hy_commands.specs.NewOrders.{line_row, new_order_row, order_number, order_row}
 use Rattle.hy_slices.specs.Slices.{headed_number}
-use Rattle.hy_store.specs.declared.keys.LineKey.{LineKey}
-use Rattle.hy_store.specs.declared.keys.OrderKey.{OrderKey}
-use Rattle.hy_store.specs.declared.keys.WaitingKey.{WaitingKey}
-use Rattle.hy_store.specs.Keys.{is_lesser_line, is_lesser_order, is_lesser_waiting}
-use Rattle.hy_store.specs.Stored.{Stored}
+use Rattle.hy_indexes.specs.of_store.declared.keys.LineKey.{LineKey}
+use Rattle.hy_indexes.specs.of_store.declared.keys.OrderKey.{OrderKey}
+use Rattle.hy_indexes.specs.of_store.declared.keys.WaitingKey.{WaitingKey}
+use Rattle.hy_indexes.specs.of_store.Keys.{is_lesser_line, is_lesser_order, is_lesser_waiting}
+use Rattle.hy_indexes.specs.of_store.Stored.{Stored}
 use Rattle.hy_indexes.specs.Indexes.{HasIndexes, line_key_at, order_key_at, waiting_key_at}
 use Rattle.hy_indexes.proofs.IndexedLaws.{last_orders-added, slot-past, slot-push_last, slot-push_other}
 use Rattle.hy_writers.specs.Purchases.{with_order, with_order_line}

@@ -4,17 +4,17 @@ use Rattle.std.specs.Prelude.{slice_get, slice_set}
 use Rattle.hy_rows.specs.declared.new_order.NewOrder.{NewOrder}
 use Rattle.hy_rows.specs.declared.order.Order.{Order}
 use Rattle.hy_rows.specs.Finding.{with_changed}
-use Rattle.hy_index.specs.declared.key.Entry.{Entry}
-use Rattle.hy_index.specs.Index.{IsInOrder, without}
+use Rattle.hy_indexes.specs.of_index.declared.key.Entry.{Entry}
+use Rattle.hy_indexes.specs.of_index.Index.{IsInOrder, without}
 use Rattle.hy_relation.specs.Relation.{row_in}
 use Rattle.hy_commands.specs.Sorting.{with_all_changed}
 use Rattle.hy_commands.specs.declared.command.Delivery.{Delivery}
 use Rattle.hy_commands.specs.Deliveries.{carried, delivered_line}
 use Rattle.hy_schema.specs.Related.{is_line_of, is_order}
-use Rattle.hy_store.specs.declared.keys.CustomerKey.{CustomerKey}
-use Rattle.hy_store.specs.declared.keys.WaitingKey.{WaitingKey}
-use Rattle.hy_store.specs.Keys.{is_lesser_waiting}
-use Rattle.hy_store.specs.Stored.{Stored}
+use Rattle.hy_indexes.specs.of_store.declared.keys.CustomerKey.{CustomerKey}
+use Rattle.hy_indexes.specs.of_store.declared.keys.WaitingKey.{WaitingKey}
+use Rattle.hy_indexes.specs.of_store.Keys.{is_lesser_waiting}
+use Rattle.hy_indexes.specs.of_store.Stored.{Stored}
 use Rattle.hy_layout.specs.Finds.{IsIn}
 use Rattle.hy_indexes.specs.Finds.{IsIndexOf}
 use Rattle.hy_indexes.specs.Indexes.{AreLastOrders, HasIndexes, buyer_key_at, line_key_at, order_key_at, waiting_key_at}

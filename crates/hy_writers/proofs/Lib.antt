@@ -1,3 +1,7 @@
+-- what stands below, for the crates above
+pub use Rattle.hy_indexes.proofs.of_index as of_index
+pub use Rattle.hy_indexes.proofs as of_indexes
+pub use Rattle.hy_indexes.proofs.of_store as of_store
 pub mod SumLaws
 pub mod FindLaws
 pub mod WritesLaws

@@ -8,15 +8,15 @@ use Rattle.hy_rows.specs.declared.order.Order.{Order}
 use Rattle.hy_rows.specs.declared.order_line.OrderLine.{OrderLine}
 use Rattle.hy_schema.specs.Keys.{AreUnique}
 use Rattle.hy_schema.specs.Related.{is_line_of, lines_of}
-use Rattle.hy_index.specs.declared.key.Entry.{Entry}
-use Rattle.hy_index.specs.Index.{IsInOrder, between, is_below, is_from}
+use Rattle.hy_indexes.specs.of_index.declared.key.Entry.{Entry}
+use Rattle.hy_indexes.specs.of_index.Index.{IsInOrder, between, is_below, is_from}
 use Rattle.hy_commands.specs.Invariant.{line_key}
 use Rattle.hy_commands.specs.OrderStatus.{is_lesser_line}
 use Rattle.hy_commands.specs.Sorting.{sorted}
 use Rattle.hy_commands.proofs.ListLaws.{unique-head, unique-tail}
 use Rattle.hy_commands.proofs.OnceLaws.{passes-three, tells-three}
-use Rattle.hy_store.specs.declared.keys.LineKey.{LineKey}
-use Rattle.hy_store.specs.Keys.{is_lesser_line as is_lesser_key}
+use Rattle.hy_indexes.specs.of_store.declared.keys.LineKey.{LineKey}
+use Rattle.hy_indexes.specs.of_store.Keys.{is_lesser_line as is_lesser_key}
 use Rattle.hy_layout.specs.Finds.{IsIn}
 use Rattle.hy_indexes.specs.Finds.{IsIndexOf}
 use Rattle.hy_indexes.specs.Indexes.{line_key_at}

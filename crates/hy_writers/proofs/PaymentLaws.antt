@@ -16,7 +16,7 @@ use Rattle.hy_commands.specs.declared.edition.Edition.TheVariants as editions
 use Rattle.hy_commands.specs.Payments.{customer_paid, district_paid, history_row, noted, paid_in, payment_note, warehouse_paid}
 use Rattle.hy_commands.specs.Transactions.{payer}
 use Rattle.hy_layout.specs.Layout.{IsMeantAt}
-use Rattle.hy_store.specs.Stored.{Stored}
+use Rattle.hy_indexes.specs.of_store.Stored.{Stored}
 use Rattle.hy_writers.specs.Begun.{IsCustomerPayment, IsHomePayment}
 use Rattle.hy_writers.specs.Changes.{IsFoundAt}
 use Rattle.hy_writers.specs.Payments.{account_paid, history_for, is_noted, note_of, with_customer_paid, with_noted_if}

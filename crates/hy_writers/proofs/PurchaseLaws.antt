@@ -12,15 +12,15 @@ use Rattle.hy_rows.specs.Finding.{first_or, is_district, is_warehouse}
 use Rattle.hy_rows.specs.Rows.{customer_of, district_of, warehouse_of}
 use Rattle.hy_rows.specs.Tables.{Tables}
 use Rattle.hy_schema.specs.Related.{is_item}
-use Rattle.hy_index.specs.Index.{with_entry}
+use Rattle.hy_indexes.specs.of_index.Index.{with_entry}
 use Rattle.hy_commands.specs.declared.command.PurchaseLine.{PurchaseLine}
 use Rattle.hy_commands.specs.declared.command.Purchase.{Purchase}
 use Rattle.hy_commands.specs.NewOrders.{buyer, purchase_cents, purchase_total, total_of, line_cents, line_row, no_item, order_number, order_row, with_next_order}
 use Rattle.hy_commands.specs.declared.command.Who.TheVariants as who
 use Rattle.hy_layout.specs.Layout.{IsMeantAt}
 use Rattle.hy_slices.specs.Slices.{headed_number}
-use Rattle.hy_store.specs.Keys.{is_lesser_line}
-use Rattle.hy_store.specs.Stored.{Stored}
+use Rattle.hy_indexes.specs.of_store.Keys.{is_lesser_line}
+use Rattle.hy_indexes.specs.of_store.Stored.{Stored}
 use Rattle.hy_writers.specs.Begun.{IsBegunPurchase}
 use Rattle.hy_writers.specs.Changes.{IsFoundAt}
 use Rattle.hy_writers.specs.Purchases.{line_for, with_line_sold, with_order, with_order_entries, with_order_line, with_waiting}

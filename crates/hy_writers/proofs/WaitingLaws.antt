@@ -8,12 +8,12 @@ use Rattle.hy_rows.specs.Spelling.{live_rows}
 use Rattle.hy_schema.specs.Conditions.{least}
 use Rattle.hy_schema.specs.Related.{new_orders_of}
 use Rattle.hy_relation.specs.Relation.{row_in}
-use Rattle.hy_index.specs.declared.key.Entry.{Entry}
-use Rattle.hy_index.specs.Index.{IsInOrder, first_from}
+use Rattle.hy_indexes.specs.of_index.declared.key.Entry.{Entry}
+use Rattle.hy_indexes.specs.of_index.Index.{IsInOrder, first_from}
 use Rattle.hy_commands.proofs.NumberLaws.{least-above, least-each}
 use Rattle.hy_commands.proofs.OnceLaws.{tells-two}
-use Rattle.hy_store.specs.declared.keys.WaitingKey.{WaitingKey}
-use Rattle.hy_store.specs.Keys.{is_lesser_waiting}
+use Rattle.hy_indexes.specs.of_store.declared.keys.WaitingKey.{WaitingKey}
+use Rattle.hy_indexes.specs.of_store.Keys.{is_lesser_waiting}
 use Rattle.hy_layout.specs.Finds.{IsIn}
 use Rattle.hy_indexes.specs.Finds.{IsIndexOf}
 use Rattle.hy_indexes.specs.Indexes.{waiting_key_at}

@@ -5,7 +5,7 @@ use Rattle.std.proofs.lemmas.Option.{get_or_from_slice_get, slice_get_within}
 use Rattle.hy_space.specs.Space.{SpaceState}
 use Rattle.hy_undo.specs.UndoLog.{UndoLog}
 use Rattle.hy_undo.proofs.PrivatePageLaws.{SameForChildren-then}
-use Rattle.hy_store.specs.Writes.{WritesStore}
+use Rattle.hy_indexes.specs.of_store.Writes.{WritesStore}
 
 pub writes-then : {n : ℕ} {old mid new : SpaceState} {before between after : UndoLog} → WritesStore n old mid before between
     → WritesStore n mid new between after → WritesStore n old new before after

@@ -8,15 +8,15 @@ use Rattle.hy_rows.specs.Limits.{max_lines}
 use Rattle.hy_commands.specs.Growth.{IsLineAmount}
 use Rattle.hy_schema.specs.Keys.{AreUnique}
 use Rattle.hy_schema.specs.Related.{is_line_of, lines_of}
-use Rattle.hy_index.specs.declared.key.Entry.{Entry}
-use Rattle.hy_index.specs.Index.{without}
+use Rattle.hy_indexes.specs.of_index.declared.key.Entry.{Entry}
+use Rattle.hy_indexes.specs.of_index.Index.{without}
 use Rattle.hy_commands.specs.declared.command.Delivery.{Delivery}
 use Rattle.hy_commands.specs.Invariant.{line_key}
 use Rattle.hy_commands.specs.Deliveries.{customer_delivered, delivered_in, delivered_line, with_delivered}
 use Rattle.hy_commands.specs.Sorting.{with_all_changed}
-use Rattle.hy_store.specs.declared.keys.LineKey.{LineKey}
-use Rattle.hy_store.specs.Keys.{is_lesser_waiting}
-use Rattle.hy_store.specs.Stored.{Stored}
+use Rattle.hy_indexes.specs.of_store.declared.keys.LineKey.{LineKey}
+use Rattle.hy_indexes.specs.of_store.Keys.{is_lesser_waiting}
+use Rattle.hy_indexes.specs.of_store.Stored.{Stored}
 use Rattle.hy_indexes.specs.Finds.{IsIndexOf}
 use Rattle.hy_indexes.specs.Indexes.{HasIndexes, line_key_at}
 

@@ -13,7 +13,7 @@ use Rattle.hy_commands.specs.Payments.{customer_paid, noted, paid_by, paid_in}
 use Rattle.hy_commands.specs.Transactions.{payer}
 use Rattle.hy_layout.specs.Layout.{IsMeantAt, LayoutState}
 use Rattle.hy_schema.specs.Keys.{IsOneWarehouse}
-use Rattle.hy_store.specs.Stored.{Stored}
+use Rattle.hy_indexes.specs.of_store.Stored.{Stored}
 use Rattle.hy_writers.specs.Begun.{IsCustomerPayment, IsHomePayment}
 use Rattle.hy_writers.specs.Limits.{AreInBounds}
 

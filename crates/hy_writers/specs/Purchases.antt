@@ -7,7 +7,7 @@ use Rattle.hy_rows.specs.Limits.{max_items, max_lines, max_price, max_quantity}
 use Rattle.hy_rows.specs.Ranges.{IsBetween}
 use Rattle.hy_schema.specs.Keys.{AreUnique, IsOneWarehouse}
 use Rattle.hy_schema.specs.Related.{is_item}
-use Rattle.hy_index.specs.Index.{with_entry}
+use Rattle.hy_indexes.specs.of_index.Index.{with_entry}
 use Rattle.hy_commands.specs.declared.command.Purchase.{Purchase}
 use Rattle.hy_commands.specs.declared.command.PurchaseLine.{PurchaseLine}
 use Rattle.hy_commands.specs.Invariant.{stock_key}
@@ -15,9 +15,9 @@ use Rattle.hy_commands.specs.Growth.{IsStockUpTo}
 use Rattle.hy_commands.specs.NewOrders.{is_stock, new_order_row, order_number, sold}
 use Rattle.hy_layout.specs.Layout.{KeepsPlaces, LayoutState, own_rows}
 use Rattle.hy_slices.specs.Slices.{headed, headed_number, lined}
-use Rattle.hy_store.specs.Keys.{is_lesser_customer, is_lesser_line, is_lesser_order, is_lesser_waiting}
-use Rattle.hy_store.specs.Changes.{with_new_order}
-use Rattle.hy_store.specs.Stored.{Stored}
+use Rattle.hy_indexes.specs.of_store.Keys.{is_lesser_customer, is_lesser_line, is_lesser_order, is_lesser_waiting}
+use Rattle.hy_indexes.specs.of_store.Changes.{with_new_order}
+use Rattle.hy_indexes.specs.of_store.Stored.{Stored}
 use Rattle.hy_writers.specs.Begun.{IsBegunLine, IsBegunPurchase}
 use Rattle.hy_writers.specs.Limits.{AreInBounds, most_applied}
 

@@ -7,16 +7,16 @@ use Rattle.hy_rows.specs.Rows.{order_of}
 use Rattle.hy_rows.specs.Tables.{Tables}
 use Rattle.hy_schema.specs.Related.{is_order}
 use Rattle.hy_relation.specs.Relation.{row_in}
-use Rattle.hy_index.specs.declared.key.Entry.{Entry}
+use Rattle.hy_indexes.specs.of_index.declared.key.Entry.{Entry}
 use Rattle.hy_commands.specs.declared.command.Delivery.{Delivery}
 use Rattle.hy_commands.specs.Deliveries.{oldest}
 use Rattle.hy_commands.specs.Invariant.{IsSoundWarehouse}
 use Rattle.hy_layout.specs.Layout.{KeepsPlaces, LayoutState, own_rows}
-use Rattle.hy_store.specs.declared.keys.WaitingKey.{WaitingKey}
-use Rattle.hy_store.specs.Changes.{without_new_order}
-use Rattle.hy_store.specs.Keys.{is_lesser_waiting}
-use Rattle.hy_store.specs.Stored.{Stored}
-use Rattle.hy_index.specs.Index.{without}
+use Rattle.hy_indexes.specs.of_store.declared.keys.WaitingKey.{WaitingKey}
+use Rattle.hy_indexes.specs.of_store.Changes.{without_new_order}
+use Rattle.hy_indexes.specs.of_store.Keys.{is_lesser_waiting}
+use Rattle.hy_indexes.specs.of_store.Stored.{Stored}
+use Rattle.hy_indexes.specs.of_index.Index.{without}
 use Rattle.hy_indexes.specs.Indexes.{HasIndexes, waiting_key_at}
 use Rattle.hy_writers.specs.Deliveries.{with_delivery}
 use Rattle.hy_writers.specs.Limits.{AreInBounds}

@@ -15,7 +15,7 @@ use Rattle.hy_rows.specs.declared.warehouse.Warehouse.{Warehouse}
 use Rattle.hy_rows.specs.Rows.{customer_with as customer_of_values}
 use Rattle.hy_rows.specs.Tables.{no_rows}
 use Rattle.hy_rows.specs.Texts.{text_of}
-use Rattle.hy_index.specs.declared.key.Entry.{Entry}
+use Rattle.hy_indexes.specs.of_index.declared.key.Entry.{Entry}
 use Rattle.hy_commands.specs.declared.command.Delivery.{Delivery}
 use Rattle.hy_commands.specs.declared.command.Payment.{Payment}
 use Rattle.hy_commands.specs.declared.command.Purchase.{Purchase}
@@ -23,11 +23,11 @@ use Rattle.hy_commands.specs.declared.command.PurchaseLine.{PurchaseLine}
 use Rattle.hy_commands.specs.declared.command.Who.TheVariants as who
 use Rattle.hy_commands.specs.declared.edition.Edition.TheVariants as editions
 use Rattle.hy_commands.specs.Deliveries.{oldest}
-use Rattle.hy_store.specs.declared.keys.CustomerKey.{CustomerKey}
-use Rattle.hy_store.specs.declared.keys.LineKey.{LineKey}
-use Rattle.hy_store.specs.declared.keys.OrderKey.{OrderKey}
-use Rattle.hy_store.specs.declared.keys.WaitingKey.{WaitingKey}
-use Rattle.hy_store.specs.Stored.{Stored}
+use Rattle.hy_indexes.specs.of_store.declared.keys.CustomerKey.{CustomerKey}
+use Rattle.hy_indexes.specs.of_store.declared.keys.LineKey.{LineKey}
+use Rattle.hy_indexes.specs.of_store.declared.keys.OrderKey.{OrderKey}
+use Rattle.hy_indexes.specs.of_store.declared.keys.WaitingKey.{WaitingKey}
+use Rattle.hy_indexes.specs.of_store.Stored.{Stored}
 use Rattle.hy_writers.specs.Deliveries.{is_listed, lines_at, walked, with_delivery}
 use Rattle.hy_writers.specs.Information.{ended}
 use Rattle.hy_writers.specs.Payments.{history_for, with_customer_paid, with_home_paid, with_noted}

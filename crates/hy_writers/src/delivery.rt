@@ -7,19 +7,19 @@ ghost use Rattle.hy_rows.specs.Ranges.{IsBetween};
 ghost use Rattle.hy_commands.specs.Growth.{IsLineAmount};
 ghost use Rattle.hy_space.specs.Space.{owner_bytes};
 ghost use Rattle.hy_undo.specs.Writes.{IsOutOfFrames};
-ghost use Rattle.hy_index.specs.declared.key.Entry.{Entry};
+ghost use Rattle.hy_indexes.specs.of_index.declared.key.Entry.{Entry};
 ghost use Rattle.hy_commands.specs.Deliveries.{carried, customer_delivered, oldest, order_cents};
-ghost use Rattle.hy_index.specs.Index.{found};
+ghost use Rattle.hy_indexes.specs.of_index.Index.{found};
 ghost use Rattle.hy_relation.specs.Relation.{IsLive};
 ghost use Rattle.hy_commands.specs.Growth.{IsCustomerUpTo, max_order_cents};
 ghost use Rattle.hy_rows.specs.Finding.{is_customer};
 ghost use Rattle.std.specs.List.{list_any};
 ghost use Rattle.hy_commands.specs.declared.command.Who.{Who};
 ghost use Rattle.hy_layout.specs.Layout.{IsMeantAt, KeepsPlaces, own_rows};
-ghost use Rattle.hy_store.specs.Keys.{is_lesser_order};
-ghost use Rattle.hy_store.specs.Stored.{HasStore};
-ghost use Rattle.hy_store.specs.Writes.{ChangesStore, IsWritableStore, LeavesStore, WritesStore, stored_in};
-ghost use Rattle.hy_store.specs.declared.keys.LineKey.{LineKey};
+ghost use Rattle.hy_indexes.specs.of_store.Keys.{is_lesser_order};
+ghost use Rattle.hy_indexes.specs.of_store.Stored.{HasStore};
+ghost use Rattle.hy_indexes.specs.of_store.Writes.{ChangesStore, IsWritableStore, LeavesStore, WritesStore, stored_in};
+ghost use Rattle.hy_indexes.specs.of_store.declared.keys.LineKey.{LineKey};
 ghost use Rattle.hy_writers.specs.Limits.{most_applied};
 ghost use Rattle.hy_writers.specs.Deliveries.{ChargesCustomer, DeliversLine, DeliversOldest, HasLinesOf, places_of, walk_over, with_lines_of, with_walked};
 ghost use Rattle.hy_writers.specs.Accounts.{ChangesAccount, IsAccountOf};
@@ -28,14 +28,14 @@ ghost use Rattle.hy_writers.specs.Waiting.{IsOldest, IsSoundStore, IsWaiting, wi
 
 use hy_commands::Delivery;
 use hy_frames::Shortage;
-use hy_index::Entry;
-use hy_layout::Layout;
-use hy_rows::{CustomerAccount, Order, OrderLine};
-use hy_space::Space;
-use hy_store::{
+use hy_indexes::hy_index::Entry;
+use hy_indexes::hy_store::{
     LineKey, OrderKey, WaitingKey, erase_new_order, find_slot, first_entry, know_entries,
     know_store, part_at, put_part, put_row, read_entries, remove_entry, row_at,
 };
+use hy_layout::Layout;
+use hy_rows::{CustomerAccount, Order, OrderLine};
+use hy_space::Space;
 use hy_undo::Undo;
 
 /// Gives the order line at a place its delivery date, and answers the line as it was.

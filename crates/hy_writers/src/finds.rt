@@ -10,14 +10,14 @@ ghost use Rattle.hy_space.specs.Space.{owner_bytes};
 ghost use Rattle.hy_commands.specs.Invariant.{stock_key};
 ghost use Rattle.hy_commands.specs.NewOrders.{is_stock};
 ghost use Rattle.hy_layout.specs.Layout.{KeepsPlaces, own_rows};
-ghost use Rattle.hy_store.specs.Stored.{HasStore};
-ghost use Rattle.hy_store.specs.Writes.{stored_in};
+ghost use Rattle.hy_indexes.specs.of_store.Stored.{HasStore};
+ghost use Rattle.hy_indexes.specs.of_store.Writes.{stored_in};
 ghost use Rattle.hy_writers.specs.Changes.{IsFoundAt};
 
+use hy_indexes::hy_store::{row_at, row_bytes_at};
 use hy_layout::Layout;
 use hy_rows::{District, Stock, Warehouse};
 use hy_space::Space;
-use hy_store::{row_at, row_bytes_at};
 
 /// The row of WAREHOUSE.
 pub(crate) fn own_warehouse<const N: usize>(layout: &Layout, space: &Space<N>) -> Warehouse

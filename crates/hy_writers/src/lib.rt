@@ -12,3 +12,7 @@ pub use delivery::deliver_in;
 pub use finds::{own_district, own_next_order};
 pub use payment::{pay_customer, pay_home};
 pub use purchase::{add_line, add_order, purchase_total, sell_line};
+
+// what stands below, for the crates above
+pub use hy_indexes;
+pub use hy_indexes::{hy_index, hy_store};

@@ -10,7 +10,7 @@ ghost use Rattle.hy_commands.specs.declared.reply.Reply.{Reply};
 ghost use Rattle.hy_commands.specs.Growth.{IsCustomerUpTo, IsDistrictUpTo, IsMoneyUpTo, IsWarehouseUpTo};
 ghost use Rattle.hy_commands.specs.Payments.{district_paid, warehouse_paid};
 ghost use Rattle.hy_commands.specs.Transactions.{payer};
-ghost use Rattle.hy_store.specs.Writes.{ChangesStore, IsWritableStore, WritesStore, stored_in};
+ghost use Rattle.hy_indexes.specs.of_store.Writes.{ChangesStore, IsWritableStore, WritesStore, stored_in};
 ghost use Rattle.hy_writers.specs.Accounts.{ChangesAccount, IsAccountOf};
 ghost use Rattle.hy_writers.specs.Begun.{IsHomePayment};
 ghost use Rattle.hy_writers.specs.Limits.{most_applied};
@@ -21,10 +21,10 @@ use crate::information::{CustomerInformation, noted};
 use arrayvec::ArrayVec;
 use hy_commands::{Edition, Payment, Reply};
 use hy_frames::Shortage;
+use hy_indexes::hy_store::{part_at, push_row, put_part, put_row};
 use hy_layout::Layout;
 use hy_rows::{CustomerAccount, CustomerNumber, District, History, Text, Warehouse};
 use hy_space::Space;
-use hy_store::{part_at, push_row, put_part, put_row};
 use hy_undo::Undo;
 
 /// An amount that rises by some cents.

@@ -11,8 +11,8 @@ ghost use Rattle.hy_commands.specs.Growth.{IsDistrictUpTo, IsStockUpTo, max_orde
 ghost use Rattle.hy_commands.specs.NewOrders.{has_item, is_all_local, line_cents, new_order_row, order_row, purchase_cents, purchase_total, quantity_left, sold, total_of, with_next_order};
 ghost use Rattle.hy_commands.proofs.GrowthLaws.{ItemsFit};
 ghost use Rattle.hy_layout.specs.Layout.{IsMeantAt};
-ghost use Rattle.hy_store.specs.Stored.{HasStore};
-ghost use Rattle.hy_store.specs.Writes.{ChangesStore, IsWritableStore, WritesStore, stored_in};
+ghost use Rattle.hy_indexes.specs.of_store.Stored.{HasStore};
+ghost use Rattle.hy_indexes.specs.of_store.Writes.{ChangesStore, IsWritableStore, WritesStore, stored_in};
 ghost use Rattle.hy_writers.specs.Begun.{IsBegunLine, IsBegunPurchase};
 ghost use Rattle.hy_writers.specs.Limits.{most_applied};
 ghost use Rattle.hy_writers.specs.Purchases.{CanAddLine, CanAddOrder, CanSellLine, line_for, with_line_sold, with_order, with_order_entries, with_order_line, with_waiting};
@@ -20,13 +20,13 @@ ghost use Rattle.hy_writers.specs.Purchases.{CanAddLine, CanAddOrder, CanSellLin
 use crate::finds::{own_district, own_district_tax, own_next_order, own_stock, own_tax};
 use hy_commands::{Purchase, PurchaseLine, PurchaseLines};
 use hy_frames::Shortage;
-use hy_layout::Layout;
-use hy_rows::{CustomerDiscount, District, Item, NewOrder, Order, OrderLine, Stock};
-use hy_space::Space;
-use hy_store::{
+use hy_indexes::hy_store::{
     CustomerKey, LineKey, OrderKey, WaitingKey, insert_entry, part_at, push_new_order, push_row,
     put_row,
 };
+use hy_layout::Layout;
+use hy_rows::{CustomerDiscount, District, Item, NewOrder, Order, OrderLine, Stock};
+use hy_space::Space;
 use hy_undo::Undo;
 
 /// A district after an order.

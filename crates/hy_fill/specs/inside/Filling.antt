@@ -1,11 +1,11 @@
 -- Pages that are being filled.
 use Rattle.std.specs.Prelude.{◌≡◌, ℕ, Bool, if◌then◌else◌, List, [], ◌∷◌, ◌++◌, length, map, Option, Some}
-use Rattle.hy_index.specs.declared.key.Entry.{Entry}
+use Rattle.hy_indexes.specs.of_index.declared.key.Entry.{Entry}
 use Rattle.hy_rows.specs.declared.new_order.NewOrder.{NewOrder}
 use Rattle.hy_rows.specs.Tables.{Tables}
 use Rattle.hy_space.specs.Space.{SpaceState, owner_bytes}
-use Rattle.hy_store.specs.Pages.{HasPagesUpTo}
-use Rattle.hy_store.specs.Stored.{Stored, nothing_stored}
+use Rattle.hy_indexes.specs.of_store.Pages.{HasPagesUpTo}
+use Rattle.hy_indexes.specs.of_store.Stored.{Stored, nothing_stored}
 use Rattle.hy_layout.specs.Finds.{IsIn}
 use Rattle.hy_fill.specs.Frames.{most_of}
 

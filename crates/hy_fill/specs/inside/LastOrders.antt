@@ -1,11 +1,11 @@
 -- The index of last orders, while one order after another is given to it.
 use Rattle.std.specs.Prelude.{◌≡◌, ℕ, ◌≤◌, nat_lt, Bool, false, if◌then◌else◌, List, Option, Some, None, slice_get}
 use Rattle.hy_rows.specs.declared.order.Order.{Order}
-use Rattle.hy_index.specs.declared.key.Entry.{Entry}
-use Rattle.hy_index.specs.Index.{found, with_entry}
-use Rattle.hy_store.specs.declared.keys.CustomerKey.{CustomerKey}
-use Rattle.hy_store.specs.Keys.{is_lesser_customer}
-use Rattle.hy_store.specs.Stored.{Stored}
+use Rattle.hy_indexes.specs.of_index.declared.key.Entry.{Entry}
+use Rattle.hy_indexes.specs.of_index.Index.{found, with_entry}
+use Rattle.hy_indexes.specs.of_store.declared.keys.CustomerKey.{CustomerKey}
+use Rattle.hy_indexes.specs.of_store.Keys.{is_lesser_customer}
+use Rattle.hy_indexes.specs.of_store.Stored.{Stored}
 use Rattle.hy_layout.specs.Finds.{IsIn}
 
 -- the number of the order at a place

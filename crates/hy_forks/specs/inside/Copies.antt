@@ -5,8 +5,8 @@ use Rattle.hy_rows.specs.Tables.{Lists}
 use Rattle.hy_commands.specs.declared.command.Commit.{Commit}
 use Rattle.hy_commands.specs.declared.command.Commit.TheVariants as commits
 use Rattle.hy_batches.specs.Grammar.{fits}
-use Rattle.hy_partition.specs.Limits.{most_kept}
-use Rattle.hy_partition.specs.Partition.{is_new, may_be_kept}
+use Rattle.hy_crossing.specs.of_partition.Limits.{most_kept}
+use Rattle.hy_crossing.specs.of_partition.Partition.{is_new, may_be_kept}
 
 -- whether the number of a commit, where it has one, is at least 1, and whether 64 bits tell it
 abbrev pub counts_from_one : Commit → Bool

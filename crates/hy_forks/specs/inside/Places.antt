@@ -6,10 +6,10 @@ use Rattle.hy_schema.specs.declared.refusal.Refusal.TheVariants as refusals
 use Rattle.hy_frames.specs.FrameTable.{free_of}
 use Rattle.hy_space.specs.Space.{CountsAreExact}
 use Rattle.hy_undo.specs.Touched.{touched}
-use Rattle.hy_partition.specs.Jobs.{Log}
-use Rattle.hy_partition.specs.Partition.{PartitionState}
-use Rattle.hy_partition.specs.Snapshots.{SnapshotState}
-use Rattle.hy_partition.specs.Steps.{Closes, Forks, ForksFrom, StaysUnforked, is_from}
+use Rattle.hy_crossing.specs.of_partition.Jobs.{Log}
+use Rattle.hy_crossing.specs.of_partition.Partition.{PartitionState}
+use Rattle.hy_crossing.specs.of_partition.Snapshots.{SnapshotState}
+use Rattle.hy_crossing.specs.of_partition.Steps.{Closes, Forks, ForksFrom, StaysUnforked, is_from}
 
 -- a partition whose counts of frames were exact was forked
 pub record ForksExactly (n : ℕ) (kit : Origin) (log known : Log) (snapshot : SnapshotState)

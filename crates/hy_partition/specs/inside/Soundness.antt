@@ -14,8 +14,8 @@ use Rattle.hy_slices.specs.Slices.{slice_count}
 use Rattle.hy_space.specs.Space.{SpaceState, owner_bytes}
 use Rattle.hy_undo.specs.UndoLog.{UndoLog, undone, empty_log}
 use Rattle.hy_undo.specs.PrivatePages.{IsUndoLog}
-use Rattle.hy_store.specs.Stored.{HasStore, stored}
-use Rattle.hy_indexes.specs.Indexes.{HasIndexes}
+use Rattle.hy_tpcc.specs.Stored.{HasStore, stored}
+use Rattle.hy_tpcc.specs.Indexes.{HasIndexes}
 use Rattle.hy_tpcc.specs.Executor.{ExecutorState, IsUnderWay}
 use Rattle.hy_tpcc.specs.Parts.{HasPart}
 use Rattle.hy_partition.specs.Accounts.{IsBookOf}

@@ -12,9 +12,9 @@ use Rattle.hy_commands.specs.Commands.{warehouses_of}
 use Rattle.hy_commands.specs.Parts.{is_by_number}
 use Rattle.hy_batches.specs.Batches.{Batch}
 use Rattle.hy_batches.specs.Grammar.{commit_fits, is_allowed, names}
-use Rattle.hy_partition.specs.Jobs.{Log}
-use Rattle.hy_partition.specs.Partition.{PartitionState, commits_of, replays, terms_of}
-use Rattle.hy_tpcc.specs.Shortages.{adds_no_page}
+use Rattle.hy_forks.specs.of_partition.Jobs.{Log}
+use Rattle.hy_forks.specs.of_partition.Partition.{PartitionState, commits_of, replays, terms_of}
+use Rattle.hy_forks.specs.of_tpcc.Shortages.{adds_no_page}
 pub use Rattle.hy_forks.specs.Logged.{crossings_in}
 use Rattle.hy_sound.specs.Sound.{is_known}
 use Rattle.hy_sound.specs.Merges.{MergeState, count_of, left_of}

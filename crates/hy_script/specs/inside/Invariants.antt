@@ -3,10 +3,10 @@ use Rattle.std.specs.Prelude.{◌≡◌, ⊤, ◌+◌, ◌≤◌, ℕ, suc, List
 use Rattle.hy_worlds.specs.Origins.{Origin, desk_of}
 use Rattle.hy_passes.specs.Worlds.{PassState}
 use Rattle.hy_commands.specs.declared.command.Commit.{Commit}
-use Rattle.hy_partition.specs.Partition.{PartitionState, terms_of}
-use Rattle.hy_partition.specs.Snapshots.{SnapshotState}
+use Rattle.hy_session.specs.of_partition.Partition.{PartitionState, terms_of}
+use Rattle.hy_session.specs.of_partition.Snapshots.{SnapshotState}
 use Rattle.hy_rows.specs.Tables.{Lists}
-use Rattle.hy_crossing.specs.Crossings.{ArePartitions, HaveNoPart}
+use Rattle.hy_session.specs.of_crossing.Crossings.{ArePartitions, HaveNoPart}
 use Rattle.hy_script.specs.declared.terminal.Terminal.{Terminal}
 use Rattle.hy_script.specs.Databases.{OpenSnapshot}
 

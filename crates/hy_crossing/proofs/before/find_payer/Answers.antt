@@ -1,7 +1,7 @@
 use Rattle.std.proofs.Common.{◌≡◌, suc, ◌-◌, ◌<◌, true, length, slice_index_or, sym, ◌∙◌, subst, arith}
 use Rattle.hy_rows.proofs.BetweenLaws.{bounds}
 use Rattle.hy_commands.specs.Parts.{customer_home_of}
-use Rattle.hy_tpcc.specs.Parts.{FindsPayer}
+use Rattle.hy_partition.specs.Parts.{FindsPayer}
 use Rattle.hy_partition.specs.Partition.{PartitionState, rows_now}
 use Rattle.hy_crossing.specs.Crossings.{IsIdleIfNamed, IsPartition, is_named}
 use Rattle.hy_crossing.proofs.FullLaws.{set-same}

@@ -2,9 +2,8 @@ use Rattle.std.proofs.Common.{◌≡◌, true, ◌-◌, ◌<◌, length, inl, in
 use Rattle.hy_rows.proofs.BetweenLaws.{bounds}
 use Rattle.hy_schema.specs.declared.refusal.Refusal.TheVariants as refusals
 use Rattle.hy_commands.specs.declared.command.Command.{Command}
-use Rattle.hy_tpcc.specs.Parts.{HasPart}
 use Rattle.hy_partition.specs.Partition.{PartitionState, layout_of}
-use Rattle.hy_partition.specs.Parts.{DoesPart, HasNoPart, IsWhyUndone}
+use Rattle.hy_partition.specs.Parts.{DoesPart, HasNoPart, HasPart, IsWhyUndone}
 use Rattle.hy_crossing.specs.Crossings.{CanDoIfNamed, DoesHere, FailsHere, MayRunIfNamed}
 use Rattle.hy_crossing.specs.Lists.{ChangesAt}
 use Rattle.hy_crossing.proofs.DoingLaws.{as-before, err-both, err-given, ok-leads, untouched}

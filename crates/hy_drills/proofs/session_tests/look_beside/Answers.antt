@@ -5,8 +5,8 @@ use denote.Struct.Declared.{shape}
 use Rattle.std.proofs.Crossing.{crosses}
 use Rattle.hy_partition.specs.declared.world.Loaded
 use Rattle.hy_crossing.below.hy_worlds.specs.declared.world.World
-use Rattle.hy_engine.proofs.engine.Engine.TheSendSync as engine
-use Rattle.hy_session.proofs.SendLaws.{send}
+use Rattle.hy_storm.proofs.of_engine.engine.Engine.TheSendSync as engine
+use Rattle.hy_storm.proofs.of_session.SendLaws.{send}
 use Rattle.hy_drills.proofs.gates.Held.TheSendSync as held
 use Rattle.hy_drills.specs.contracts.session_tests.Opened
 use Rattle.hy_drills.proofs.session_tests.look_beside.Goals as goal

@@ -1,7 +1,7 @@
 use Rattle.std.proofs.Common.{lit<, length, slice_get, subst, sym, ap, arith}
 use Rattle.std.proofs.lemmas.Result.{on_ok_weaker}
 use Rattle.hy_rows.specs.Tables.{Tables}
-use Rattle.hy_store.specs.Writes.{stored_in}
+use Rattle.hy_indexes.specs.of_store.Writes.{stored_in}
 use Rattle.hy_layout.specs.Layout.{own_rows}
 use Rattle.hy_fill.specs.inside.Filling.{HasOneSlotEach, HasSameEntries}
 use Rattle.hy_fill.proofs.CountLaws.{stays-within}

@@ -1,6 +1,6 @@
 use Rattle.std.proofs.Common.{◌≡◌, ◌≤◌, length, take}
-use Rattle.hy_store.specs.Pages.{KeepsPagesUpTo}
-use Rattle.hy_store.specs.Writes.{IsWritableStore, stored_in}
+use Rattle.hy_indexes.specs.of_store.Pages.{KeepsPagesUpTo}
+use Rattle.hy_indexes.specs.of_store.Writes.{IsWritableStore, stored_in}
 use Rattle.hy_fill.specs.inside.Filling.{HasSameEntries, StaysOpen}
 use Rattle.hy_fill.proofs.entries.insert_entries.Given as goal
 

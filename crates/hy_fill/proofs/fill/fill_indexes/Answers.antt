@@ -1,5 +1,5 @@
 use Rattle.hy_layout.specs.Layout.{own_rows}
-use Rattle.hy_store.specs.Writes.{stored_in}
+use Rattle.hy_indexes.specs.of_store.Writes.{stored_in}
 use Rattle.hy_fill.proofs.FilledLaws.{has_indexes}
 use Rattle.hy_fill.proofs.fill.fill_indexes.Goals as goal
 

@@ -6,9 +6,9 @@ use Rattle.hy_rows.specs.declared.order_line.OrderLine.{OrderLine}
 use Rattle.hy_schema.specs.Loads.{IsLoad}
 use Rattle.hy_layout.specs.Layout.{own_rows}
 use Rattle.hy_commands.specs.Invariant.{IsSoundWarehouse, line_key, new_order_key, order_key}
-use Rattle.hy_store.specs.declared.keys.LineKey.{LineKey}
-use Rattle.hy_store.specs.declared.keys.OrderKey.{OrderKey}
-use Rattle.hy_store.specs.declared.keys.WaitingKey.{WaitingKey}
+use Rattle.hy_indexes.specs.of_store.declared.keys.LineKey.{LineKey}
+use Rattle.hy_indexes.specs.of_store.declared.keys.OrderKey.{OrderKey}
+use Rattle.hy_indexes.specs.of_store.declared.keys.WaitingKey.{WaitingKey}
 use Rattle.hy_layout.specs.Finds.{IsIn}
 use Rattle.hy_indexes.specs.Indexes.{line_key_at, order_key_at, waiting_key_at}
 use Rattle.hy_fill.proofs.EntryLaws.{unique-apart}

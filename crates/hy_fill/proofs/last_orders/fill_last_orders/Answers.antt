@@ -1,8 +1,8 @@
 use Rattle.std.proofs.Common.{lit<, length, slice_get, subst, sym, ap, arith}
 use Rattle.hy_indexes.specs.Finds.{IsIndexOf}
 use Rattle.hy_indexes.specs.Indexes.{buyer_key_at}
-use Rattle.hy_store.specs.Stored.{last_order_index}
-use Rattle.hy_store.specs.Writes.{stored_in}
+use Rattle.hy_indexes.specs.of_store.Stored.{last_order_index}
+use Rattle.hy_indexes.specs.of_store.Writes.{stored_in}
 use Rattle.hy_layout.specs.Layout.{own_rows}
 use Rattle.hy_fill.proofs.CountLaws.{stays-within}
 use Rattle.hy_fill.proofs.last_orders.fill_last_orders.Goals as goal

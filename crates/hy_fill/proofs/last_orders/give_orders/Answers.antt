@@ -2,10 +2,10 @@ use Rattle.std.proofs.Common.{rules, ◌≡◌, ◌++◌, ◌∷◌, [], ℕ, �
 use Rattle.std.proofs.lemmas.List.{take_all, take_more}
 use Rattle.std.proofs.lemmas.Option.{slice_get-get_or}
 use Rattle.hy_rows.specs.declared.order.Order.{Order}
-use Rattle.hy_index.specs.declared.key.Entry.{Entry}
-use Rattle.hy_store.specs.declared.keys.CustomerKey.{CustomerKey}
-use Rattle.hy_store.specs.Stored.{Stored, last_order_index}
-use Rattle.hy_store.specs.Writes.{stored_in}
+use Rattle.hy_indexes.specs.of_index.declared.key.Entry.{Entry}
+use Rattle.hy_indexes.specs.of_store.declared.keys.CustomerKey.{CustomerKey}
+use Rattle.hy_indexes.specs.of_store.Stored.{Stored, last_order_index}
+use Rattle.hy_indexes.specs.of_store.Writes.{stored_in}
 use Rattle.hy_layout.specs.Finds.{IsIn}
 use Rattle.hy_indexes.specs.Indexes.{AreLastOrders}
 use Rattle.hy_fill.specs.inside.LastOrders.{AreLastOf, with_order}

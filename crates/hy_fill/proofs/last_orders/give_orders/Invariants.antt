@@ -1,7 +1,7 @@
 use Rattle.std.proofs.Common.{◌≡◌, ◌≤◌, length, take}
-use Rattle.hy_store.specs.Pages.{KeepsPagesUpTo}
-use Rattle.hy_store.specs.Stored.{last_order_index}
-use Rattle.hy_store.specs.Writes.{IsWritableStore, stored_in}
+use Rattle.hy_indexes.specs.of_store.Pages.{KeepsPagesUpTo}
+use Rattle.hy_indexes.specs.of_store.Stored.{last_order_index}
+use Rattle.hy_indexes.specs.of_store.Writes.{IsWritableStore, stored_in}
 use Rattle.hy_fill.specs.inside.Filling.{StaysOpen}
 use Rattle.hy_fill.specs.inside.LastOrders.{AreLastOf}
 use Rattle.hy_fill.proofs.last_orders.give_orders.Given as goal

@@ -1,8 +1,8 @@
 use Rattle.std.proofs.Common.{ℕ, ◌==◌, filter, refl}
 use Rattle.hy_rows.specs.Tables.{Tables}
 use Rattle.hy_rows.specs.declared.new_order.NewOrder.{NewOrder}
-use Rattle.hy_store.specs.Stored.{new_order_segment}
-use Rattle.hy_store.specs.Writes.{stored_in}
+use Rattle.hy_indexes.specs.of_store.Stored.{new_order_segment}
+use Rattle.hy_indexes.specs.of_store.Writes.{stored_in}
 use Rattle.hy_layout.specs.Layout.{own_rows}
 use Rattle.hy_fill.proofs.CountLaws.{filled-within, own-passed}
 use Rattle.hy_fill.proofs.rows.fill_new_orders.Goals as goal

@@ -1,6 +1,6 @@
 use Rattle.std.proofs.Common.{filter}
 use Rattle.hy_rows.specs.Tables.{Tables}
-use Rattle.hy_store.specs.Writes.{stored_in}
+use Rattle.hy_indexes.specs.of_store.Writes.{stored_in}
 use Rattle.hy_layout.specs.Layout.{own_rows}
 use Rattle.hy_fill.specs.Frames.{entry_counts}
 use Rattle.hy_fill.proofs.CountLaws.{filled-within, own-passed}

@@ -1,8 +1,8 @@
 use Rattle.std.proofs.Common.{rules, ◌==◌, ◌∷◌, [], ℕ, Bool, List, take, filter, get_or, refl, ap, ◌∙◌}
 use Rattle.std.proofs.lemmas.List.{take_all}
 use Rattle.hy_rows.specs.declared.new_order.NewOrder.{NewOrder}
-use Rattle.hy_store.specs.Stored.{Stored}
-use Rattle.hy_store.specs.Writes.{stored_in}
+use Rattle.hy_indexes.specs.of_store.Stored.{Stored}
+use Rattle.hy_indexes.specs.of_store.Writes.{stored_in}
 use Rattle.hy_fill.specs.inside.Filling.{with_new_orders}
 use Rattle.hy_fill.proofs.CountLaws.{new_orders-then}
 use Rattle.hy_fill.proofs.RowLaws.{new_orders-more, passed-more}

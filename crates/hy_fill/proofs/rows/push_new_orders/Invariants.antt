@@ -1,7 +1,7 @@
 use Rattle.std.proofs.Common.{◌≡◌, ◌==◌, ◌+◌, take, filter, length}
-use Rattle.hy_store.specs.Stored.{new_order_segment}
-use Rattle.hy_store.specs.Pages.{KeepsPagesUpTo}
-use Rattle.hy_store.specs.Writes.{IsWritableStore, stored_in}
+use Rattle.hy_indexes.specs.of_store.Stored.{new_order_segment}
+use Rattle.hy_indexes.specs.of_store.Pages.{KeepsPagesUpTo}
+use Rattle.hy_indexes.specs.of_store.Writes.{IsWritableStore, stored_in}
 use Rattle.hy_fill.specs.inside.Filling.{StaysOpen, with_new_orders}
 use Rattle.hy_fill.proofs.rows.push_new_orders.Given as goal
 

@@ -1,6 +1,6 @@
 use Rattle.std.proofs.Common.{◌==◌, sym, ◌∙◌}
 use Rattle.hy_rows.specs.declared.new_order.NewOrder.{NewOrder}
-use Rattle.hy_store.specs.Stored.{new_order_segment}
+use Rattle.hy_indexes.specs.of_store.Stored.{new_order_segment}
 use Rattle.hy_fill.proofs.CountLaws.{keeps-own}
 use Rattle.hy_fill.proofs.rows.push_own_new_order.Goals as goal
 

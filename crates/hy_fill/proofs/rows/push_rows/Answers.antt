@@ -1,7 +1,7 @@
 use Rattle.std.proofs.Common.{rules, ◌∷◌, [], ℕ, take, filter, ap, ◌∙◌}
 use Rattle.std.proofs.lemmas.List.{take_all}
-use Rattle.hy_store.specs.Stored.{Stored}
-use Rattle.hy_store.specs.Writes.{stored_in}
+use Rattle.hy_indexes.specs.of_store.Stored.{Stored}
+use Rattle.hy_indexes.specs.of_store.Writes.{stored_in}
 use Rattle.hy_fill.specs.inside.Filling.{with_more}
 use Rattle.hy_fill.proofs.CountLaws.{rows-then}
 use Rattle.hy_fill.proofs.RowLaws.{passed-more, pushed-more}

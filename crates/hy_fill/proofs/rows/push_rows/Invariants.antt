@@ -1,6 +1,6 @@
 use Rattle.std.proofs.Common.{◌≡◌, ◌+◌, take, filter, length}
-use Rattle.hy_store.specs.Pages.{KeepsPagesUpTo}
-use Rattle.hy_store.specs.Writes.{IsWritableStore, stored_in}
+use Rattle.hy_indexes.specs.of_store.Pages.{KeepsPagesUpTo}
+use Rattle.hy_indexes.specs.of_store.Writes.{IsWritableStore, stored_in}
 use Rattle.hy_fill.specs.inside.Filling.{StaysOpen, with_more}
 use Rattle.hy_fill.proofs.rows.push_rows.Given as goal
 

@@ -1,6 +1,6 @@
 use Rattle.std.proofs.Common.{◌∙◌, ◌<◌, List, length, slice_index_or, arith, ap, sym}
 use Rattle.std.proofs.lemmas.Bool.{false_from_ne_true}
-use Rattle.hy_partition.specs.Partition.{PartitionState}
+use Rattle.hy_crossing.specs.of_partition.Partition.{PartitionState}
 use Rattle.hy_crossing.proofs.FullLaws.{set-same}
 use Rattle.hy_forks.specs.Forks.{are_from}
 use Rattle.hy_forks.proofs.CloseLaws.{from-lengths, from-passes}

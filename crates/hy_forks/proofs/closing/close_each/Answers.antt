@@ -3,7 +3,7 @@ use Rattle.std.specs.Prelude.{IsSomeAnd, slice_get}
 use Rattle.std.proofs.lemmas.List.{length_push}
 use mathlib.Core.List.{IsPrefix}
 use Rattle.hy_passes.proofs.Beginnings.{begins_itself, begins_through}
-use Rattle.hy_partition.specs.Snapshots.{SnapshotState}
+use Rattle.hy_crossing.specs.of_partition.Snapshots.{SnapshotState}
 use Rattle.hy_crossing.specs.Lists.{ChangesAt, Pairwise}
 use Rattle.hy_crossing.specs.Pairs.{Before}
 use Rattle.hy_forks.specs.inside.Places.{ClosesExactly, ClosesExactlyHere, From, IsOf}

@@ -1,9 +1,9 @@
 use Rattle.std.proofs.Common.{◌≡◌, ◌+◌, ◌<◌, ℕ, suc, true, List, [], ◌∷◌, ◌++◌, drop, length, map, take, Global, Vec, sym, ap, ap₂, ◌∙◌, subst, arith}
 use Rattle.std.specs.Prelude.{slice_index_or}
 use Rattle.std.proofs.lemmas.List.{length-map, length-take-le, map-append}
-use Rattle.hy_partition.specs.Jobs.{Log}
+use Rattle.hy_crossing.specs.of_partition.Jobs.{Log}
 use Rattle.hy_commands.specs.declared.command.Commit.{Commit}
-use Rattle.hy_partition.specs.Partition.{PartitionState, projection_of}
+use Rattle.hy_crossing.specs.of_partition.Partition.{PartitionState, projection_of}
 use Rattle.hy_crossing.specs.Crossings.{IsPartition}
 use Rattle.hy_crossing.proofs.FullLaws.{set-same}
 use Rattle.hy_crossing.proofs.PlaceLaws.{get-at, holds-at}

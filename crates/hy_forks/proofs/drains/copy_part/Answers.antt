@@ -1,5 +1,5 @@
 use Rattle.std.proofs.Common.{◌≡◌, ◌≤◌, true, drop, length, ap, ◌∙◌, arith}
-use Rattle.hy_partition.specs.Limits.{most_kept}
+use Rattle.hy_crossing.specs.of_partition.Limits.{most_kept}
 use Rattle.hy_forks.specs.inside.Copies.{is_drained}
 use Rattle.hy_forks.proofs.DrainLaws.{take-rest}
 use Rattle.hy_forks.proofs.LoggedLaws.{part-drained}

@@ -1,7 +1,7 @@
 use Rattle.std.proofs.Common.{◌≡◌, ap, ◌∙◌, arith, subst}
 use mathlib.Core.List.{IsPrefix}
 use Rattle.hy_batches.specs.Batches.{Batch}
-use Rattle.hy_partition.specs.Jobs.{Log}
+use Rattle.hy_crossing.specs.of_partition.Jobs.{Log}
 use Rattle.hy_forks.specs.Drains.{TellsHere, drained_of}
 use Rattle.hy_forks.proofs.LoggedLaws.{drain-follows, drained-new, kept-numbered}
 use Rattle.hy_forks.proofs.RelationLaws.{pairs-length}

@@ -1,8 +1,8 @@
 use Rattle.std.proofs.Common.{◌≡◌, ◌-◌, ◌<◌, ◌≤◌, ℕ, suc, length, sym, ap, subst, arith}
 use Rattle.std.specs.Prelude.{Option, IfSome, slice_get}
 use Rattle.hy_worlds.specs.Origins.{replayed_of}
-use Rattle.hy_partition.specs.Jobs.{Log}
-use Rattle.hy_partition.specs.Partition.{PartitionState, projection_of}
+use Rattle.hy_crossing.specs.of_partition.Jobs.{Log}
+use Rattle.hy_crossing.specs.of_partition.Partition.{PartitionState, projection_of}
 use Rattle.hy_crossing.specs.Crossings.{IsPartition}
 use Rattle.hy_crossing.proofs.PlaceLaws.{get-some}
 use Rattle.hy_forks.specs.Drains.{TellsHere}

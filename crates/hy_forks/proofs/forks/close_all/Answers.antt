@@ -1,6 +1,6 @@
 use Rattle.std.proofs.Common.{◌∙◌, ◌+◌, List, length, arith, subst, sym}
-use Rattle.hy_partition.specs.Partition.{PartitionState}
-use Rattle.hy_partition.specs.Snapshots.{SnapshotState}
+use Rattle.hy_crossing.specs.of_partition.Partition.{PartitionState}
+use Rattle.hy_crossing.specs.of_partition.Snapshots.{SnapshotState}
 use Rattle.hy_crossing.specs.Lists.{Pairwise}
 use Rattle.hy_crossing.specs.Pairs.{Before}
 use Rattle.hy_forks.specs.inside.Places.{AreOf, ClosesExactlyHere}

@@ -2,9 +2,9 @@ use Rattle.std.proofs.Common.{◌≡◌, ◌∙◌, ◌+◌, ◌<◌, List, leng
 use Rattle.std.proofs.lemmas.List.{length_push}
 use Rattle.hy_passes.specs.Worlds.{PassState}
 use Rattle.hy_commands.specs.declared.command.Commit.{Commit}
-use Rattle.hy_partition.specs.Jobs.{Log, told}
-use Rattle.hy_partition.specs.Partition.{PartitionState}
-use Rattle.hy_partition.specs.Snapshots.{SnapshotState}
+use Rattle.hy_crossing.specs.of_partition.Jobs.{Log, told}
+use Rattle.hy_crossing.specs.of_partition.Partition.{PartitionState}
+use Rattle.hy_crossing.specs.of_partition.Snapshots.{SnapshotState}
 use Rattle.hy_crossing.specs.Crossings.{database_behind}
 use Rattle.hy_crossing.specs.Lists.{ChangesAt, Pairwise}
 use Rattle.hy_crossing.specs.Pairs.{Before}

@@ -1,5 +1,5 @@
 use Rattle.hy_crossing.specs.Lists.{ChangesAt}
-use Rattle.hy_partition.specs.Steps.{Forks}
+use Rattle.hy_crossing.specs.of_partition.Steps.{Forks}
 use Rattle.hy_forks.specs.inside.Places.{ForksExactly, RefusesFork}
 use Rattle.hy_forks.proofs.ResultLaws.{ok-map, refuses-fork}
 use Rattle.hy_forks.proofs.forks.fork_here.Goals as goal

@@ -2,7 +2,7 @@ use Rattle.std.proofs.Common.{◌∙◌, ◌<◌, ℕ, List, length, slice_index
 use Rattle.std.proofs.lemmas.Bool.{false≢true}
 use Rattle.hy_frames.specs.FrameTable.{free_of}
 use Rattle.hy_undo.specs.Touched.{touched}
-use Rattle.hy_partition.specs.Partition.{PartitionState}
+use Rattle.hy_crossing.specs.of_partition.Partition.{PartitionState}
 use Rattle.hy_crossing.proofs.BeforeLaws.{before-all, before-more}
 use Rattle.hy_crossing.proofs.FullLaws.{set-same}
 use Rattle.hy_crossing.proofs.PlaceLaws.{held-at}

@@ -1,7 +1,7 @@
 use Rattle.std.proofs.Common.{◌≡◌, ◌∙◌, ◌+◌, ◌<◌, true, List, length, map, ap, arith, subst, sym}
 use Rattle.std.proofs.lemmas.List.{length_push}
-use Rattle.hy_partition.specs.Partition.{PartitionState}
-use Rattle.hy_partition.specs.Snapshots.{SnapshotState}
+use Rattle.hy_crossing.specs.of_partition.Partition.{PartitionState}
+use Rattle.hy_crossing.specs.of_partition.Snapshots.{SnapshotState}
 use Rattle.hy_crossing.specs.Lists.{Pairwise}
 use Rattle.hy_crossing.specs.Pairs.{Before}
 use Rattle.hy_forks.specs.Forks.{AreOfKit, ForksAllFrom, IsUnforkedUntold, are_from, shown}

@@ -1,6 +1,6 @@
 use Rattle.std.proofs.Common.{◌∙◌, ◌+◌, ◌<◌, List, length, arith, subst, sym}
-use Rattle.hy_partition.specs.Jobs.{Log}
-use Rattle.hy_partition.specs.Partition.{PartitionState}
+use Rattle.hy_crossing.specs.of_partition.Jobs.{Log}
+use Rattle.hy_crossing.specs.of_partition.Partition.{PartitionState}
 use Rattle.hy_crossing.specs.Lists.{IsDoneUpTo}
 use Rattle.hy_crossing.proofs.TurnLaws.{done-end, done-more}
 use Rattle.hy_forks.specs.Drains.{TellsHere}

@@ -1,6 +1,6 @@
 use Rattle.std.proofs.Common.{◌≡◌, ◌<◌, List, length, slice_index_or, ap, ◌∙◌, arith}
 use Rattle.hy_worlds.specs.Origins.{replayed_of}
-use Rattle.hy_partition.specs.Partition.{PartitionState}
+use Rattle.hy_crossing.specs.of_partition.Partition.{PartitionState}
 use Rattle.hy_crossing.proofs.BeforeLaws.{before-all, before-more}
 use Rattle.hy_crossing.proofs.FullLaws.{set-same}
 use Rattle.hy_crossing.proofs.PlaceLaws.{held-at}

@@ -1,8 +1,8 @@
 use Rattle.std.proofs.Common.{◌≡◌, ℕ, List, [], ◌∷◌, ◌++◌, length, replicate, ap, refl, subst, ◌∙◌, arith}
 use Rattle.hy_space.specs.Space.{GrowsPage}
-use Rattle.hy_nodes.specs.Writes.{pages_of}
-use Rattle.hy_nodes.proofs.SpaceLaws.{length-pages_of}
-use Rattle.hy_nodes.proofs.WriteLaws.{pages-grown}
+use Rattle.hy_joins.specs.of_nodes.Writes.{pages_of}
+use Rattle.hy_joins.proofs.of_nodes.SpaceLaws.{length-pages_of}
+use Rattle.hy_joins.proofs.of_nodes.WriteLaws.{pages-grown}
 use Rattle.hy_index.proofs.IndexLaws.{empty-entries, empty-index}
 use Rattle.hy_index.proofs.Index.create.Goals as goal
 use Rattle.hy_index.proofs.Index.create.Given as given

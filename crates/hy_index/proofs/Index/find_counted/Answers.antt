@@ -1,8 +1,8 @@
 use Rattle.std.proofs.Common.{ℕ, List, ap, ◌∙◌, arith}
-use Rattle.hy_nodes.specs.declared.pages.Tree.{Tree}
+use Rattle.hy_joins.specs.of_nodes.declared.pages.Tree.{Tree}
 use Rattle.hy_index.specs.Writes.{leaf_items}
-use Rattle.hy_nodes.specs.Writes.{pages_of}
-use Rattle.hy_nodes.specs.Nodes.{nodes_of}
+use Rattle.hy_joins.specs.of_nodes.Writes.{pages_of}
+use Rattle.hy_joins.specs.of_nodes.Nodes.{nodes_of}
 use Rattle.hy_trees.specs.Trees.{height_of}
 use Rattle.hy_index.specs.Searches.{found_in}
 use Rattle.hy_index.proofs.IndexLaws.{found-index, height-entries}

@@ -1,10 +1,10 @@
 use Rattle.std.proofs.Common.{ℕ, ◌<◌, length, ap, sym, subst, ◌∙◌, arith}
-use Rattle.hy_nodes.specs.declared.pages.Tree.{Tree}
+use Rattle.hy_joins.specs.of_nodes.declared.pages.Tree.{Tree}
 use Rattle.hy_trees.specs.Trees.{entries_under}
 use Rattle.hy_trees.specs.Searches.{first_from}
 use Rattle.std.specs.Option.{option_map}
-use Rattle.hy_nodes.specs.Pages.{nodes_in}
-use Rattle.hy_nodes.specs.Ways.{HasTree}
+use Rattle.hy_joins.specs.of_nodes.Pages.{nodes_in}
+use Rattle.hy_joins.specs.of_nodes.Ways.{HasTree}
 use Rattle.hy_index.specs.Parts.{IsPartAt}
 use Rattle.hy_index.specs.Writes.{entry_of}
 use Rattle.hy_index.proofs.PartLaws.{whole-tree}

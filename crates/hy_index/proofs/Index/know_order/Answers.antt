@@ -1,5 +1,5 @@
-use Rattle.hy_nodes.specs.Writes.{pages_of}
-use Rattle.hy_nodes.proofs.ReachLaws.{some_least}
+use Rattle.hy_joins.specs.of_nodes.Writes.{pages_of}
+use Rattle.hy_joins.proofs.of_nodes.ReachLaws.{some_least}
 use Rattle.hy_index.proofs.IndexLaws.{in_order}
 use Rattle.hy_index.proofs.Index.know_order.Goals as goal
 

@@ -2,11 +2,11 @@ use Rattle.std.proofs.Common.{Bool, refl, subst, arith, inl, inr}
 use Rattle.std.specs.Prelude.{find}
 use Rattle.std.proofs.lemmas.Result.{on_ok_weaker}
 use Rattle.hy_trees.specs.Searches.{is_at}
-use Rattle.hy_nodes.specs.Pages.{page_in}
-use Rattle.hy_nodes.specs.Places.{IsSought}
-use Rattle.hy_nodes.specs.Ways.{entries_in}
-use Rattle.hy_nodes.proofs.ReachLaws.{reached-fits, reached-page}
-use Rattle.hy_nodes.proofs.SpaceLaws.{page_full}
+use Rattle.hy_joins.specs.of_nodes.Pages.{page_in}
+use Rattle.hy_joins.specs.of_nodes.Places.{IsSought}
+use Rattle.hy_joins.specs.of_nodes.Ways.{entries_in}
+use Rattle.hy_joins.proofs.of_nodes.ReachLaws.{reached-fits, reached-page}
+use Rattle.hy_joins.proofs.of_nodes.SpaceLaws.{page_full}
 use Rattle.hy_index.proofs.LeafLaws.{absent-sought, leaf-entries, none-some, numbered}
 use Rattle.hy_index.proofs.edit.insert.Goals as goal
 

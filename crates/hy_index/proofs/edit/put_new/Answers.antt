@@ -3,10 +3,10 @@ use Rattle.hy_page.specs.Bytes.{bytes_of}
 use Rattle.hy_page.proofs.ByteLaws.{length-bytes_of}
 use Rattle.std.proofs.lemmas.Result.{on_ok_weaker}
 use Rattle.hy_trees.specs.Nodes.{Item, node_at, with_more, with_node}
-use Rattle.hy_nodes.specs.Pages.{items_in, nodes_in, page_in}
-use Rattle.hy_nodes.specs.Nodes.{item_count}
+use Rattle.hy_joins.specs.of_nodes.Pages.{items_in, nodes_in, page_in}
+use Rattle.hy_joins.specs.of_nodes.Nodes.{item_count}
 use Rattle.hy_trees.specs.Nodes.{item_width}
-use Rattle.hy_nodes.proofs.ReachLaws.{capacity_fits, reached-count, reached-page}
+use Rattle.hy_joins.proofs.of_nodes.ReachLaws.{capacity_fits, reached-count, reached-page}
 use Rattle.hy_index.proofs.LeafLaws.{item-made, put}
 use Rattle.hy_index.proofs.edit.put_new.Goals as goal
 

@@ -1,6 +1,6 @@
 use Rattle.std.proofs.Common.{Bool, subst, arith}
-use Rattle.hy_nodes.specs.Pages.{page_in}
-use Rattle.hy_nodes.specs.Places.{IsSought}
+use Rattle.hy_joins.specs.of_nodes.Pages.{page_in}
+use Rattle.hy_joins.specs.of_nodes.Places.{IsSought}
 use Rattle.hy_index.proofs.LeafLaws.{found-sought, is_some, none-some, without-absent}
 use Rattle.hy_index.proofs.edit.remove.Goals as goal
 

@@ -2,7 +2,7 @@ use Rattle.std.proofs.Common.{sym, subst, ◌<◌, length, arith, rules}
 use Rattle.std.specs.Prelude.{IsSome, List, find}
 use Rattle.hy_trees.specs.Nodes.{Item}
 use Rattle.hy_trees.specs.Searches.{is_at}
-use Rattle.hy_nodes.proofs.WriteLaws.{writes-then}
+use Rattle.hy_joins.proofs.of_nodes.WriteLaws.{writes-then}
 use Rattle.hy_index.proofs.LeafLaws.{sought-found}
 use Rattle.hy_index.proofs.edit.remove_by_joins.Goals as goal
 

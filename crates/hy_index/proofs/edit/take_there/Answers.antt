@@ -1,10 +1,10 @@
 use Rattle.std.proofs.Common.{◌+◌, refl, arith}
 use Rattle.std.proofs.lemmas.Result.{on_ok_weaker}
-use Rattle.hy_nodes.specs.Nodes.{item_count}
-use Rattle.hy_nodes.specs.Pages.{page_in}
-use Rattle.hy_nodes.proofs.ReachLaws.{reached-fits, reached-page}
-use Rattle.hy_nodes.proofs.PlaceLaws.{item_offset-before}
-use Rattle.hy_nodes.proofs.SpaceLaws.{page_full}
+use Rattle.hy_joins.specs.of_nodes.Nodes.{item_count}
+use Rattle.hy_joins.specs.of_nodes.Pages.{page_in}
+use Rattle.hy_joins.proofs.of_nodes.ReachLaws.{reached-fits, reached-page}
+use Rattle.hy_joins.proofs.of_nodes.PlaceLaws.{item_offset-before}
+use Rattle.hy_joins.proofs.of_nodes.SpaceLaws.{page_full}
 use Rattle.hy_index.proofs.LeafLaws.{taken}
 use Rattle.hy_index.proofs.edit.take_there.Goals as goal
 

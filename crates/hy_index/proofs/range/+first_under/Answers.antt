@@ -2,10 +2,10 @@ use Rattle.std.proofs.Common.{◌≡◌, ℕ, ◌+◌, ◌-◌, ap, sym, subst, 
 use Rattle.std.specs.Option.{is_some, option_map}
 use Rattle.hy_trees.specs.Trees.{entries_under}
 use Rattle.hy_trees.specs.Searches.{first_from}
-use Rattle.hy_nodes.specs.Nodes.{item_count, number_at}
-use Rattle.hy_nodes.specs.Pages.{nodes_in}
-use Rattle.hy_nodes.specs.Places.{AreRising, HasItems, IsChildPlace}
-use Rattle.hy_nodes.proofs.PlaceLaws.{item_offset-before}
+use Rattle.hy_joins.specs.of_nodes.Nodes.{item_count, number_at}
+use Rattle.hy_joins.specs.of_nodes.Pages.{nodes_in}
+use Rattle.hy_joins.specs.of_nodes.Places.{AreRising, HasItems, IsChildPlace}
+use Rattle.hy_joins.proofs.of_nodes.PlaceLaws.{item_offset-before}
 use Rattle.hy_index.specs.Parts.{IsPartAt}
 use Rattle.hy_index.specs.Writes.{entry_of}
 use Rattle.hy_index.proofs.PartLaws.{part-down, part-fits, part-page, part-rising, part-small, part-some}

@@ -2,10 +2,10 @@ use Rattle.std.proofs.Common.{◌≡◌, ℕ, ◌+◌, ◌-◌, ◌<◌, ◌++�
 use Rattle.hy_trees.specs.Nodes.{Item, node_at}
 use Rattle.hy_trees.specs.Trees.{entries_under}
 use Rattle.hy_trees.specs.Searches.{between}
-use Rattle.hy_nodes.specs.Nodes.{item_count, number_at}
-use Rattle.hy_nodes.specs.Pages.{nodes_in}
-use Rattle.hy_nodes.specs.Places.{AreRising, HasItems, IsBound, IsChildPlace, is_below_at}
-use Rattle.hy_nodes.proofs.PlaceLaws.{item_offset-before}
+use Rattle.hy_joins.specs.of_nodes.Nodes.{item_count, number_at}
+use Rattle.hy_joins.specs.of_nodes.Pages.{nodes_in}
+use Rattle.hy_joins.specs.of_nodes.Places.{AreRising, HasItems, IsBound, IsChildPlace, is_below_at}
+use Rattle.hy_joins.proofs.of_nodes.PlaceLaws.{item_offset-before}
 use Rattle.hy_index.specs.Parts.{IsPartAt}
 use Rattle.hy_index.specs.Writes.{entry_of}
 use Rattle.hy_index.proofs.PartLaws.{part-count, part-down, part-fits, part-item, part-page, part-rising, part-small, part-some}

@@ -2,7 +2,7 @@ use Rattle.std.proofs.Common.{◌≡◌, ◌-◌, ◌≤◌, ◌++◌, flat_map,
 use Rattle.hy_trees.specs.Nodes.{Item, node_at}
 use Rattle.hy_trees.specs.Trees.{entries_under}
 use Rattle.hy_trees.specs.Searches.{between}
-use Rattle.hy_nodes.specs.Pages.{nodes_in}
+use Rattle.hy_joins.specs.of_nodes.Pages.{nodes_in}
 use Rattle.hy_index.specs.Writes.{entry_of}
 use Rattle.hy_index.proofs.range.+push_between.Given as goal
 

@@ -1,7 +1,7 @@
 use Rattle.std.proofs.Common.{ℕ, Some, ap, sym, subst, ◌∙◌, arith}
 use Rattle.std.specs.Option.{option_map}
 use Rattle.hy_index.specs.Writes.{entry_of}
-use Rattle.hy_nodes.specs.Places.{IsSought}
+use Rattle.hy_joins.specs.of_nodes.Places.{IsSought}
 use Rattle.hy_index.proofs.RunLaws.{first-in, first-out}
 use Rattle.hy_index.proofs.range.first_in.Goals as goal
 

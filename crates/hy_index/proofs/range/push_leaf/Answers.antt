@@ -1,6 +1,6 @@
 use Rattle.std.proofs.Common.{◌≡◌, ℕ, ◌+◌, ◌-◌, ◌++◌, map, ap, sym, subst, ◌∙◌, arith}
-use Rattle.hy_nodes.specs.Nodes.{first_items, item_at, item_count}
-use Rattle.hy_nodes.specs.Places.{IsBound, IsSought, is_below_at}
+use Rattle.hy_joins.specs.of_nodes.Nodes.{first_items, item_at, item_count}
+use Rattle.hy_joins.specs.of_nodes.Places.{IsBound, IsSought, is_below_at}
 use Rattle.hy_index.specs.Writes.{entry_of}
 use Rattle.hy_index.proofs.RunLaws.{between-in, pushed}
 use Rattle.hy_index.proofs.range.push_leaf.Goals as goal

@@ -1,5 +1,5 @@
 use Rattle.std.proofs.Common.{◌≡◌, ◌+◌, ◌-◌, ◌≤◌, ◌++◌, map}
-use Rattle.hy_nodes.specs.Nodes.{first_items, item_at}
+use Rattle.hy_joins.specs.of_nodes.Nodes.{first_items, item_at}
 use Rattle.hy_index.specs.Writes.{entry_of}
 use Rattle.hy_index.proofs.range.push_leaf.Given as goal
 

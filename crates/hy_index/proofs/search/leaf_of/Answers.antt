@@ -1,9 +1,9 @@
 use Rattle.std.proofs.Common.{ℕ, ◌+◌, ◌-◌, sym, subst, arith}
-use Rattle.hy_nodes.specs.Nodes.{item_count, number_at}
-use Rattle.hy_nodes.specs.Places.{AreRising, HasItems, IsChildPlace}
-use Rattle.hy_nodes.specs.Ways.{LeadsTo}
-use Rattle.hy_nodes.proofs.PlaceLaws.{item_offset-before}
-use Rattle.hy_nodes.proofs.ReachLaws.{LeadsTo-down, LeadsTo-root, reached-fits, reached-page, reached-rising, reached-small, reached-some}
+use Rattle.hy_joins.specs.of_nodes.Nodes.{item_count, number_at}
+use Rattle.hy_joins.specs.of_nodes.Places.{AreRising, HasItems, IsChildPlace}
+use Rattle.hy_joins.specs.of_nodes.Ways.{LeadsTo}
+use Rattle.hy_joins.proofs.of_nodes.PlaceLaws.{item_offset-before}
+use Rattle.hy_joins.proofs.of_nodes.ReachLaws.{LeadsTo-down, LeadsTo-root, reached-fits, reached-page, reached-rising, reached-small, reached-some}
 use Rattle.hy_index.proofs.search.leaf_of.Goals as goal
 
 pub loop-depth-init : goal.loop-depth-init

@@ -1,7 +1,7 @@
 use Rattle.std.proofs.Common.{◌≡◌, ◌+◌, ◌^◌, ◌<◌, ◌≤◌}
-use Rattle.hy_nodes.specs.Pages.{nodes_in}
+use Rattle.hy_joins.specs.of_nodes.Pages.{nodes_in}
 use Rattle.hy_trees.specs.Trees.{height_of}
-use Rattle.hy_nodes.specs.Ways.{LeadsTo}
+use Rattle.hy_joins.specs.of_nodes.Ways.{LeadsTo}
 use Rattle.hy_index.proofs.search.leaf_of.Given as goal
 
 -- the key leads to this page, and so many pages were read

@@ -1,7 +1,7 @@
 use Rattle.std.proofs.Common.{ℕ, sym, subst, arith}
-use Rattle.hy_nodes.specs.Nodes.{item_count}
-use Rattle.hy_nodes.specs.Places.{AreRising, HasItems}
-use Rattle.hy_nodes.proofs.ReachLaws.{reached-fits, reached-page, reached-rising}
+use Rattle.hy_joins.specs.of_nodes.Nodes.{item_count}
+use Rattle.hy_joins.specs.of_nodes.Places.{AreRising, HasItems}
+use Rattle.hy_joins.proofs.of_nodes.ReachLaws.{reached-fits, reached-page, reached-rising}
 use Rattle.hy_index.proofs.search.seek_in.Goals as goal
 
 pub page-requires : goal.page-requires

@@ -1,11 +1,11 @@
 use Rattle.std.proofs.Common.{ℕ, ◌+◌, Bool, true, false, Some, length, sym, ap, subst, ◌∙◌, arith, replicate}
 use Rattle.hy_trees.specs.Nodes.{capacity, least_items}
-use Rattle.hy_nodes.specs.Nodes.{item_count}
-use Rattle.hy_nodes.specs.Pages.{nodes_in}
+use Rattle.hy_joins.specs.of_nodes.Nodes.{item_count}
+use Rattle.hy_joins.specs.of_nodes.Pages.{nodes_in}
 use Rattle.hy_trees.specs.Trees.{height_of, root_least}
-use Rattle.hy_nodes.specs.Places.{AreRising, HasItems, IsSought}
-use Rattle.hy_nodes.proofs.PlaceLaws.{item_offset-before}
-use Rattle.hy_nodes.proofs.ReachLaws.{reached-fits, reached-items, reached-page, reached-rising}
+use Rattle.hy_joins.specs.of_nodes.Places.{AreRising, HasItems, IsSought}
+use Rattle.hy_joins.proofs.of_nodes.PlaceLaws.{item_offset-before}
+use Rattle.hy_joins.proofs.of_nodes.ReachLaws.{reached-fits, reached-items, reached-page, reached-rising}
 use Rattle.hy_index.proofs.FoundLaws.{behind-absent, found-absent, found-there}
 use Rattle.hy_index.proofs.search.slot_of.Goals as goal
 

@@ -7,8 +7,8 @@ use Rattle.hy_commands.specs.declared.command.Payment.{Payment}
 use Rattle.hy_passes.specs.Worlds.{new_client, new_partition}
 use Rattle.hy_rows.specs.Tables.{Lists}
 use Rattle.hy_program.specs.First.{IsFirstRefusal, IsPaid, IsPayRefusal}
-use Rattle.hy_partition.specs.Steps.{Begins}
-use Rattle.hy_partition.proofs.SeatLaws.{length-numbered, only_seat}
+use Rattle.hy_recovery.specs.of_partition.Steps.{Begins}
+use Rattle.hy_recovery.proofs.of_partition.SeatLaws.{length-numbered, only_seat}
 use Rattle.hy_program.proofs.FirstLaws.{err_is, first_refusal, ytd_after}
 use Rattle.hy_program.proofs.first.first_of.Goals as goal
 

@@ -4,12 +4,12 @@ use Rattle.std.proofs.lemmas.Bool.Decides.{nat_tests}
 use Rattle.hy_schema.specs.declared.refusal.Refusal.{Refusal}
 use Rattle.hy_schema.specs.declared.refusal.Refusal.TheVariants as refusals
 use Rattle.hy_slices.specs.Slices.{slice_count}
-use Rattle.hy_partition.specs.Jobs.{Log, RunningJob, with_slice_done}
-use Rattle.hy_partition.specs.Partition.{PartitionState}
-use Rattle.hy_partition.specs.Steps.{Accepts, Refuses, StepsTo}
-use Rattle.hy_partition.specs.declared.job.Progress.{Progress}
-use Rattle.hy_partition.specs.declared.job.Progress.TheVariants as progress
-use Rattle.hy_partition.proofs.FinishLaws.{HasEnded, Reached, reached-end, reached-start, reached-step}
+use Rattle.hy_recovery.specs.of_partition.Jobs.{Log, RunningJob, with_slice_done}
+use Rattle.hy_recovery.specs.of_partition.Partition.{PartitionState}
+use Rattle.hy_recovery.specs.of_partition.Steps.{Accepts, Refuses, StepsTo}
+use Rattle.hy_recovery.specs.of_partition.declared.job.Progress.{Progress}
+use Rattle.hy_recovery.specs.of_partition.declared.job.Progress.TheVariants as progress
+use Rattle.hy_recovery.proofs.of_partition.FinishLaws.{HasEnded, Reached, reached-end, reached-start, reached-step}
 use Rattle.hy_program.specs.First.{HasTwoSlices}
 use Rattle.hy_program.proofs.first.run_slices.Goals as goal
 

@@ -1,7 +1,7 @@
 use Rattle.std.proofs.Common.{◌≡◌, true, ap, arith}
 use Rattle.std.proofs.lemmas.Bool.{false≢true}
 use Rattle.std.proofs.lemmas.Bool.Decides.{nat_tests}
-use Rattle.hy_partition.specs.Steps.{is_from}
+use Rattle.hy_recovery.specs.of_partition.Steps.{is_from}
 use Rattle.hy_program.proofs.first.ytd_now.Goals as goal
 
 -- the snapshot that was just taken says that it is the warehouse's

@@ -6,13 +6,13 @@ use Rattle.hy_commands.specs.declared.command.Commit.{Commit}
 use Rattle.hy_commands.specs.Parts.{database_of}
 use Rattle.hy_passes.specs.Worlds.{new_client}
 use Rattle.hy_query.specs.Meaning.{answer_of}
-use Rattle.hy_partition.specs.Jobs.{Log}
-use Rattle.hy_partition.specs.Snapshots.{SnapshotState}
-use Rattle.hy_partition.proofs.SeatLaws.{length-numbered}
-use Rattle.hy_crossing.specs.Crossings.{ArePartitions, database_behind}
-use Rattle.hy_forks.specs.Forks.{SpellsDatabase, are_from}
-use Rattle.hy_session.specs.Snapshots.{lists_of_all}
-use Rattle.hy_session.specs.Texts.{answer_text}
+use Rattle.hy_recovery.specs.of_partition.Jobs.{Log}
+use Rattle.hy_recovery.specs.of_partition.Snapshots.{SnapshotState}
+use Rattle.hy_recovery.proofs.of_partition.SeatLaws.{length-numbered}
+use Rattle.hy_recovery.specs.of_crossing.Crossings.{ArePartitions, database_behind}
+use Rattle.hy_recovery.specs.of_forks.Forks.{SpellsDatabase, are_from}
+use Rattle.hy_storm.specs.of_session.Snapshots.{lists_of_all}
+use Rattle.hy_storm.specs.of_session.Texts.{answer_text}
 use Rattle.hy_script.specs.Databases.{OpenSnapshot}
 use Rattle.hy_script.proofs.SnapshotLaws.{are_from-own, forked-own}
 use Rattle.hy_program.specs.Query.{by_warehouse}

@@ -3,7 +3,7 @@ use Rattle.std.specs.Prelude.{IsOkAnd}
 use Rattle.std.specs.Io.KnownBytes.{Appends}
 use Rattle.hy_query.specs.Language.{query_of}
 use Rattle.hy_query.specs.Meaning.{answer_of}
-use Rattle.hy_session.specs.Texts.{answer_text}
+use Rattle.hy_storm.specs.of_session.Texts.{answer_text}
 use Rattle.hy_program.specs.declared.fault.RunFault.TheVariants as fault
 use Rattle.hy_program.specs.Query.{by_warehouse}
 use Rattle.hy_program.proofs.AskLaws.{answered, printed-answer, query_fault, writer_fault}

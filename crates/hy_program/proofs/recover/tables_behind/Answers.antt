@@ -4,13 +4,13 @@ use Rattle.std.proofs.lemmas.Bool.{false≢true}
 use Rattle.hy_rows.specs.Tables.{Lists}
 use Rattle.hy_commands.specs.declared.command.Commit.{Commit}
 use Rattle.hy_passes.specs.Worlds.{new_client}
-use Rattle.hy_partition.specs.Snapshots.{SnapshotState}
-use Rattle.hy_partition.proofs.SeatLaws.{length-numbered}
-use Rattle.hy_crossing.specs.Crossings.{database_behind}
+use Rattle.hy_recovery.specs.of_partition.Snapshots.{SnapshotState}
+use Rattle.hy_recovery.proofs.of_partition.SeatLaws.{length-numbered}
+use Rattle.hy_recovery.specs.of_crossing.Crossings.{database_behind}
 use Rattle.hy_database.specs.Database.{all_rows}
-use Rattle.hy_forks.proofs.ForkedLaws.{are_from-forks}
-use Rattle.hy_forks.specs.Forks.{SpellsDatabase, are_from}
-use Rattle.hy_session.specs.Snapshots.{lists_of_all}
+use Rattle.hy_recovery.proofs.of_forks.ForkedLaws.{are_from-forks}
+use Rattle.hy_recovery.specs.of_forks.Forks.{SpellsDatabase, are_from}
+use Rattle.hy_storm.specs.of_session.Snapshots.{lists_of_all}
 use Rattle.hy_program.proofs.RecoverLaws.{history_of, replayed_by, some-behind}
 use Rattle.hy_program.proofs.recover.tables_behind.Goals as goal
 

@@ -1,6 +1,6 @@
 -- The warehouses before have their counts, and there is room for all.
 use Rattle.std.proofs.Common.{◌≡◌, ◌<◌, ◌≤◌, ℕ, length, slice_index_or, vec_capacity}
-use Rattle.hy_partition.specs.Limits.{most_kept}
+use Rattle.hy_forks.specs.of_partition.Limits.{most_kept}
 use Rattle.hy_recovery.specs.Recovering.{joined}
 use Rattle.hy_recovery.proofs.counting.count_commits.Given as goal
 

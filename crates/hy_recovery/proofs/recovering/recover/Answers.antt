@@ -3,12 +3,12 @@ use Rattle.std.proofs.Common.{◌≡◌, ◌<◌, ◌≤◌, ℕ, suc, List, ap,
 use Rattle.std.specs.Prelude.{IfSome, slice_get}
 use Rattle.hy_worlds.specs.Origins.{replayed_of}
 use Rattle.hy_rows.specs.Tables.{Lists}
-use Rattle.hy_partition.specs.Jobs.{Log}
-use Rattle.hy_partition.specs.Partition.{PartitionState}
-use Rattle.hy_partition.specs.Steps.{Begins}
-use Rattle.hy_crossing.specs.Crossings.{ArePartitions}
-use Rattle.hy_crossing.specs.Making.{AllBegin}
-use Rattle.hy_crossing.proofs.InformLaws.{pairs-count}
+use Rattle.hy_forks.specs.of_partition.Jobs.{Log}
+use Rattle.hy_forks.specs.of_partition.Partition.{PartitionState}
+use Rattle.hy_forks.specs.of_partition.Steps.{Begins}
+use Rattle.hy_forks.specs.of_crossing.Crossings.{ArePartitions}
+use Rattle.hy_forks.specs.of_crossing.Making.{AllBegin}
+use Rattle.hy_forks.proofs.of_crossing.InformLaws.{pairs-count}
 use Rattle.hy_forks.specs.Drains.{TellsHere}
 use Rattle.hy_sound.proofs.ListLaws.{item-there}
 use Rattle.hy_recovery.specs.Recovering.{GoesOn, StopsAtCommit}

@@ -2,7 +2,7 @@
 use Rattle.std.proofs.Common.{◌≡◌, ◌<◌, ◌-◌, ◌+◌, ◌^◌, suc, refl, sym, subst, ◌∙◌, arith}
 use Rattle.hy_commands.specs.declared.command.Command.{Command}
 use Rattle.hy_commands.specs.declared.command.Commit.TheVariants as commits
-use Rattle.hy_crossing.specs.Lists.{Pairwise}
+use Rattle.hy_forks.specs.of_crossing.Lists.{Pairwise}
 use Rattle.hy_sound.specs.Merges.{FindsCrossing, FindsNone}
 use Rattle.hy_sound.proofs.MergeLaws.{left-first}
 use Rattle.hy_recovery.specs.Recovering.{StopsAtCommit}

@@ -1,10 +1,10 @@
 -- What an answer to the command tells.
 use Rattle.std.proofs.Common.{ℕ, List, slice_get, subst, sym}
 use Rattle.std.specs.Prelude.{IfSome}
-use Rattle.hy_partition.specs.Headline.{Headline}
-use Rattle.hy_partition.specs.Jobs.{JobState}
-use Rattle.hy_partition.specs.Partition.{PartitionState}
-use Rattle.hy_crossing.specs.Crossings.{AllMayRun, Crosses}
+use Rattle.hy_forks.specs.of_partition.Headline.{Headline}
+use Rattle.hy_forks.specs.of_partition.Jobs.{JobState}
+use Rattle.hy_forks.specs.of_partition.Partition.{PartitionState}
+use Rattle.hy_forks.specs.of_crossing.Crossings.{AllMayRun, Crosses}
 use Rattle.hy_recovery.proofs.CrossedLaws.{all-may, enters-crossing, keeps-crossing, lacked}
 use Rattle.hy_recovery.proofs.ResultLaws.{err-gives, ok-then}
 use Rattle.hy_recovery.proofs.running.run_crossing.Goals as goal

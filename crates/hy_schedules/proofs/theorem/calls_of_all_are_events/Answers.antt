@@ -1,6 +1,6 @@
 -- Each call on one partition is an event of its world; what is done to each is one event of the whole.
 use Rattle.std.proofs.Common.{refl, suc}
-use Rattle.hy_partition.specs.Schedules.{begins, closes, forks, forks_from, steps, takes}
+use Rattle.hy_forks.specs.of_partition.Schedules.{begins, closes, forks, forks_from, steps, takes}
 use Rattle.hy_schedules.specs.Schedules.{world_at}
 use Rattle.hy_schedules.proofs.CallLaws.{is-fresh, leads-at, leads-close_all, leads-drain, leads-fork_all, leads-fork_all_from, leads-look, stays-at, stays-told, stays-unforked}
 use Rattle.hy_schedules.proofs.CrossLaws.{leads-cross}

@@ -1,8 +1,8 @@
 -- Each call is an event, and leaves what the model knows of clients with the passes that there are.
 use Rattle.std.proofs.Common.{◌∷◌, refl, suc, sym, ap, ◌∙◌}
 use Rattle.std.specs.Prelude.{is_some}
-use Rattle.hy_partition.specs.Jobs.{told}
-use Rattle.hy_partition.specs.Schedules.{World, begins, closes, forks, forks_from, takes, with_known}
+use Rattle.hy_forks.specs.of_partition.Jobs.{told}
+use Rattle.hy_forks.specs.of_partition.Schedules.{World, begins, closes, forks, forks_from, takes, with_known}
 use Rattle.hy_schedules.specs.Clients.{passes_in}
 use Rattle.hy_schedules.specs.Schedules.{Whole, at, children_of, closes_all, drains, forks_all, forks_all_from, looks}
 use Rattle.hy_schedules.proofs.ClientLaws.{knows-fewer, knows-kit, knows-permuted, knows-still, knows-told, moves-held, some-known, told-of}

@@ -1,5 +1,5 @@
 use Rattle.std.proofs.Common.{◌≡◌, ℕ, sym, subst}
-use Rattle.hy_nodes.specs.Writes.{pages_of}
+use Rattle.hy_index.specs.of_nodes.Writes.{pages_of}
 use Rattle.hy_space.specs.Space.{owner_bytes}
 use Rattle.hy_index.specs.Writes.{IsIndex}
 use Rattle.hy_store.specs.Stored.{AreIndexes}

@@ -1,11 +1,11 @@
 use Rattle.std.proofs.Common.{◌≡◌, ◌∙◌, ◌+◌, ◌<◌, ℕ, suc, List, IfSome, length, slice_get, slice_set, ap, arith, refl, subst, sym}
 use Rattle.hy_ledger.specs.Books.{BalanceState}
 use Rattle.hy_ledger.specs.declared.totals.Totals.{Totals}
-use Rattle.hy_partition.specs.Jobs.{Log}
-use Rattle.hy_partition.specs.Partition.{PartitionState, projection_of}
-use Rattle.hy_crossing.specs.Crossings.{IsPartition}
-use Rattle.hy_crossing.proofs.FullLaws.{set-same}
-use Rattle.hy_crossing.proofs.PlaceLaws.{holds-at}
+use Rattle.hy_session.specs.of_partition.Jobs.{Log}
+use Rattle.hy_session.specs.of_partition.Partition.{PartitionState, projection_of}
+use Rattle.hy_session.specs.of_crossing.Crossings.{IsPartition}
+use Rattle.hy_session.proofs.of_crossing.FullLaws.{set-same}
+use Rattle.hy_session.proofs.of_crossing.PlaceLaws.{holds-at}
 use Rattle.hy_storm.specs.Storms.{HaveBooks}
 use Rattle.hy_storm.proofs.FigureLaws.{books-next, books-none}
 use Rattle.hy_storm.proofs.ending.audit_all.Goals as goal

@@ -1,5 +1,5 @@
 use Rattle.std.proofs.Common.{◌≡◌, length}
-use Rattle.hy_partition.specs.Jobs.{Log}
+use Rattle.hy_session.specs.of_partition.Jobs.{Log}
 use Rattle.hy_storm.specs.Storms.{HaveBooks, HaveKept}
 use Rattle.hy_storm.proofs.ending.audit_all.Given as goal
 

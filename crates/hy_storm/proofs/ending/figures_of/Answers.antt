@@ -5,8 +5,8 @@ use Rattle.hy_schema.specs.Conditions.{first_broken}
 use Rattle.hy_commands.specs.Commands.{number_of, warehouses_of_commit}
 use Rattle.hy_ledger.specs.declared.totals.Totals.{Totals}
 use Rattle.hy_passes.specs.SerialList.{IsSerial}
-use Rattle.hy_partition.specs.Jobs.{Log}
-use Rattle.hy_crossing.specs.Crossings.{database_behind}
+use Rattle.hy_session.specs.of_partition.Jobs.{Log}
+use Rattle.hy_session.specs.of_crossing.Crossings.{database_behind}
 use Rattle.hy_database.specs.Database.{all_rows}
 use Rattle.hy_storm.proofs.ending.figures_of.Goals as goal
 

@@ -2,13 +2,13 @@ use Rattle.std.proofs.Common.{◌≡◌, ◌∙◌, ◌≤◌, List, true, ap, a
 use Rattle.hy_rows.specs.Tables.{Lists}
 use Rattle.hy_schema.specs.Conditions.{first_broken}
 use Rattle.hy_database.proofs.EachLaws.{count-after}
-use Rattle.hy_partition.specs.Snapshots.{SnapshotState}
-use Rattle.hy_crossing.specs.Crossings.{commits_in, database_behind}
-use Rattle.hy_forks.specs.Forks.{SpellsDatabase, are_from}
+use Rattle.hy_session.specs.of_partition.Snapshots.{SnapshotState}
+use Rattle.hy_session.specs.of_crossing.Crossings.{commits_in, database_behind}
+use Rattle.hy_session.specs.of_forks.Forks.{SpellsDatabase, are_from}
 use Rattle.hy_session.specs.Databases.{lists_of}
 use Rattle.hy_session.specs.Reports.{broken_condition}
 use Rattle.hy_session.specs.Snapshots.{lists_of_all}
-use Rattle.hy_forks.proofs.ForkedLaws.{are_from-forks}
+use Rattle.hy_session.proofs.of_forks.ForkedLaws.{are_from-forks}
 use Rattle.hy_storm.proofs.ending.session_of.Goals as goal
 
 pub returns-clause-consistent : goal.returns-clause-consistent

@@ -1,7 +1,7 @@
 use Rattle.std.proofs.Common.{◌≡◌, ◌==◌, false, refl, subst, sym, true}
 use Rattle.std.specs.List.{list_all}
 use Rattle.hy_commands.specs.Commands.{warehouses_of}
-use Rattle.hy_store.specs.Writes.{stored_in}
+use Rattle.hy_writers.specs.of_store.Writes.{stored_in}
 use Rattle.hy_tpcc.proofs.BeginLaws.{customer-home, not-refused, refused-customer, refused-district, refused-elsewhere}
 use Rattle.hy_tpcc.proofs.begin.begin_place.Goals as goal
 

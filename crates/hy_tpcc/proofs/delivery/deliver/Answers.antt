@@ -1,5 +1,5 @@
 use Rattle.std.proofs.Common.{◌∙◌, arith, lit<}
-use Rattle.hy_store.specs.Writes.{stored_in}
+use Rattle.hy_writers.specs.of_store.Writes.{stored_in}
 use Rattle.hy_tpcc.specs.Deliveries.{noting}
 use Rattle.hy_tpcc.proofs.UnderWay.{delivery-answers, noted-length, noted-more}
 use Rattle.hy_tpcc.proofs.delivery.deliver.Goals as goal

@@ -1,5 +1,5 @@
 use Rattle.std.proofs.Common.{lit<, ◌∙◌}
-use Rattle.hy_store.specs.Writes.{stored_in}
+use Rattle.hy_writers.specs.of_store.Writes.{stored_in}
 use Rattle.hy_tpcc.proofs.SliceLaws.{delivered-done, delivery-begun, oldest-delivered, sound-delivering}
 use Rattle.hy_tpcc.proofs.delivery.deliver_next.Goals as goal
 

@@ -1,7 +1,7 @@
 -- The items of the other entries, added to those so far, are all.
 use Rattle.std.proofs.Common.{◌≡◌, drop}
 use Rattle.hy_commands.specs.StockLevels.{is_low}
-use Rattle.hy_store.specs.Writes.{stored_in}
+use Rattle.hy_writers.specs.of_store.Writes.{stored_in}
 use Rattle.hy_tpcc.specs.Levels.{items_named, with_items}
 use Rattle.hy_tpcc.proofs.level.add_lines.Given as goal
 

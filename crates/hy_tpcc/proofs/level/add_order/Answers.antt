@@ -1,9 +1,9 @@
 use Rattle.std.proofs.Common.{◌<◌, ◌∙◌, length, lit<, subst, sym}
 use Rattle.std.specs.Prelude.{All}
-use Rattle.hy_index.specs.declared.key.Entry.{Entry}
-use Rattle.hy_store.specs.declared.keys.LineKey.{LineKey}
-use Rattle.hy_store.specs.Stored.{Stored}
-use Rattle.hy_store.specs.Writes.{stored_in}
+use Rattle.hy_writers.specs.of_index.declared.key.Entry.{Entry}
+use Rattle.hy_writers.specs.of_store.declared.keys.LineKey.{LineKey}
+use Rattle.hy_writers.specs.of_store.Stored.{Stored}
+use Rattle.hy_writers.specs.of_store.Writes.{stored_in}
 use Rattle.hy_tpcc.proofs.NamedLaws.{between-there}
 use Rattle.hy_tpcc.proofs.level.add_order.Goals as goal
 

@@ -1,8 +1,8 @@
 use Rattle.std.proofs.Common.{◌-◌, ◌∙◌, ap, length, lit<, subst, sym}
 use Rattle.hy_rows.specs.Ranges.{IsBetween}
 use Rattle.hy_commands.specs.StockLevels.{is_low}
-use Rattle.hy_store.specs.Stored.{Stored}
-use Rattle.hy_store.specs.Writes.{stored_in}
+use Rattle.hy_writers.specs.of_store.Stored.{Stored}
+use Rattle.hy_writers.specs.of_store.Writes.{stored_in}
 use Rattle.hy_writers.proofs.FindLaws.{within-at}
 use Rattle.hy_tpcc.proofs.LevelLaws.{low-at}
 use Rattle.hy_tpcc.proofs.level.is_low.Goals as goal

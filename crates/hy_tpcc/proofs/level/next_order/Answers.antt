@@ -1,4 +1,4 @@
-use Rattle.hy_store.specs.Writes.{stored_in}
+use Rattle.hy_writers.specs.of_store.Writes.{stored_in}
 use Rattle.hy_tpcc.proofs.LevelLaws.{next-order}
 use Rattle.hy_tpcc.proofs.level.next_order.Goals as goal
 

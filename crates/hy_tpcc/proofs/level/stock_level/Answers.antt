@@ -3,8 +3,8 @@ use Rattle.std.specs.Prelude.{All}
 use Rattle.std.specs.Set.{distinct_count}
 use Rattle.hy_rows.specs.declared.order_line.OrderLine.{OrderLine}
 use Rattle.hy_schema.specs.Related.{lines_of_district}
-use Rattle.hy_store.specs.Stored.{Stored}
-use Rattle.hy_store.specs.Writes.{stored_in}
+use Rattle.hy_writers.specs.of_store.Stored.{Stored}
+use Rattle.hy_writers.specs.of_store.Writes.{stored_in}
 use Rattle.hy_commands.specs.StockLevels.{is_low, is_recent}
 use Rattle.hy_writers.proofs.DeliverLaws.{own-lines}
 use Rattle.hy_tpcc.proofs.LevelLaws.{AreLow, low-counted, low-more}

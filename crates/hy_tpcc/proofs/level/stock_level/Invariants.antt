@@ -1,7 +1,7 @@
 -- The low items of the orders so far.
 use Rattle.std.proofs.Common.{◌≤◌}
 use Rattle.hy_commands.specs.StockLevels.{is_low}
-use Rattle.hy_store.specs.Writes.{stored_in}
+use Rattle.hy_writers.specs.of_store.Writes.{stored_in}
 use Rattle.hy_tpcc.proofs.LevelLaws.{AreLow}
 use Rattle.hy_tpcc.proofs.level.stock_level.Given as goal
 

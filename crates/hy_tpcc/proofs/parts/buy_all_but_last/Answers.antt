@@ -1,6 +1,6 @@
 use Rattle.std.proofs.Common.{◌≡◌, ◌<◌, ◌+◌, ℕ, arith, length, lit<, subst}
 use Rattle.hy_commands.specs.declared.command.Command.TheVariants as commands
-use Rattle.hy_store.specs.Writes.{stored_in}
+use Rattle.hy_writers.specs.of_store.Writes.{stored_in}
 use Rattle.hy_writers.proofs.WritesLaws.{writes-then}
 use Rattle.hy_tpcc.specs.Executor.{DoesSlices}
 use Rattle.hy_tpcc.proofs.parts.buy_all_but_last.Goals as goal

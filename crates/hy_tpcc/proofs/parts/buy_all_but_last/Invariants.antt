@@ -1,6 +1,6 @@
 -- So many slices are done.
 use Rattle.hy_commands.specs.declared.command.Command.TheVariants as commands
-use Rattle.hy_store.specs.Writes.{IsWritableStore, WritesStore, stored_in}
+use Rattle.hy_writers.specs.of_store.Writes.{IsWritableStore, WritesStore, stored_in}
 use Rattle.hy_tpcc.specs.Executor.{DoesSlices}
 use Rattle.hy_tpcc.proofs.parts.buy_all_but_last.Given as goal
 

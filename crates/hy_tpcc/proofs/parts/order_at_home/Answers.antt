@@ -4,7 +4,7 @@ use Rattle.hy_commands.specs.declared.edition.Edition.{Edition}
 use Rattle.hy_commands.specs.declared.edition.Edition.TheVariants as editions
 use Rattle.hy_schema.specs.Loads.{IsLoad}
 use Rattle.hy_rows.specs.Tables.{Tables}
-use Rattle.hy_store.specs.Writes.{IsWritableStore, stored_in}
+use Rattle.hy_writers.specs.of_store.Writes.{IsWritableStore, stored_in}
 use Rattle.hy_writers.proofs.WritesLaws.{if_ok-then, on_ok-then}
 use Rattle.hy_tpcc.specs.Executor.{HasDone, answer_of}
 use Rattle.hy_tpcc.proofs.PartLaws.{buyer-meant, part-answers, part-begun, part-bought, part-passed, part-reached}

@@ -1,6 +1,6 @@
 use Rattle.std.proofs.Common.{arith, lit<, subst}
 use Rattle.hy_schema.specs.Loads.{IsLoad}
-use Rattle.hy_store.specs.Writes.{stored_in}
+use Rattle.hy_writers.specs.of_store.Writes.{stored_in}
 use Rattle.hy_writers.proofs.WritesLaws.{on_ok-then}
 use Rattle.hy_tpcc.proofs.PartLaws.{can-pay_part, home-part, number-small}
 use Rattle.hy_tpcc.proofs.parts.pay_at_home.Goals as goal

@@ -1,5 +1,5 @@
 use Rattle.std.proofs.Common.{lit<}
-use Rattle.hy_store.specs.Writes.{stored_in}
+use Rattle.hy_writers.specs.of_store.Writes.{stored_in}
 use Rattle.hy_writers.proofs.WritesLaws.{if_ok-then, on_ok-then}
 use Rattle.hy_tpcc.proofs.PartLaws.{can-pay_own, customer-part, customer-reply, payer-meant}
 use Rattle.hy_tpcc.proofs.parts.pay_for_customer.Goals as goal

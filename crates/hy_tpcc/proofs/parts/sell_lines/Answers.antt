@@ -1,6 +1,6 @@
 use Rattle.std.proofs.Common.{◌≤◌, lit<, subst}
 use Rattle.hy_schema.specs.Loads.{IsLoad}
-use Rattle.hy_store.specs.Writes.{stored_in}
+use Rattle.hy_writers.specs.of_store.Writes.{stored_in}
 use Rattle.hy_writers.proofs.WritesLaws.{writes-then}
 use Rattle.hy_tpcc.proofs.PartLaws.{can-sell, sells-all, sells-more}
 use Rattle.hy_tpcc.proofs.parts.sell_lines.Goals as goal

@@ -1,5 +1,5 @@
 -- The lines so far are sold, and the others are still to be.
-use Rattle.hy_store.specs.Writes.{IsWritableStore, WritesStore, stored_in}
+use Rattle.hy_writers.specs.of_store.Writes.{IsWritableStore, WritesStore, stored_in}
 use Rattle.hy_tpcc.proofs.PartLaws.{SellsLines}
 use Rattle.hy_tpcc.proofs.parts.sell_lines.Given as goal
 

@@ -2,7 +2,7 @@ use Rattle.std.proofs.Common.{ap, sym}
 use Rattle.std.specs.Prelude.{slice_get}
 use Rattle.hy_rows.specs.RowParts.{number_of_customer}
 use Rattle.hy_rows.specs.declared.customer.CustomerNumber.{CustomerNumber}
-use Rattle.hy_store.specs.Writes.{stored_in}
+use Rattle.hy_writers.specs.of_store.Writes.{stored_in}
 use Rattle.hy_writers.proofs.AccountLaws.{mapped_some}
 use Rattle.hy_tpcc.proofs.payment.number_at.Goals as goal
 

@@ -1,7 +1,7 @@
 use Rattle.std.proofs.Common.{◌≡◌, ◌∙◌, ◌≤◌, ◌+◌, ap, arith, length, lit<, subst, sym}
 use Rattle.std.specs.Prelude.{Some}
 use Rattle.hy_commands.specs.declared.command.Command.TheVariants as commands
-use Rattle.hy_store.specs.Writes.{stored_in}
+use Rattle.hy_writers.specs.of_store.Writes.{stored_in}
 use Rattle.hy_tpcc.specs.Executor.{HasDone}
 use Rattle.hy_tpcc.proofs.PurchaseLaws.{answer-last}
 use Rattle.hy_tpcc.proofs.purchase.buy.Goals as goal

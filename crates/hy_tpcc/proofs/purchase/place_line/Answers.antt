@@ -5,7 +5,7 @@ use Rattle.hy_schema.specs.declared.refusal.Refusal.TheVariants as refusals
 use Rattle.hy_schema.specs.Loads.{IsLoad}
 use Rattle.hy_schema.specs.Related.{is_item}
 use Rattle.hy_commands.proofs.ListLaws.{found-any}
-use Rattle.hy_store.specs.Writes.{stored_in}
+use Rattle.hy_writers.specs.of_store.Writes.{stored_in}
 use Rattle.hy_tpcc.proofs.PurchaseLaws.{can-add_line, item-there, line-next, not-no_item}
 use Rattle.hy_tpcc.proofs.purchase.place_line.Goals as goal
 

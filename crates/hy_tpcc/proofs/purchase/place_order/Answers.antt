@@ -2,7 +2,7 @@ use Rattle.std.proofs.Common.{lit<, subst}
 use Rattle.hy_schema.specs.Loads.{IsLoad}
 use Rattle.hy_slices.proofs.GrowingSlices.{number-near}
 use Rattle.hy_commands.specs.declared.command.Command.TheVariants as commands
-use Rattle.hy_store.specs.Writes.{stored_in}
+use Rattle.hy_writers.specs.of_store.Writes.{stored_in}
 use Rattle.hy_writers.specs.Purchases.{CanAddOrder}
 use Rattle.hy_writers.proofs.WritesLaws.{on_ok-then}
 use Rattle.hy_tpcc.proofs.PurchaseLaws.{customer-small, head-done, purchase-begun}

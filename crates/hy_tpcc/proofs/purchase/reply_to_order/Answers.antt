@@ -5,7 +5,7 @@ use Rattle.hy_commands.specs.declared.reply.Reply.TheVariants as replies
 use Rattle.hy_schema.specs.Loads.{IsLoad}
 use Rattle.hy_commands.proofs.ListLaws.{All-find}
 use Rattle.hy_slices.proofs.GrowingSlices.{items-fit, number-near}
-use Rattle.hy_store.specs.Writes.{stored_in}
+use Rattle.hy_writers.specs.of_store.Writes.{stored_in}
 use Rattle.hy_tpcc.proofs.PurchaseLaws.{can-reply, reply-ordered}
 use Rattle.hy_tpcc.proofs.purchase.reply_to_order.Goals as goal
 

@@ -1,6 +1,6 @@
 use Rattle.std.proofs.Common.{lit<}
 use Rattle.hy_commands.specs.declared.command.Command.TheVariants as commands
-use Rattle.hy_store.specs.Writes.{stored_in}
+use Rattle.hy_writers.specs.of_store.Writes.{stored_in}
 use Rattle.hy_tpcc.proofs.SliceLaws.{home-status, sound-begun}
 use Rattle.hy_tpcc.proofs.reading.answer_status.Goals as goal
 

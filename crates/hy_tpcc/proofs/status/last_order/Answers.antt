@@ -2,14 +2,14 @@ use Rattle.std.proofs.Common.{◌≡◌, ◌∙◌, Some, None, ap, lit<, sym}
 use Rattle.std.specs.Option.{option_map}
 use Rattle.std.specs.Prelude.{List, []}
 use Rattle.hy_commands.specs.OrderStatus.{placed}
-use Rattle.hy_index.specs.Index.{found}
+use Rattle.hy_writers.specs.of_index.Index.{found}
 use Rattle.hy_rows.specs.RowParts.{account_with, customer_by}
 use Rattle.hy_rows.specs.declared.customer.Customer.{Customer}
 use Rattle.hy_rows.specs.declared.customer.CustomerIdentity.{CustomerIdentity}
 use Rattle.hy_rows.specs.declared.order_line.OrderLine.{OrderLine}
-use Rattle.hy_store.specs.Keys.{is_lesser_customer}
-use Rattle.hy_store.specs.Stored.{Stored}
-use Rattle.hy_store.specs.Writes.{stored_in}
+use Rattle.hy_writers.specs.of_store.Keys.{is_lesser_customer}
+use Rattle.hy_writers.specs.of_store.Stored.{Stored}
+use Rattle.hy_writers.specs.of_store.Writes.{stored_in}
 use Rattle.hy_writers.proofs.FindLaws.{within-at}
 use Rattle.hy_tpcc.proofs.LastLaws.{last-district, last-found, last-home, last-none, last-there}
 use Rattle.hy_tpcc.proofs.status.last_order.Goals as goal

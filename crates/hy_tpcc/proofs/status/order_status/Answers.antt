@@ -9,7 +9,7 @@ use Rattle.hy_rows.specs.Tables.{Tables}
 use Rattle.hy_rows.specs.declared.customer.Customer.{Customer}
 use Rattle.hy_rows.specs.declared.customer.CustomerAccount.{CustomerAccount}
 use Rattle.hy_rows.specs.declared.customer.CustomerIdentity.{CustomerIdentity}
-use Rattle.hy_store.specs.Writes.{stored_in}
+use Rattle.hy_writers.specs.of_store.Writes.{stored_in}
 use Rattle.hy_writers.proofs.AccountLaws.{part_is}
 use Rattle.hy_tpcc.proofs.status.order_status.Goals as goal
 

@@ -1,6 +1,6 @@
 -- The lines so far and those of the other entries are all.
 use Rattle.std.proofs.Common.{◌≡◌, ◌++◌, drop}
-use Rattle.hy_store.specs.Writes.{stored_in}
+use Rattle.hy_writers.specs.of_store.Writes.{stored_in}
 use Rattle.hy_tpcc.specs.Lines.{lines_named}
 use Rattle.hy_tpcc.proofs.status.read_lines.Given as goal
 

@@ -1,8 +1,8 @@
 use Rattle.std.proofs.Common.{subst}
 use Rattle.hy_commands.specs.declared.command.Who.TheVariants as who
 use Rattle.hy_layout.specs.Layout.{IsMeantAt}
-use Rattle.hy_store.specs.Stored.{Stored}
-use Rattle.hy_store.specs.Writes.{stored_in}
+use Rattle.hy_indexes.specs.of_store.Stored.{Stored}
+use Rattle.hy_indexes.specs.of_store.Writes.{stored_in}
 use Rattle.hy_writers.proofs.DeliverLaws.{any-meant}
 use Rattle.hy_writers.proofs.delivery.buyer_place.Goals as goal
 

@@ -3,8 +3,8 @@ use Rattle.std.specs.Prelude.{slice_get}
 use Rattle.hy_rows.specs.declared.customer.Customer.{Customer}
 use Rattle.hy_rows.specs.RowParts.{account_of, with_account}
 use Rattle.hy_commands.specs.Deliveries.{customer_delivered}
-use Rattle.hy_store.specs.Stored.{Stored}
-use Rattle.hy_store.specs.Writes.{ChangesStore, LeavesStore, stored_in}
+use Rattle.hy_indexes.specs.of_store.Stored.{Stored}
+use Rattle.hy_indexes.specs.of_store.Writes.{ChangesStore, LeavesStore, stored_in}
 use Rattle.hy_writers.specs.Accounts.{ChangesAccount}
 use Rattle.hy_writers.specs.Deliveries.{ChargesCustomer}
 use Rattle.hy_writers.proofs.AccountLaws.{mapped_some}

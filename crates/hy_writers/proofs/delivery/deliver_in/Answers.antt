@@ -1,6 +1,6 @@
 use Rattle.std.proofs.Common.{◌∙◌, ap, subst, sym}
-use Rattle.hy_store.specs.Stored.{Stored}
-use Rattle.hy_store.specs.Writes.{stored_in}
+use Rattle.hy_indexes.specs.of_store.Stored.{Stored}
+use Rattle.hy_indexes.specs.of_store.Writes.{stored_in}
 use Rattle.hy_indexes.specs.Indexes.{HasIndexes}
 use Rattle.hy_writers.specs.Waiting.{order_of_entry}
 use Rattle.hy_writers.proofs.DeliverLaws.{delivered-oldest, entry-key}

@@ -2,10 +2,10 @@ use Rattle.std.proofs.Common.{◌≡◌, of_z, rules, to_z, w64, ◌∙◌, ap, 
 use Rattle.std.proofs.lemmas.Int.{ints, to_z-of_z}
 use Rattle.hy_rows.specs.declared.order_line.OrderLine.{OrderLine}
 use Rattle.hy_commands.specs.Growth.{IsLineAmount}
-use Rattle.hy_index.specs.declared.key.Entry.{Entry}
-use Rattle.hy_store.specs.declared.keys.LineKey.{LineKey}
-use Rattle.hy_store.specs.Stored.{Stored}
-use Rattle.hy_store.specs.Writes.{stored_in}
+use Rattle.hy_indexes.specs.of_index.declared.key.Entry.{Entry}
+use Rattle.hy_indexes.specs.of_store.declared.keys.LineKey.{LineKey}
+use Rattle.hy_indexes.specs.of_store.Stored.{Stored}
+use Rattle.hy_indexes.specs.of_store.Writes.{stored_in}
 use Rattle.hy_writers.specs.Deliveries.{places_of, walk_over, with_lines}
 use Rattle.hy_writers.proofs.DeliveryLaws.{amounts-kept, lines-again, many-lines, walk-end, walk-on}
 use Rattle.hy_writers.proofs.WritesLaws.{all-at, writes-then}

@@ -5,8 +5,8 @@ use Rattle.hy_rows.specs.declared.order_line.OrderLine.{OrderLine}
 use Rattle.hy_rows.specs.Limits.{max_line_cents}
 use Rattle.hy_commands.specs.Growth.{IsLineAmount}
 use Rattle.hy_space.specs.Space.{owner_bytes}
-use Rattle.hy_store.specs.Stored.{HasStore}
-use Rattle.hy_store.specs.Writes.{WritesStore, stored_in}
+use Rattle.hy_indexes.specs.of_store.Stored.{HasStore}
+use Rattle.hy_indexes.specs.of_store.Writes.{WritesStore, stored_in}
 use Rattle.hy_writers.specs.Deliveries.{places_of, walk_over, walked, with_lines}
 use Rattle.hy_writers.proofs.delivery.deliver_lines.Given as goal
 

@@ -4,8 +4,8 @@ use Rattle.std.proofs.lemmas.Int.{to_z-of_z}
 use Rattle.hy_rows.specs.declared.customer.Customer.{Customer}
 use Rattle.hy_rows.specs.declared.order.Order.{Order}
 use Rattle.hy_commands.specs.Growth.{IsCustomerUpTo}
-use Rattle.hy_store.specs.Stored.{Stored}
-use Rattle.hy_store.specs.Writes.{stored_in}
+use Rattle.hy_indexes.specs.of_store.Stored.{Stored}
+use Rattle.hy_indexes.specs.of_store.Writes.{stored_in}
 use Rattle.hy_writers.specs.Deliveries.{with_delivery}
 use Rattle.hy_writers.specs.Limits.{most_applied}
 use Rattle.hy_writers.proofs.DeliverLaws.{cents-still, customers-still, delivered-store, lines-still, order-district, order-is, order-only, put-taken}

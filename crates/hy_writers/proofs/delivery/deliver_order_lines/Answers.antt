@@ -1,10 +1,10 @@
 use Rattle.std.proofs.Common.{◌<◌, ◌≤◌, ◌∙◌, List, ap, length, lit<, subst, sym}
 use Rattle.std.specs.Prelude.{All}
 use Rattle.hy_rows.specs.Limits.{max_lines}
-use Rattle.hy_index.specs.declared.key.Entry.{Entry}
-use Rattle.hy_store.specs.declared.keys.LineKey.{LineKey}
-use Rattle.hy_store.specs.Stored.{Stored}
-use Rattle.hy_store.specs.Writes.{stored_in}
+use Rattle.hy_indexes.specs.of_index.declared.key.Entry.{Entry}
+use Rattle.hy_indexes.specs.of_store.declared.keys.LineKey.{LineKey}
+use Rattle.hy_indexes.specs.of_store.Stored.{Stored}
+use Rattle.hy_indexes.specs.of_store.Writes.{stored_in}
 use Rattle.hy_writers.specs.Deliveries.{places_of, walk_over, with_lines, with_walked}
 use Rattle.hy_writers.proofs.DeliveryLaws.{entries-few, entries-there, walk-cents, walk-rows}
 use Rattle.hy_writers.proofs.WritesLaws.{if_ok-then, on_ok-then}

@@ -1,10 +1,10 @@
 use Rattle.std.proofs.Common.{sym}
-use Rattle.hy_store.specs.Stored.{Stored}
-use Rattle.hy_store.specs.Writes.{stored_in}
+use Rattle.hy_indexes.specs.of_store.Stored.{Stored}
+use Rattle.hy_indexes.specs.of_store.Writes.{stored_in}
 use Rattle.hy_indexes.specs.Indexes.{order_key_at}
 use Rattle.hy_indexes.proofs.IndexLaws.{index-finds}
 use Rattle.hy_indexes.proofs.KeyOrders.{order-of_orders}
-use Rattle.hy_store.specs.Keys.{is_lesser_order}
+use Rattle.hy_indexes.specs.of_store.Keys.{is_lesser_order}
 use Rattle.std.specs.Prelude.{slice_get}
 use Rattle.hy_writers.proofs.DeliverLaws.{order-found}
 use Rattle.hy_writers.proofs.FindLaws.{within-at}

@@ -1,4 +1,4 @@
-use Rattle.hy_store.specs.Writes.{stored_in}
+use Rattle.hy_indexes.specs.of_store.Writes.{stored_in}
 use Rattle.hy_writers.proofs.DeliverLaws.{store-behind, store-none, store-oldest, store-waiting}
 use Rattle.hy_writers.proofs.delivery.waiting_in.Goals as goal
 

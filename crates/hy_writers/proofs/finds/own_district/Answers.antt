@@ -1,4 +1,4 @@
-use Rattle.hy_store.specs.Writes.{stored_in}
+use Rattle.hy_indexes.specs.of_store.Writes.{stored_in}
 use Rattle.hy_writers.proofs.FindLaws.{found-district}
 use Rattle.hy_writers.proofs.finds.own_district.Goals as goal
 

@@ -1,6 +1,6 @@
 use Rattle.hy_rows.specs.declared.district.District.{District}
 use Rattle.hy_rows.specs.Rows.{district_of}
-use Rattle.hy_store.specs.Writes.{stored_in}
+use Rattle.hy_indexes.specs.of_store.Writes.{stored_in}
 use Rattle.hy_writers.proofs.FindLaws.{found-district}
 use Rattle.hy_writers.proofs.finds.own_next_order.Goals as goal
 

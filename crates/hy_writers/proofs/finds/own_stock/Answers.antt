@@ -1,6 +1,6 @@
 use Rattle.std.proofs.Common.{◌-◌, lit<}
 use Rattle.hy_commands.specs.Invariant.{stock_key}
-use Rattle.hy_store.specs.Writes.{stored_in}
+use Rattle.hy_indexes.specs.of_store.Writes.{stored_in}
 use Rattle.hy_writers.proofs.FindLaws.{found-stock, same-row, within-at}
 use Rattle.hy_writers.proofs.finds.own_stock.Goals as goal
 

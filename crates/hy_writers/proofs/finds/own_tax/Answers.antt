@@ -1,6 +1,6 @@
 use Rattle.hy_rows.specs.declared.warehouse.Warehouse.{Warehouse}
 use Rattle.hy_rows.specs.Rows.{warehouse_of}
-use Rattle.hy_store.specs.Writes.{stored_in}
+use Rattle.hy_indexes.specs.of_store.Writes.{stored_in}
 use Rattle.hy_writers.proofs.FindLaws.{found-warehouse}
 use Rattle.hy_writers.proofs.finds.own_tax.Goals as goal
 

@@ -1,7 +1,7 @@
 use Rattle.std.proofs.Common.{◌≡◌, Bool, Some, subst, sym}
 use Rattle.std.specs.Prelude.{OnOk, slice_get}
 use Rattle.hy_rows.specs.declared.customer.Customer.{Customer}
-use Rattle.hy_store.specs.Writes.{ChangesStore, stored_in}
+use Rattle.hy_indexes.specs.of_store.Writes.{ChangesStore, stored_in}
 use Rattle.hy_writers.specs.Payments.{with_noted_if}
 use Rattle.hy_writers.proofs.payment.note_if_due.Goals as goal
 

@@ -5,8 +5,8 @@ use Rattle.hy_rows.specs.declared.customer.Customer.{Customer}
 use Rattle.hy_rows.specs.declared.customer.CustomerAccount.{CustomerAccount}
 use Rattle.hy_rows.specs.declared.customer.CustomerNumber.{CustomerNumber}
 use Rattle.hy_rows.specs.RowParts.{account_of, number_of_customer, with_account}
-use Rattle.hy_store.specs.Stored.{Stored}
-use Rattle.hy_store.specs.Writes.{stored_in}
+use Rattle.hy_indexes.specs.of_store.Stored.{Stored}
+use Rattle.hy_indexes.specs.of_store.Writes.{stored_in}
 use Rattle.hy_writers.specs.Payments.{is_noted, with_noted_if}
 use Rattle.hy_writers.proofs.AccountLaws.{part_is}
 use Rattle.hy_writers.proofs.PaymentLaws.{payer-paid}

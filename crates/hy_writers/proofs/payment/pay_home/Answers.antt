@@ -3,7 +3,7 @@ use Rattle.std.proofs.lemmas.Bool.{eqb-true}
 use Rattle.hy_commands.proofs.ListLaws.{find-passes}
 use Rattle.hy_rows.specs.Finding.{is_warehouse}
 use Rattle.hy_commands.specs.Growth.{IsDistrictUpTo, IsWarehouseUpTo}
-use Rattle.hy_store.specs.Writes.{stored_in}
+use Rattle.hy_indexes.specs.of_store.Writes.{stored_in}
 use Rattle.hy_writers.specs.Limits.{most_applied}
 use Rattle.hy_writers.proofs.PaymentLaws.{home-paid}
 use Rattle.hy_writers.proofs.WritesLaws.{all-at, writes-then}

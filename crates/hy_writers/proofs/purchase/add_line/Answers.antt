@@ -1,5 +1,5 @@
 use Rattle.std.proofs.Common.{◌-◌, ap}
-use Rattle.hy_store.specs.Writes.{stored_in}
+use Rattle.hy_indexes.specs.of_store.Writes.{stored_in}
 use Rattle.hy_writers.proofs.PurchaseLaws.{line-added}
 use Rattle.hy_writers.proofs.WritesLaws.{on_ok-then, writes-then}
 use Rattle.hy_writers.proofs.purchase.add_line.Goals as goal

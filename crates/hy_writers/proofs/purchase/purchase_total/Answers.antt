@@ -5,7 +5,7 @@ use Rattle.hy_rows.specs.Limits.{max_quantity}
 use Rattle.hy_rows.specs.RowParts.{discount_of}
 use Rattle.hy_rows.specs.declared.customer.CustomerDiscount.{CustomerDiscount}
 use Rattle.hy_commands.specs.NewOrders.{total_of}
-use Rattle.hy_store.specs.Writes.{stored_in}
+use Rattle.hy_indexes.specs.of_store.Writes.{stored_in}
 use Rattle.hy_writers.proofs.AccountLaws.{part_is}
 use Rattle.hy_writers.proofs.PurchaseLaws.{total-found}
 use Rattle.hy_writers.proofs.purchase.purchase_total.Goals as goal

@@ -1,4 +1,4 @@
-use Rattle.hy_crossing.specs.inside.Guards.{values_of}
+use Rattle.hy_redo_drains.specs.of_crossing.inside.Guards.{values_of}
 use Rattle.hy_engine.proofs.MineLaws.{forked-mine}
 use Rattle.hy_engine.proofs.engine.Engine.fork_all.Goals as goal
 

@@ -4,7 +4,7 @@ use Rattle.hy_schema.specs.declared.refusal.Refusal.TheVariants as refusals
 use Rattle.hy_passes.specs.Worlds.{PassState}
 use Rattle.hy_commands.specs.declared.command.Commit.{Commit}
 use Rattle.hy_space.specs.Space.{SameForChildren, SpaceState, owner_bytes}
-use Rattle.hy_store.specs.Stored.{stored}
+use Rattle.hy_tpcc.specs.Stored.{stored}
 use Rattle.hy_slices.specs.Slices.{has_item_at, slice_count}
 use Rattle.hy_tpcc.specs.Executor.{ExecutorState, IsUnderWay, answer_of}
 use Rattle.hy_tpcc.specs.Shortages.{FindsNoFrame}

@@ -6,7 +6,7 @@ use Rattle.hy_commands.specs.declared.command.Commit.{Commit}
 use Rattle.hy_commands.specs.Commands.{kept_of}
 use Rattle.hy_commands.proofs.NamedLaws.{named-accepted}
 use Rattle.hy_space.specs.Space.{SameForChildren, SpaceState, owner_bytes}
-use Rattle.hy_store.specs.Stored.{stored}
+use Rattle.hy_tpcc.specs.Stored.{stored}
 use Rattle.hy_slices.specs.Slices.{has_item_at}
 use Rattle.hy_tpcc.specs.Executor.{ExecutorState, IsUnderWay, answer_of}
 use Rattle.hy_tpcc.specs.Shortages.{FindsNoFrame}

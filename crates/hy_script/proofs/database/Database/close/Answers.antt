@@ -1,8 +1,8 @@
 use Rattle.std.proofs.Common.{◌≡◌, ◌<◌, List, true, length, refl, subst, sym}
 use Rattle.std.proofs.lemmas.Bool.{false≢true}
-use Rattle.hy_partition.specs.Snapshots.{SnapshotState}
-use Rattle.hy_crossing.specs.Lists.{Pairwise}
-use Rattle.hy_forks.specs.Forks.{ClosesHere, are_from}
+use Rattle.hy_session.specs.of_partition.Snapshots.{SnapshotState}
+use Rattle.hy_session.specs.of_crossing.Lists.{Pairwise}
+use Rattle.hy_session.specs.of_forks.Forks.{ClosesHere, are_from}
 use Rattle.hy_script.specs.Databases.{DatabaseState}
 use Rattle.hy_script.specs.Steps.{ClosesAt}
 use Rattle.hy_script.specs.inside.Invariants.{IsOfAll}

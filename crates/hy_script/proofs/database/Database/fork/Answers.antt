@@ -1,7 +1,7 @@
 use Rattle.std.proofs.Common.{◌≡◌, ◌++◌, ◌∷◌, [], length, refl, subst}
 use Rattle.std.proofs.lemmas.List.Elements.{All-push}
-use Rattle.hy_crossing.specs.Lists.{Pairwise}
-use Rattle.hy_forks.specs.Forks.{IsUnforked}
+use Rattle.hy_session.specs.of_crossing.Lists.{Pairwise}
+use Rattle.hy_session.specs.of_forks.Forks.{IsUnforked}
 use Rattle.hy_script.specs.Databases.{DatabaseState, OpenSnapshot}
 use Rattle.hy_script.specs.Steps.{Opens}
 use Rattle.hy_script.specs.inside.Invariants.{IsOfAll}

@@ -1,9 +1,9 @@
 use Rattle.std.proofs.Common.{◌≡◌, ◌∙◌, ◌<◌, ◌++◌, ◌∷◌, [], List, Err, true, length, map, slice_index_or, ap, refl, subst, sym}
 use Rattle.std.proofs.lemmas.List.Elements.{All-push}
-use Rattle.hy_partition.specs.Snapshots.{SnapshotState}
-use Rattle.hy_crossing.specs.Lists.{Pairwise}
-use Rattle.hy_forks.specs.Forks.{ForksAllFrom, IsUnforkedUntold, are_from, shown}
-use Rattle.hy_forks.proofs.AgainLaws.{all-untold-same}
+use Rattle.hy_session.specs.of_partition.Snapshots.{SnapshotState}
+use Rattle.hy_session.specs.of_crossing.Lists.{Pairwise}
+use Rattle.hy_session.specs.of_forks.Forks.{ForksAllFrom, IsUnforkedUntold, are_from, shown}
+use Rattle.hy_session.proofs.of_forks.AgainLaws.{all-untold-same}
 use Rattle.hy_script.specs.Databases.{DatabaseState, OpenSnapshot}
 use Rattle.hy_script.specs.Steps.{OpensFrom}
 use Rattle.hy_script.specs.inside.Invariants.{IsOfAll}

@@ -1,6 +1,6 @@
 use Rattle.std.proofs.Common.{◌≡◌, ◌∙◌, arith, List, All, length, refl, rules, subst, sym, vec_len}
 use Rattle.hy_rows.specs.Tables.{Lists}
-use Rattle.hy_crossing.specs.Crossings.{ArePartitions}
+use Rattle.hy_session.specs.of_crossing.Crossings.{ArePartitions}
 use Rattle.hy_script.specs.Databases.{OpenSnapshot}
 use Rattle.hy_script.specs.inside.Invariants.{IsOfAll}
 use Rattle.hy_script.proofs.DatabaseLaws.{served-all}

@@ -1,6 +1,6 @@
 use Rattle.std.proofs.Common.{◌≡◌, ◌∙◌, ◌-◌, List, ap, arith, length, subst}
 use Rattle.std.specs.Io.KnownBytes.{Appends}
-use Rattle.hy_partition.specs.Snapshots.{SnapshotState}
+use Rattle.hy_session.specs.of_partition.Snapshots.{SnapshotState}
 use Rattle.hy_script.specs.Answers.{snapshot_text}
 use Rattle.hy_script.specs.Databases.{DatabaseState, OpenSnapshot}
 use Rattle.hy_script.proofs.ListLaws.{last-item}

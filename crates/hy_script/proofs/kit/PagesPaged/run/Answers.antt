@@ -1,7 +1,7 @@
 use Rattle.std.proofs.Common.{◌≡◌, ◌∙◌, ◌+◌, ap, length, lit<, map, sym}
 use Rattle.std.specs.List.{range_with_len}
 use Rattle.hy_passes.specs.Worlds.{new_client, new_partition}
-use Rattle.hy_partition.proofs.SeatLaws.{length-numbered}
+use Rattle.hy_session.proofs.of_partition.SeatLaws.{length-numbered}
 use Rattle.hy_script.proofs.kit.PagesPaged.run.Goals as goal
 
 pub new-requires : goal.new-requires

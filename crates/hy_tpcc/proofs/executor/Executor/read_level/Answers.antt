@@ -2,7 +2,7 @@ use Rattle.std.proofs.Common.{Some, ap, subst, sym}
 use Rattle.std.specs.Prelude.{IfOk, Option}
 use Rattle.hy_commands.specs.declared.command.Command.TheVariants as commands
 use Rattle.hy_commands.specs.declared.reply.Reply.{Reply}
-use Rattle.hy_store.specs.Writes.{stored_in}
+use Rattle.hy_writers.specs.of_store.Writes.{stored_in}
 use Rattle.hy_tpcc.specs.Executor.{ExecutorState, IsAnswer, IsReply}
 use Rattle.hy_tpcc.proofs.executor.Executor.read_level.Goals as goal
 use Rattle.hy_tpcc.proofs.executor.Executor.read_level.Goals.{in-Ok, in-Err}

@@ -2,8 +2,8 @@ use Rattle.std.proofs.Common.{ap, lit<, subst, sym}
 use Rattle.hy_commands.specs.declared.command.Command.{Command}
 use Rattle.hy_commands.specs.declared.command.Command.TheVariants as commands
 use Rattle.hy_layout.specs.Layout.{LayoutState}
-use Rattle.hy_store.specs.Stored.{Stored}
-use Rattle.hy_store.specs.Writes.{stored_in}
+use Rattle.hy_writers.specs.of_store.Stored.{Stored}
+use Rattle.hy_writers.specs.of_store.Writes.{stored_in}
 use Rattle.hy_writers.specs.Waiting.{IsSoundStore}
 use Rattle.hy_tpcc.specs.Executor.{ExecutorState}
 use Rattle.hy_writers.proofs.WritesLaws.{on_ok-then}

@@ -8,8 +8,8 @@ use Rattle.hy_commands.specs.declared.edition.Edition.{Edition}
 use Rattle.hy_layout.specs.Layout.{LayoutState}
 use Rattle.hy_rows.specs.Tables.{Tables}
 use Rattle.hy_slices.specs.Slices.{slice_count}
-use Rattle.hy_store.specs.Stored.{Stored}
-use Rattle.hy_store.specs.Writes.{LeavesStore, stored_in}
+use Rattle.hy_writers.specs.of_store.Stored.{Stored}
+use Rattle.hy_writers.specs.of_store.Writes.{LeavesStore, stored_in}
 use Rattle.hy_writers.proofs.WritesLaws.{on_ok-then}
 use Rattle.hy_tpcc.specs.Executor.{AnswersSlice, ExecutorState, HasDone, RunsSlice}
 use Rattle.hy_tpcc.proofs.UnderWay.{if_ok-then, only-answers, only-slice, slice-answers, slice-done}
