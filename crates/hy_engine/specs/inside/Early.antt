@@ -2,7 +2,7 @@
 use Rattle.std.specs.Prelude.{Some}
 use Rattle.hy_redo_drains.specs.of_partition.Jobs.{Log, RunningJob}
 use Rattle.hy_redo_drains.specs.of_partition.Partition.{PartitionState}
-use Rattle.hy_redo_drains.proofs.of_partition.FinishLaws.{HasEnded, Reached}
+use Rattle.hy_partition.proofs.FinishLaws.{HasEnded, Reached}
 
 -- some steps were done, whatever the serial list is
 pub record AreEarly (old now : PartitionState) : Type 0 where
