@@ -64,6 +64,15 @@ impl<K: World> Job<K> {
         &self.command
     }
 
+    /// The number of the client who wants it; one of the kit's.
+    pub fn client(&self) -> u32
+        ensures client { result ≡ self.now.pass.client }
+        ensures range { result < K.passes.clients }
+    {
+        self.pass.sound();
+        self.pass.client()
+    }
+
     /// The command and the pass.
     pub fn open(self) -> (Command, Pass<Commit, K>)
         ensures { (result.0 ≡ self.command) × (result.1 ≡ self.pass) }
@@ -134,6 +143,15 @@ impl<K: World> Done<K> {
         ensures { result ≡ record { reply = reply; pass = pass; share = share } }
     {
         Done { reply, pass, share }
+    }
+
+    /// The number of the client whose job it was; one of the kit's.
+    pub fn client(&self) -> u32
+        ensures client { result ≡ self.now.pass.client }
+        ensures range { result < K.passes.clients }
+    {
+        self.pass.sound();
+        self.pass.client()
     }
 
     /// The reply, the client's pass, and the share.

@@ -155,6 +155,7 @@ fn admit_clients<C: Commits, K: World>(
 ) -> Result<Vec<Pass<C, K>>, AllocError>
     requires journal { (journal.old.table_id ≡ K.passes.word) × (journal.old.id ≡ 0) }
     requires new { journal.old.me.0.mine.seen ≡ [] }
+    requires clients { clients ≡ K.passes.clients }
     ensures place { (journal.new.table_id ≡ journal.old.table_id) × (journal.new.id ≡ journal.old.id) }
     ensures journal { journal.new.me.0 ≡ journal.old.me.0 }
     ensures passes { IfOk result (λ all. all.items ≡ map new_client (range_with_len 0 clients)) }

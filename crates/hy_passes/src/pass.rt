@@ -1,6 +1,6 @@
 //! What a client has seen.
 
-ghost use Rattle.std.specs.Prelude.{◌≡◌, ◌+◌, ◌≤◌, length};
+ghost use Rattle.std.specs.Prelude.{◌≡◌, ◌+◌, ◌<◌, ◌≤◌, length};
 ghost use mathlib.Core.List.{IsPrefix};
 
 use crate::entry::{Commits, Entry};
@@ -20,14 +20,14 @@ pub struct Pass<C, K: World> {
 }
 
 impl<C, K: World> Model for Pass<C, K> {
-    ghost use Rattle.std.specs.Prelude.{◌≡◌, [], length, None};
+    ghost use Rattle.std.specs.Prelude.{◌≡◌, ◌<◌, [], length, None};
     ghost use Rattle.hy_passes.specs.Worlds.{PassState};
 
     ghost Value = { PassState C };
 
     ghost view = { λ p. record { client = p.client; seen = p.seat.me.0.mine.seen; looks = p.seat.me.0.mine.looks } };
 
-    ghost invariant = { λ p. (p.seat.table_id ≡ K.passes.word) × (p.seat.me.1 ≡ []) × (p.seat.me.0.mine.serves ≡ None) × (p.known ≡ length p.seat.me.0.mine.seen) };
+    ghost invariant = { λ p. (p.seat.table_id ≡ K.passes.word) × (p.seat.me.1 ≡ []) × (p.seat.me.0.mine.serves ≡ None) × (p.known ≡ length p.seat.me.0.mine.seen) × (p.client < K.passes.clients) };
 }
 
 impl<C: Commits, K: World> Pass<C, K> {
@@ -36,6 +36,13 @@ impl<C: Commits, K: World> Pass<C, K> {
         ensures { result ≡ self.now.client }
     {
         self.client
+    }
+
+    /// That the client is one of the kit's.
+    pub fn sound(&self)
+        ensures { self.now.client < K.passes.clients }
+    {
+        let _client = self.client;
     }
 
     /// How many commits the client has seen.

@@ -115,6 +115,7 @@ impl<C: Commits, K: World> Passes<C, K> {
     pub(crate) fn admit(&self, journal: &mut Seat<Entry<C>, View<C>>, client: u32) -> Pass<C, K>
         requires journal { (journal.old.table_id ≡ K.passes.word) × (journal.old.id ≡ 0) }
         requires empty { journal.old.me.0.mine.seen ≡ [] }
+        requires range { client < K.passes.clients }
         ensures place { (journal.new.table_id ≡ journal.old.table_id) × (journal.new.id ≡ journal.old.id) }
         ensures journal { journal.new.me.0 ≡ journal.old.me.0 }
         ensures pass { result ≡ new_client client }
