@@ -61,6 +61,7 @@ fn two_warehouses<K: Loaded + Send + Sync, R: Threads + Wait + Abort + AllocGlob
     requires load { load.now ≡ K.load }
     requires kit { kit ≡ K.passes }
     requires partitions { kit.partitions ≡ length load.now.tables.warehouses }
+    requires clients { kit.clients ≡ 2 }
 {
     let room = Room {
         clients: 2,
@@ -157,6 +158,7 @@ fn reads<K: Loaded + Send + Sync, R: Threads + Wait + Abort + AllocGlobal + Sync
     requires load { load.now ≡ K.load }
     requires kit { kit ≡ K.passes }
     requires partitions { kit.partitions ≡ length load.now.tables.warehouses }
+    requires clients { kit.clients ≡ 2 }
 {
     let room = Room {
         clients: 2,
@@ -232,6 +234,7 @@ fn refuses<K: Loaded + Send + Sync, R: Threads + Wait + Abort + AllocGlobal + Sy
     requires load { load.now ≡ K.load }
     requires kit { kit ≡ K.passes }
     requires partitions { kit.partitions ≡ length load.now.tables.warehouses }
+    requires clients { kit.clients ≡ 2 }
 {
     let room = Room {
         clients: 2,
@@ -303,6 +306,7 @@ fn fills<K: Loaded + Send + Sync, R: Threads + Wait + Abort + AllocGlobal + Sync
     requires load { load.now ≡ K.load }
     requires kit { kit ≡ K.passes }
     requires partitions { kit.partitions ≡ length load.now.tables.warehouses }
+    requires clients { kit.clients ≡ 3 }
 {
     let room = Room {
         clients: 3,

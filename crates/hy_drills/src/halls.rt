@@ -33,7 +33,7 @@ pub struct Room {
 }
 
 impl<K: Loaded> Hall<K> {
-    /// The engine of a load, with all clients of a kit, of whom the engine may have fewer.
+    /// The engine of a load, with all clients of a kit.
     pub fn new<R: Abort + AllocGlobal>(
         rt: &R,
         load: &Load,
@@ -44,6 +44,7 @@ impl<K: Loaded> Hall<K> {
         requires load { load.now ≡ K.load }
         requires kit { kit ≡ K.passes }
         requires partitions { kit.partitions ≡ length load.now.tables.warehouses }
+        requires clients { room.clients ≡ kit.clients }
     {
         load.sound();
         let alloc = rt.alloc();

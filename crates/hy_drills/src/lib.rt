@@ -16,6 +16,8 @@ mod queue_tests;
 #[cfg(test)]
 mod refusal_tests;
 #[cfg(test)]
+mod reply_tests;
+#[cfg(test)]
 mod session_tests;
 #[cfg(test)]
 mod storm_tests;

@@ -64,6 +64,7 @@ fn in_order<K: Loaded + Send + Sync, R: Threads + Wait + Abort + AllocGlobal + S
     requires load { load.now ≡ K.load }
     requires kit { kit ≡ K.passes }
     requires partitions { kit.partitions ≡ length load.now.tables.warehouses }
+    requires clients { kit.clients ≡ 4 }
 {
     let room = Room {
         clients: 4,
@@ -130,6 +131,7 @@ fn after_close<K: Loaded + Send + Sync, R: Threads + Wait + Abort + AllocGlobal 
     requires load { load.now ≡ K.load }
     requires kit { kit ≡ K.passes }
     requires partitions { kit.partitions ≡ length load.now.tables.warehouses }
+    requires clients { kit.clients ≡ 4 }
 {
     let room = Room {
         clients: 4,

@@ -51,6 +51,7 @@ fn fills<K: Loaded + Send + Sync, R: Threads + Wait + Abort + AllocGlobal + Sync
     requires load { load.now ≡ K.load }
     requires kit { kit ≡ K.passes }
     requires partitions { kit.partitions ≡ length load.now.tables.warehouses }
+    requires clients { kit.clients ≡ 1024 }
 {
     let room = Room {
         clients: CLIENTS,

@@ -29,22 +29,17 @@ fn all_come_back<K: Loaded, R: Wait + Abort + AllocGlobal>(
     comes_back(rt, engine, payment(0, 1, 100), pass, wanted)
 }
 
-/// An open engine takes the jobs of its two clients whose homes are there, and none of the third client, whom only the kit
-/// has. Closed it takes none, and does the one that waits.
+/// An open engine takes the jobs whose homes are there, and no others. Closed it takes none, and does the one that waits.
 fn close_between<K: Loaded, R: Wait + Abort + AllocGlobal>(
     rt: &R,
     engine: &TestEngine<K>,
     mut clients: Vec<Pass<Commit, K>>,
     ended: &AtomicBool,
 ) {
-    let beyond = pop(rt, &mut clients);
-    let third = pop(rt, &mut clients);
     let second = pop(rt, &mut clients);
     let first = pop(rt, &mut clients);
     let (one, two) = (first.client(), second.client());
-    assert!(rt; one == 0 && two == 1 && third.client() == 2 && beyond.client() == 3);
-    let third = all_come_back(rt, engine, third, Refusal::OutOfRange);
-    let beyond = all_come_back(rt, engine, beyond, Refusal::OutOfRange);
+    assert!(rt; one == 0 && two == 1);
     let first = comes_back(
         rt,
         engine,
@@ -64,8 +59,6 @@ fn close_between<K: Loaded, R: Wait + Abort + AllocGlobal>(
     let first = paid(rt, engine, one, -1100);
     engine.close(rt);
     all_come_back(rt, engine, first, Refusal::Closed);
-    all_come_back(rt, engine, third, Refusal::OutOfRange);
-    all_come_back(rt, engine, beyond, Refusal::OutOfRange);
     engine.work(rt, 0);
     engine.work(rt, 1);
     engine.work(rt, 2);
@@ -82,6 +75,7 @@ fn closes<K: Loaded + Send + Sync, R: Threads + Wait + Abort + AllocGlobal + Syn
     requires load { load.now ≡ K.load }
     requires kit { kit ≡ K.passes }
     requires partitions { kit.partitions ≡ length load.now.tables.warehouses }
+    requires clients { kit.clients ≡ 2 }
 {
     let room = Room {
         clients: 2,
@@ -106,6 +100,6 @@ fn closes<K: Loaded + Send + Sync, R: Threads + Wait + Abort + AllocGlobal + Syn
 fn jobs_that_come_back(rt: HostRuntime) {
     let load = generate(rt.alloc(), 2, 3, 20).expect(&rt, "a load");
     assert!(&rt; load.tables().warehouses.len() == 2);
-    let kit = make::<Commit>(rt.alloc(), 2, 4, 1).expect(&rt, "a kit");
+    let kit = make::<Commit>(rt.alloc(), 2, 2, 1).expect(&rt, "a kit");
     closes::<Brand, HostRuntime>(&rt, &load, kit);
 }

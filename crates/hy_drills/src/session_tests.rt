@@ -152,6 +152,7 @@ fn passes_on<K: Loaded + Send + Sync, R: Threads + Wait + Abort + AllocGlobal + 
     requires load { load.now ≡ K.load }
     requires kit { kit ≡ K.passes }
     requires partitions { kit.partitions ≡ length load.now.tables.warehouses }
+    requires clients { kit.clients ≡ 1 }
 {
     let room = Room {
         clients: 1,

@@ -70,6 +70,7 @@ fn strangers<K: Loaded, L: Loaded, R: Wait + Abort + AllocGlobal>(
     requires kit { kit ≡ K.passes }
     requires other { other ≡ L.passes }
     requires partitions { kit.partitions ≡ length load.now.tables.warehouses }
+    requires clients { (kit.clients ≡ 1) × (other.clients ≡ 1) }
     requires other_partitions { other.partitions ≡ length load.now.tables.warehouses }
 {
     let Hall {

@@ -4,3 +4,4 @@ pub use Rattle.hy_redo_drains.proofs as of_redo_drains
 pub use Rattle.hy_redo_drains.proofs.FollowLaws
 pub mod RunLaws
 pub mod MineLaws
+pub mod AnswerLaws

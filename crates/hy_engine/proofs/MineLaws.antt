@@ -11,7 +11,7 @@ use Rattle.hy_redo_drains.specs.of_crossing.Crossings.{ArePartitions}
 use Rattle.hy_redo_drains.specs.of_forks.Forks.{ForksAll, ForksAllFrom, are_from}
 use Rattle.hy_redo_drains.specs.of_forks.Origins.{Origin}
 use Rattle.hy_redo_drains.proofs.of_forks.ForkedLaws.{are_from-again, are_from-forks, are_from-others}
-use Rattle.hy_engine.specs.Engines.{AreMine, IsWhyNotAgain}
+use Rattle.hy_engine.specs.Engines.{AreMine, EngineState, IsWhyNotAgain}
 
 pub forked-mine : (n : ℕ) (kit : Origin) (lists : Lists) (log known : Log) (olds news : List PartitionState)
     (result : Result (List SnapshotState) Refusal) → IfOk result (ForksAll n kit log known olds news)
@@ -30,12 +30,12 @@ again-mine kit lists others olds news (Ok all) forks are =
 again-mine kit lists others olds news (Err why) forks are = tt
 
 -- why there are none
-pub not-again : (kit : Origin) (lists : Lists) (others : List SnapshotState) (parts : List PartitionState)
+pub not-again : (kit : Origin) (lists : Lists) (engine : EngineState) (others : List SnapshotState) (parts : List PartitionState)
     (result : Result (List SnapshotState) Refusal) → ArePartitions lists parts
     → (result ≡ Err refusals.NotMine ↔ (are_from kit others parts ≡ false))
     → IfErr result (λ why. (why ≡ refusals.NotMine) ⊎ (why ≡ refusals.NoMemory))
-    → IfErr result (IsWhyNotAgain kit lists others)
-not-again kit lists others parts (Ok all) are mine why = tt
-not-again kit lists others parts (Err why) are mine (inl is) =
+    → IfErr result (IsWhyNotAgain kit lists engine others)
+not-again kit lists engine others parts (Ok all) are mine why = tt
+not-again kit lists engine others parts (Err why) are mine (inl is) =
     inl (is, λ own. true≢false (sym (own parts are) ∙ mine.0 (ap Err is)))
-not-again kit lists others parts (Err why) are mine (inr memory) = inr (inr memory)
+not-again kit lists engine others parts (Err why) are mine (inr memory) = inr (inr memory)

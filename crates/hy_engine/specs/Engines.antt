@@ -1,5 +1,5 @@
 -- What clauses see of an engine, and what its calls answer.
-use Rattle.std.specs.Prelude.{◌≡◌, ◌⊎◌, ◌<◌, ◌≤◌, ℕ, Bool, true, false, List, None, Some, Result, Ok, Err, length, nat_lt}
+use Rattle.std.specs.Prelude.{◌≡◌, ◌⊎◌, ◌<◌, ◌≤◌, ℕ, Bool, true, false, List, None, Some, Result, Ok, Err, All, length, nat_lt}
 use mathlib.Core.List.{IsPrefix}
 use Rattle.hy_rows.specs.Tables.{Lists}
 use Rattle.hy_schema.specs.Conditions.{first_broken}
@@ -8,23 +8,30 @@ use Rattle.hy_schema.specs.declared.refusal.Refusal.TheVariants as refusals
 use Rattle.hy_database.specs.Database.{all_rows}
 use Rattle.hy_commands.specs.declared.command.Command.{Command}
 use Rattle.hy_commands.specs.declared.command.Commit.{Commit}
+use Rattle.hy_commands.specs.declared.edition.Edition.TheVariants as editions
 use Rattle.hy_commands.specs.Commands.{home_of, warehouses_of}
 use Rattle.hy_passes.specs.Worlds.{PassState}
+use Rattle.hy_queues.specs.Queues.{FrontState, IsWhyUnput}
 use Rattle.hy_redo_drains.specs.of_partition.Jobs.{DoneState, JobState, Log, RunningJob, begun, refused_answer, told}
 use Rattle.hy_redo_drains.specs.of_partition.Partition.{PartitionState}
 use Rattle.hy_redo_drains.specs.of_partition.Snapshots.{SnapshotState}
 use Rattle.hy_redo_drains.specs.of_partition.Steps.{Accepts, IsUnbegun, Refuses, begin_refusal, with_job}
-use Rattle.hy_redo_drains.specs.of_crossing.Crossings.{ArePartitions, database_behind}
+use Rattle.hy_redo_drains.specs.of_crossing.Crossings.{ArePartitions, Crosses, HaveNoPart, database_behind}
 use Rattle.hy_redo_drains.specs.Following.{DrainState, WritesDue}
 use Rattle.hy_redo_drains.specs.of_forks.Drains.{are_new, drained_of}
-use Rattle.hy_redo_drains.specs.of_forks.Forks.{SpellsDatabase, are_from}
+use Rattle.hy_redo_drains.specs.of_forks.Forks.{IsWhyUnforked, SpellsDatabase, are_from}
 use Rattle.hy_redo_drains.specs.of_forks.Histories.{IsOneHistory}
 use Rattle.hy_redo_drains.specs.of_forks.Origins.{Origin}
 
--- how many warehouses an engine has, and how many clients
+-- how many warehouses an engine has, and how many jobs the queue of each can hold. Its clients are those of the kit, and the queue
+-- of answers of each has one place
 pub record EngineState : Type 0 where
   pub warehouses : ℕ
-  pub clients : ℕ
+  pub capacity : ℕ
+
+-- each queue has so many places
+abbrev pub HavePlaces : ℕ → List ℕ → Type 0
+HavePlaces count queues = All (λ places. places ≡ count) queues
 
 -- the greatest capacity of a queue of jobs
 abbrev pub max_capacity : ℕ
@@ -55,23 +62,39 @@ AnswersJob job old new answer =
     ((why : Refusal) × IsUnbegun old job.command why × (new ≡ old) × (answer ≡ refused_answer job.pass why))
     ⊎ ((begin_refusal old job.command ≡ None) × AnswersRunning (begun job) (with_job old job) new answer)
 
+-- so many partitions that were locked aren't those of the load, or a part of a command is done in one of them
+abbrev pub AreOthers : Lists → EngineState → Type 0
+AreOthers lists engine =
+    (parts : List PartitionState) × (length parts ≡ engine.warehouses)
+    × ((1 ≤ length parts) × ArePartitions lists parts × HaveNoPart parts → ⊥)
+
+-- a job was done in a partition, or in the partitions of a load, all of them locked; or there was no room for their locks
+pub data IsDone (lists : Lists) (job : JobState) (answer : DoneState) : Type 0 where
+  undone : answer ≡ refused_answer job.pass refusals.NoMemory → IsDone lists job answer
+  at_home : (old new : PartitionState) → AnswersJob job old new answer → IsDone lists job answer
+  in_all : (before after : Log) (old new : List PartitionState) → ArePartitions lists old
+      → Crosses lists job before after old new answer → IsDone lists job answer
+
+-- an answer is one that a job of the second edition got
+pub record IsAnswer (lists : Lists) (answer : DoneState) : Type 0 where
+  pub job : JobState
+  pub edition : job.edition ≡ editions.Second
+  pub done : IsDone lists job answer
+
 -- an engine has the warehouse with a number
 abbrev pub IsHome : EngineState → ℕ → Type 0
 IsHome engine number = (1 ≤ number) × (number ≤ engine.warehouses)
 
--- with what a job of one of the engine's clients may come back: E16; E4, where its home isn't there or it names several
--- warehouses; or E17, where its home is there and it names one
-abbrev pub IsWhyUntaken : EngineState → Command → Refusal → Type 0
-IsWhyUntaken engine command why =
-    (why ≡ refusals.Closed)
-    ⊎ ((why ≡ refusals.NoSuchWarehouse) × ((IsHome engine (home_of command) → ⊥) ⊎ (names_several command ≡ true)))
-    ⊎ ((why ≡ refusals.QueueFull) × IsHome engine (home_of command) × (names_several command ≡ false))
-
--- why a job comes back: exactly a client that isn't one of the engine's is out of range
-abbrev pub IsWhyBack : EngineState → JobState → Refusal → Type 0
-IsWhyBack engine job why =
-    ((why ≡ refusals.OutOfRange) × (engine.clients ≤ job.pass.client))
-    ⊎ ((job.pass.client < engine.clients) × IsWhyUntaken engine job.command why)
+-- why a job comes back: the engine takes no more jobs; its home isn't there; it names several warehouses, and the partitions
+-- aren't those of the load; or it names one, in whose queue all places were taken at one moment
+pub data IsWhyBack (lists : Lists) (engine : EngineState) (command : Command) (why : Refusal) : Type 0 where
+  closed : why ≡ refusals.Closed → (jobs : FrontState JobState) → jobs.is_closed ≡ true
+      → IsWhyBack lists engine command why
+  homeless : why ≡ refusals.NoSuchWarehouse → (IsHome engine (home_of command) → ⊥) → IsWhyBack lists engine command why
+  unheld : why ≡ refusals.NoSuchWarehouse → names_several command ≡ true → AreOthers lists engine
+      → IsWhyBack lists engine command why
+  waits : (jobs : FrontState JobState) → IsHome engine (home_of command) → names_several command ≡ false
+      → IsWhyUnput jobs why → IsWhyBack lists engine command why
 
 -- ---- snapshots of all warehouses
 
@@ -89,15 +112,23 @@ abbrev pub AreMine : Origin → Lists → List SnapshotState → Type 0
 AreMine kit lists snapshots =
     (parts : List PartitionState) → ArePartitions lists parts → are_from kit snapshots parts ≡ true
 
--- why there is none
-abbrev pub IsWhyUnseen : Refusal → Type 0
-IsWhyUnseen why = (why ≡ refusals.NoSuchWarehouse) ⊎ (why ≡ refusals.NoFrame) ⊎ (why ≡ refusals.NoMemory)
+-- why there is none: the partitions aren't those of the load; or they are, and one of them lacks frames, or memory is refused
+pub data IsWhyUnseen (lists : Lists) (engine : EngineState) (why : Refusal) : Type 0 where
+  others : why ≡ refusals.NoSuchWarehouse → AreOthers lists engine → IsWhyUnseen lists engine why
+  no_room : why ≡ refusals.NoMemory → IsWhyUnseen lists engine why
+  unforked : (parts : List PartitionState) → ArePartitions lists parts → IsWhyUnforked parts why
+      → IsWhyUnseen lists engine why
+
+-- why one isn't closed: it isn't one of the partitions of the load, or those that are locked aren't
+abbrev pub IsWhyOpen : Origin → Lists → EngineState → List SnapshotState → Refusal → Type 0
+IsWhyOpen kit lists engine all why =
+    ((why ≡ refusals.NotMine) × ¬ AreMine kit lists all) ⊎ ((why ≡ refusals.NoSuchWarehouse) × AreOthers lists engine)
 
 -- why there is none of what another one sees: that one isn't one of the partitions of the load, or why there may be none
-abbrev pub IsWhyNotAgain : Origin → Lists → List SnapshotState → Refusal → Type 0
-IsWhyNotAgain kit lists all why =
+abbrev pub IsWhyNotAgain : Origin → Lists → EngineState → List SnapshotState → Refusal → Type 0
+IsWhyNotAgain kit lists engine all why =
     ((why ≡ refusals.NotMine) × ¬ AreMine kit lists all)
-    ⊎ (why ≡ refusals.NoSuchWarehouse) ⊎ (why ≡ refusals.NoMemory)
+    ⊎ ((why ≡ refusals.NoSuchWarehouse) × AreOthers lists engine) ⊎ (why ≡ refusals.NoMemory)
 
 -- ---- drains
 
@@ -113,18 +144,19 @@ pub record DrainsAll (partitions : ℕ) (lists : Lists) (old new : DrainState) :
   pub new_ones : are_new (drained_of old.seen parts) ≡ true
 
 -- why nothing was drained
-abbrev pub IsWhyUndrained : Refusal → Type 0
-IsWhyUndrained why = (why ≡ refusals.NoSuchWarehouse) ⊎ (why ≡ refusals.NoMemory)
+abbrev pub IsWhyUndrained : Lists → EngineState → Refusal → Type 0
+IsWhyUndrained lists engine why =
+    ((why ≡ refusals.NoSuchWarehouse) × AreOthers lists engine) ⊎ (why ≡ refusals.NoMemory)
 
 -- a drain into a log: what was due is written first, where something was. Then nothing is drained, and the log stays as it
 -- is; or what was committed is, and it is written
-pub data DrainsInto (partitions : ℕ) (lists : Lists) (old new : DrainState) (answer : Result (Unit {0}) Refusal) : Type 0 where
-  stays_due : WritesDue old new answer → ((why : Refusal) × (answer ≡ Err why)) → DrainsInto partitions lists old new answer
-  undrained : (why : Refusal) → WritesDue old new (Ok tt) → answer ≡ Err why → IsWhyUndrained why
-      → DrainsInto partitions lists old new answer
+pub data DrainsInto (partitions : ℕ) (lists : Lists) (engine : EngineState) (old new : DrainState) (answer : Result (Unit {0}) Refusal) : Type 0 where
+  stays_due : WritesDue old new answer → ((why : Refusal) × (answer ≡ Err why)) → DrainsInto partitions lists engine old new answer
+  undrained : (why : Refusal) → WritesDue old new (Ok tt) → answer ≡ Err why → IsWhyUndrained lists engine why
+      → DrainsInto partitions lists engine old new answer
   drained : (mid due : DrainState) → WritesDue old mid (Ok tt) → DrainsAll partitions lists mid due
-      → WritesDue due new answer → DrainsInto partitions lists old new answer
+      → WritesDue due new answer → DrainsInto partitions lists engine old new answer
 
 -- why nothing was acknowledged: nothing was drained, or the log's writer has failed
-abbrev pub IsWhyUnlogged : Refusal → Type 0
-IsWhyUnlogged why = IsWhyUndrained why ⊎ (why ≡ refusals.LogFailed)
+abbrev pub IsWhyUnlogged : Lists → EngineState → Refusal → Type 0
+IsWhyUnlogged lists engine why = IsWhyUndrained lists engine why ⊎ (why ≡ refusals.LogFailed)

@@ -24,7 +24,7 @@ impl<const N: usize, K: Loaded, G: Gate + Drop> Engine<N, K, G> {
         alloc: Global,
         log: &Mutex<DrainLog<W, K>>,
     ) -> Result<(), Refusal>
-        ensures { IfErr result IsWhyUnlogged }
+        ensures { IfErr result (IsWhyUnlogged K.load self.now) }
     {
         let mut log = log.lock(rt);
         self.drain_into(rt, alloc, &mut log)
@@ -37,8 +37,8 @@ impl<const N: usize, K: Loaded, G: Gate + Drop> Engine<N, K, G> {
         alloc: Global,
         log: &mut DrainLog<W, K>,
     ) -> Result<(), Refusal>
-        ensures drains { DrainsInto K.passes.partitions K.load log.old log.new result }
-        ensures refused { IfErr result IsWhyUnlogged }
+        ensures drains { DrainsInto K.passes.partitions K.load self.now log.old log.new result }
+        ensures refused { IfErr result (IsWhyUnlogged K.load self.now) }
     {
         log.write()?;
         self.drain_all(rt, alloc, log)?;
@@ -56,7 +56,7 @@ impl<const N: usize, K: Loaded, G: Gate + Drop> Engine<N, K, G> {
         requires { log.old.due ≡ None }
         ensures drained { OnOk result (DrainsAll K.passes.partitions K.load log.old log.new) }
         ensures err { OnErr result (log.new ≡ log.old) }
-        ensures refused { IfErr result IsWhyUndrained }
+        ensures refused { IfErr result (IsWhyUndrained K.load self.now) }
     {
         let mut held = self.hold(rt, self.room(alloc)?)?;
         let mut journal = lock_soon(rt, &self.journal);

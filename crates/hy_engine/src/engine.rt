@@ -3,14 +3,15 @@
 ghost use Rattle.std.specs.Prelude.{◌≡◌, ◌↔◌, ◌⊎◌, ◌≤◌, [], IfErr, IfOk, IsTrue, OnOk, length, vec_capacity};
 ghost use Rattle.hy_schema.specs.declared.refusal.Refusal.{Refusal};
 ghost use Rattle.hy_rows.specs.Limits.{max_warehouses};
-ghost use Rattle.hy_engine.specs.Engines.{IsCapacity};
+ghost use Rattle.hy_engine.specs.Engines.{HavePlaces, IsCapacity};
 
+use crate::answer::Answer;
 use crate::gate::Gate;
 use crate::new_job::NewJob;
 use hy_commands::Commit;
 use hy_passes::Journal;
 use hy_queues::Line;
-use hy_redo_drains::hy_partition::{Done, Loaded, Partition};
+use hy_redo_drains::hy_partition::{Loaded, Partition};
 use hy_rows::MAX_WAREHOUSES;
 use hy_schema::Refusal;
 use std::alloc::{AllocError, Global};
@@ -28,28 +29,35 @@ pub struct Engine<const N: usize, K: Loaded, G: Gate> {
     pub(crate) journal: Mutex<Journal<Commit, K>>,
     pub(crate) turn: Mutex<()>,
     pub(crate) jobs: Vec<Line<NewJob<K>>>,
-    pub(crate) answers: Vec<Line<Done<K>>>,
+    pub(crate) answers: Vec<Line<Answer<K>>>,
     pub(crate) gate: G,
+    capacity: usize,
     spare: Mutex<Spare<N, K>>,
 }
 
-// Clauses see how many warehouses and clients there are.
+// Clauses see how many warehouses there are, and how many places the queue of each has. A queue of answers is there for each
+// client of the kit, with one place.
 impl<const N: usize, K: Loaded, G: Gate> Model for Engine<N, K, G> {
     ghost use Rattle.std.specs.Prelude.{◌≡◌, ◌≤◌, length};
     ghost use Rattle.hy_rows.specs.Limits.{max_warehouses};
-    ghost use Rattle.hy_engine.specs.Engines.{EngineState};
+    ghost use Rattle.hy_engine.specs.Engines.{EngineState, HavePlaces};
 
     ghost Value = { EngineState };
 
-    ghost view = { λ e. record { warehouses = length e.parts.items; clients = length e.answers.items } };
+    ghost view = { λ e. record { warehouses = length e.parts.items; capacity = e.capacity } };
 
-    ghost invariant = { λ e. (length e.jobs.items ≡ length e.parts.items) × (length e.parts.items ≤ max_warehouses) };
+    ghost invariant = { λ e.
+        (length e.jobs.items ≡ length e.parts.items)
+        × (length e.parts.items ≤ max_warehouses)
+        × (length e.answers.items ≡ K.passes.clients)
+        × HavePlaces e.capacity e.jobs.items
+        × HavePlaces 1 e.answers.items };
 }
 
 impl<const N: usize, K: Loaded, G: Gate + Drop> Engine<N, K, G> {
-    /// An engine over the partitions of all warehouses in order and their journal, for the clients of the kit, with
-    /// room for so many jobs in the queue of each warehouse. A refusal gives all of it back: E8 exactly where the
-    /// capacity isn't 1 to 4,096; else E1.
+    /// An engine over the partitions of all warehouses in order and their journal, for the clients of the kit, of which there
+    /// are so many, with room for so many jobs in the queue of each warehouse. A refusal gives all of it back: E8 exactly
+    /// where the capacity isn't 1 to 4,096; else E1.
     pub fn new(
         alloc: Global,
         parts: Vec<Partition<N, K>>,
@@ -58,10 +66,11 @@ impl<const N: usize, K: Loaded, G: Gate + Drop> Engine<N, K, G> {
         capacity: usize,
         gate: G,
     ) -> Result<Engine<N, K, G>, (Vec<Partition<N, K>>, Journal<Commit, K>, G, Refusal)>
-        requires { length parts.items ≤ max_warehouses }
+        requires few { length parts.items ≤ max_warehouses }
+        requires clients { clients ≡ K.passes.clients }
         ensures warehouses { IfOk result (λ engine. engine.warehouses ≡ length parts.items) }
-        ensures clients { IfOk result (λ engine. engine.clients ≡ clients) }
-        ensures capacity { OnOk result (IsCapacity capacity) }
+        ensures capacity { IfOk result (λ engine. engine.capacity ≡ capacity) }
+        ensures range { OnOk result (IsCapacity capacity) }
         ensures refused { IfErr result (λ refused. (refused.3 ≡ Refusal.OutOfRange) ⊎ (refused.3 ≡ Refusal.NoMemory)) }
         ensures out_of_range { IfErr result
             (λ refused. (refused.3 ≡ Refusal.OutOfRange) ↔ (IsCapacity capacity → ⊥)) }
@@ -72,7 +81,7 @@ impl<const N: usize, K: Loaded, G: Gate + Drop> Engine<N, K, G> {
             return Err((parts, journal, gate, Refusal::OutOfRange));
         }
         match reserve(alloc, parts.len(), clients as usize, capacity) {
-            Ok(rooms) => Ok(engine_in(rooms, parts, journal, gate)),
+            Ok(rooms) => Ok(engine_in(rooms, parts, journal, gate, capacity)),
             Err(_) => Err((parts, journal, gate, Refusal::NoMemory)),
         }
     }
@@ -84,9 +93,9 @@ impl<const N: usize, K: Loaded, G: Gate + Drop> Engine<N, K, G> {
         self.parts.len()
     }
 
-    /// How many clients there are.
+    /// How many clients there are: those of the kit.
     pub fn clients(&self) -> usize
-        ensures { result ≡ self.now.clients }
+        ensures { result ≡ K.passes.clients }
     {
         self.answers.len()
     }
@@ -114,6 +123,7 @@ impl<const N: usize, K: Loaded, G: Gate + Drop> Engine<N, K, G> {
             jobs: _,
             answers: _,
             gate: _,
+            capacity: _,
             spare,
         } = self;
         (
@@ -175,18 +185,18 @@ fn unlocked<T: Drop>(locks: Vec<Mutex<T>>, room: Vec<T>) -> Vec<T>
 struct Rooms<const N: usize, K: Loaded> {
     parts: Vec<Mutex<Partition<N, K>>>,
     jobs: Vec<Line<NewJob<K>>>,
-    answers: Vec<Line<Done<K>>>,
+    answers: Vec<Line<Answer<K>>>,
     spare: Spare<N, K>,
 }
 
-// Clauses see for how many warehouses and clients it is.
+// Clauses see how many places the queues of jobs have, and those of answers.
 impl<const N: usize, K: Loaded> Model for Rooms<N, K> {
     ghost use Rattle.std.specs.Prelude.{◌≡◌, ◌≤◌, [], length, vec_capacity};
-    ghost use Rattle.hy_engine.specs.Engines.{EngineState};
+    ghost use Rattle.hy_engine.specs.inside.Rooms.{RoomsState};
 
-    ghost Value = { EngineState };
+    ghost Value = { RoomsState };
 
-    ghost view = { λ r. record { warehouses = length r.jobs.items; clients = length r.answers.items } };
+    ghost view = { λ r. record { jobs = r.jobs.items; answers = r.answers.items } };
 
     ghost invariant = { λ r. (r.parts.items ≡ []) × (length r.jobs.items ≤ vec_capacity r.parts) };
 }
@@ -194,7 +204,8 @@ impl<const N: usize, K: Loaded> Model for Rooms<N, K> {
 /// So many queues of a capacity.
 fn lines<T: Drop>(alloc: Global, count: usize, capacity: usize) -> Result<Vec<Line<T>>, AllocError>
     requires { 1 ≤ capacity }
-    ensures { IfOk result (λ lines. length lines.items ≡ count) }
+    ensures count { IfOk result (λ lines. length lines.items ≡ count) }
+    ensures places { IfOk result (λ lines. HavePlaces capacity lines.items) }
 {
     let mut lines = Vec::with_capacity(alloc, count)?;
     for _ in 0..count {
@@ -211,7 +222,8 @@ fn reserve<const N: usize, K: Loaded>(
     capacity: usize,
 ) -> Result<Rooms<N, K>, AllocError>
     requires { 1 ≤ capacity }
-    ensures { IfOk result (λ rooms. (rooms.warehouses ≡ warehouses) × (rooms.clients ≡ clients)) }
+    ensures jobs { IfOk result (λ rooms. (length rooms.jobs ≡ warehouses) × HavePlaces capacity rooms.jobs) }
+    ensures answers { IfOk result (λ rooms. (length rooms.answers ≡ clients) × HavePlaces 1 rooms.answers) }
 {
     let parts = Vec::with_capacity(alloc, warehouses)?;
     let jobs = lines(alloc, warehouses, capacity)?;
@@ -244,11 +256,12 @@ fn engine_in<const N: usize, K: Loaded, G: Gate>(
     parts: Vec<Partition<N, K>>,
     journal: Journal<Commit, K>,
     gate: G,
+    capacity: usize,
 ) -> Engine<N, K, G>
-    requires warehouses { rooms.warehouses ≡ length parts.items }
     requires few { length parts.items ≤ max_warehouses }
-    ensures warehouses { result.warehouses ≡ length parts.items }
-    ensures clients { result.clients ≡ rooms.clients }
+    requires jobs { (length rooms.jobs ≡ length parts.items) × HavePlaces capacity rooms.jobs }
+    requires answers { (length rooms.answers ≡ K.passes.clients) × HavePlaces 1 rooms.answers }
+    ensures { result ≡ record { warehouses = length parts.items; capacity = capacity } }
 {
     let Rooms {
         parts: locks,
@@ -263,6 +276,7 @@ fn engine_in<const N: usize, K: Loaded, G: Gate>(
         jobs,
         answers,
         gate,
+        capacity,
         spare: Mutex::new(spare),
     }
 }

@@ -5,7 +5,7 @@ ghost use Rattle.hy_schema.specs.declared.refusal.Refusal.{Refusal};
 ghost use Rattle.hy_redo_drains.specs.of_crossing.Crossings.{ArePartitions, HaveNoPart};
 ghost use Rattle.hy_redo_drains.specs.of_crossing.inside.Guards.{values_of};
 ghost use Rattle.hy_redo_drains.specs.of_forks.Forks.{AreOfKit, shown};
-ghost use Rattle.hy_engine.specs.Engines.{AreMine, IsWhyNotAgain, IsWhyUnseen, SeesAll};
+ghost use Rattle.hy_engine.specs.Engines.{AreMine, AreOthers, IsWhyNotAgain, IsWhyOpen, IsWhyUnseen, SeesAll};
 
 use crate::engine::Engine;
 use crate::gate::Gate;
@@ -33,8 +33,7 @@ impl<const N: usize, K: Loaded, G: Gate + Drop> Engine<N, K, G> {
     }
 
     /// The partitions of all warehouses, with all of their locks, which are taken in rising order of warehouse and lie
-    /// in this room: they are those of the load, in order, and no part of a command is done in any. Refused with E4
-    /// alone.
+    /// in this room: they are those of the load, in order, and no part of a command is done in any. E4 where they aren't.
     pub fn hold<'a, R: Wait>(
         &'a self,
         rt: &R,
@@ -45,7 +44,7 @@ impl<const N: usize, K: Loaded, G: Gate + Drop> Engine<N, K, G> {
         ensures some { IfOk result (λ held. 1 ≤ length (values_of held.items)) }
         ensures parts { IfOk result (λ held. ArePartitions K.load (values_of held.items)) }
         ensures whole { IfOk result (λ held. HaveNoPart (values_of held.items)) }
-        ensures refused { IfErr result (λ why. why ≡ Refusal.NoSuchWarehouse) }
+        ensures refused { IfErr result (λ why. (why ≡ Refusal.NoSuchWarehouse) × AreOthers K.load self.now) }
     {
         let mut held = room;
         for place in 0..self.parts.len() {
@@ -60,7 +59,8 @@ impl<const N: usize, K: Loaded, G: Gate + Drop> Engine<N, K, G> {
     /// A snapshot of all warehouses, for a client: it spells the database behind a serial list that begins with all
     /// that the client had seen and that the client then knows, and its rows meet the consistency conditions. It says
     /// that it is one of this kit and of any partitions of the load, so that whoever has these can close it. Refused
-    /// with E4, E2 or E1 alone, of which no clause says why. The pass is that of the same client, refused or not.
+    /// with E4; with E2 only where one of the partitions of the load has fewer frames free than its job has touched pages;
+    /// or with E1. The pass is that of the same client, refused or not.
     pub fn fork_all<R: Wait>(
         &self,
         rt: &R,
@@ -71,7 +71,7 @@ impl<const N: usize, K: Loaded, G: Gate + Drop> Engine<N, K, G> {
         ensures kit { IfOk result (AreOfKit K.passes) }
         ensures mine { IfOk result (AreMine K.passes K.load) }
         ensures client { pass.new.client ≡ pass.old.client }
-        ensures refused { IfErr result IsWhyUnseen }
+        ensures refused { IfErr result (IsWhyUnseen K.load self.now) }
     {
         let mut held = self.hold(rt, self.room(alloc)?)?;
         let mut journal = lock_soon(rt, &self.journal);
@@ -92,15 +92,16 @@ impl<const N: usize, K: Loaded, G: Gate + Drop> Engine<N, K, G> {
         ensures shows { IfOk result (λ again. map shown again ≡ map shown all.now) }
         ensures kit { IfOk result (AreOfKit K.passes) }
         ensures mine { IfOk result (AreMine K.passes K.load) }
-        ensures refused { IfErr result (IsWhyNotAgain K.passes K.load all.now) }
+        ensures refused { IfErr result (IsWhyNotAgain K.passes K.load self.now all.now) }
     {
         let mut held = self.hold(rt, self.room(alloc)?)?;
         fork_all_from(alloc, &mut held, all)
     }
 
-    /// Closes a snapshot of all warehouses, with room for their locks. Refused with E11 or E4 alone, it comes back as
-    /// it was. A snapshot with the kit's name has to be one of that kit. Takes no memory. What becomes of the
-    /// partitions behind their locks is said by `close_all` of hy_forks, which is called there, and by no clause here.
+    /// Closes a snapshot of all warehouses, with room for their locks. Refused with E11, only where it isn't one of the
+    /// partitions of the load, or with E4, it comes back as it was. A snapshot with the kit's name has to be one of that kit.
+    /// Takes no memory. What becomes of the partitions behind their locks is said by `close_all` of hy_forks, which is
+    /// called there, and by no clause here.
     pub fn close_all<'a, R: Wait>(
         &'a self,
         rt: &R,
@@ -111,8 +112,7 @@ impl<const N: usize, K: Loaded, G: Gate + Drop> Engine<N, K, G> {
         requires room { self.now.warehouses ≤ vec_capacity room }
         requires kit { AreOfKit K.passes all }
         ensures back { IfErr result (λ refused. refused.0 ≡ all.entry) }
-        ensures refused { IfErr result
-            (λ refused. (refused.1 ≡ Refusal.NotMine) ⊎ (refused.1 ≡ Refusal.NoSuchWarehouse)) }
+        ensures refused { IfErr result (λ refused. IsWhyOpen K.passes K.load self.now all.entry refused.1) }
     {
         match self.hold(rt, room) {
             Ok(mut held) => close_all(&mut held, all),

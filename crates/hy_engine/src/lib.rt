@@ -5,6 +5,7 @@
 //! an answer.
 #![tactic(auto)]
 
+mod answer;
 mod draining;
 mod engine;
 mod gate;

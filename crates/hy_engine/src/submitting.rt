@@ -1,15 +1,23 @@
 //! How a client hands in a job, and gets its answer.
 
-ghost use Rattle.std.specs.Prelude.{◌≡◌, ◌⊎◌, ◌↔◌, ◌<◌, ◌≤◌, IfErr, IsTrue, OnOk, length, nat_lt, true};
+ghost use Rattle.std.specs.Prelude.{◌≡◌, ◌⊎◌, ◌↔◌, ◌<◌, ◌≤◌, IfErr, IsTrue, OnOk, length, nat_lt, true, false};
 ghost use Rattle.hy_schema.specs.declared.refusal.Refusal.{Refusal};
 ghost use Rattle.hy_commands.specs.declared.edition.Edition.TheVariants as editions;
 ghost use Rattle.hy_commands.specs.Commands.{home_of, warehouses_of};
-ghost use Rattle.hy_engine.specs.Engines.{IsHome, IsWhyBack};
+ghost use Rattle.hy_redo_drains.specs.of_partition.Jobs.{JobState, refused_answer};
+ghost use Rattle.hy_redo_drains.specs.of_crossing.Crossings.{ArePartitions, Crosses, HaveNoPart};
+ghost use Rattle.hy_redo_drains.specs.of_crossing.inside.Guards.{values_of};
+ghost use Rattle.hy_queues.specs.Queues.{FrontState, IsWhyUnput};
+ghost use Rattle.hy_engine.specs.Engines.{AreOthers, IsAnswer, IsHome, IsWhyBack, names_several};
 
+use crate::answer::Answer;
 use crate::engine::Engine;
 use crate::gate::Gate;
+use crate::holding::Held;
 use crate::locking::lock_soon;
 use crate::new_job::NewJob;
+use hy_commands::Commit;
+use hy_passes::Journal;
 use hy_queues::Line;
 use hy_redo_drains::hy_crossing::cross;
 use hy_redo_drains::hy_partition::{Done, Job, Loaded};
@@ -19,11 +27,9 @@ use std::sync::Wait;
 
 impl<const N: usize, K: Loaded, G: Gate + Drop> Engine<N, K, G> {
     /// Hands a job in, of the second edition. That of one warehouse waits in its queue for the worker; that of several is
-    /// done at once, on the caller's thread. Either answer comes by `answer`. A job that is taken has a client and a home
-    /// that are the engine's. Another one comes back as it was: with E8 exactly where its client isn't one of the engine's; else
-    /// with E16; or with E4, where its home isn't there or it names several warehouses; or with E17, where its home is
-    /// there and it names one. No clause says that the engine was closed behind E16 or the queue full behind E17, as
-    /// the code does.
+    /// done at once, on the caller's thread. Either answer comes by `answer`. Another one comes back as it was: with E16 where
+    /// the engine was closed; with E4 exactly where its home isn't there, or where it names several warehouses and the
+    /// partitions aren't those of the load; or with E17 where all places of its home's queue were taken at one moment.
     pub fn submit<R: Wait>(
         &self,
         rt: &R,
@@ -31,18 +37,11 @@ impl<const N: usize, K: Loaded, G: Gate + Drop> Engine<N, K, G> {
         job: Job<K>,
     ) -> Result<(), (Job<K>, Refusal)>
         requires { job.edition ≡ editions.Second }
-        ensures client { OnOk result (job.pass.client < self.now.clients) }
         ensures home { OnOk result (IsHome self.now (home_of job.command)) }
         ensures back { IfErr result (λ refused. refused.0 ≡ job) }
-        ensures refused { IfErr result (λ refused. IsWhyBack self.now job refused.1) }
+        ensures refused { IfErr result (λ refused. IsWhyBack K.load self.now job.command refused.1) }
     {
-        let (command, pass) = job.open();
-        let is_client = (pass.client() as usize) < self.answers.len();
-        let home = command.home();
-        let job = Job::new(command, pass);
-        if !is_client {
-            return Err((job, Refusal::OutOfRange));
-        }
+        let home = job.command().home();
         if !self.has_warehouse(home) {
             return Err((job, self.why_homeless(rt)));
         }
@@ -53,8 +52,8 @@ impl<const N: usize, K: Loaded, G: Gate + Drop> Engine<N, K, G> {
         if line.is_closed(rt) {
             return Err((job, Refusal::Closed));
         }
-        let done = self.cross(rt, alloc, job)?;
-        self.hand_over(rt, done);
+        let answer = self.cross(rt, alloc, job)?;
+        self.hand_over(rt, answer);
         Ok(())
     }
 
@@ -67,7 +66,8 @@ impl<const N: usize, K: Loaded, G: Gate + Drop> Engine<N, K, G> {
 
     /// Why a job comes back whose home isn't there: E16 where the engine is closed, else E4.
     fn why_homeless<R: Wait>(&self, rt: &R) -> Refusal
-        ensures { (result ≡ Refusal.Closed) ⊎ (result ≡ Refusal.NoSuchWarehouse) }
+        ensures { (result ≡ Refusal.NoSuchWarehouse)
+            ⊎ ((result ≡ Refusal.Closed) × ((jobs : FrontState JobState) × (jobs.is_closed ≡ true))) }
     {
         match self.jobs.first() {
             Some(line) if line.is_closed(rt) => Refusal::Closed,
@@ -82,45 +82,68 @@ impl<const N: usize, K: Loaded, G: Gate + Drop> Engine<N, K, G> {
         rt: &R,
         alloc: Global,
         job: Job<K>,
-    ) -> Result<Done<K>, (Job<K>, Refusal)>
+    ) -> Result<Answer<K>, (Job<K>, Refusal)>
         requires several { nat_lt 1 (length (warehouses_of job.command)) ≡ true }
         requires new { job.edition ≡ editions.Second }
-        ensures { IfErr result (λ refused. (refused.0 ≡ job) × (refused.1 ≡ Refusal.NoSuchWarehouse)) }
+        ensures back { IfErr result (λ refused. refused.0 ≡ job) }
+        ensures refused { IfErr result (λ refused. (refused.1 ≡ Refusal.NoSuchWarehouse) × AreOthers K.load self.now) }
     {
         let Ok(room) = self.room(alloc) else {
-            return Ok(job.refuse(Refusal::NoMemory));
+            return Ok(refuse_for_memory(job));
         };
         let _turn = self.turn.lock(rt);
         match self.hold(rt, room) {
             Ok(mut held) => {
                 let mut journal = lock_soon(rt, &self.journal);
-                Ok(cross(&mut held, &mut journal, job))
+                Ok(cross_held(&mut held, &mut journal, job))
             }
             Err(refusal) => Err((job, refusal)),
         }
     }
 
-    /// Waits for an answer that has a pass of this client, by its number, which is all that the clause says of it. What
-    /// is another client's is handed on.
+    /// Waits for an answer that a job of this client got: from the partition of its home, or from all partitions where it
+    /// named several. What is another client's is handed on.
     pub fn answer<R: Wait>(&self, rt: &R, client: u32) -> Done<K>
-        requires { client < self.now.clients }
-        ensures { result.pass.client ≡ client }
+        requires { client < K.passes.clients }
+        ensures client { result.pass.client ≡ client }
+        ensures is { ∥ IsAnswer K.load result ∥₁ }
     {
         let line = &self.answers[client as usize];
         for _ in rt.forever() {
-            let Some(done) = line.take(rt) else {
+            let Some(answer) = line.take(rt) else {
                 continue;
             };
-            let (reply, pass, share) = done.open();
-            let is_own = pass.client() == client;
-            let done = Done::new(reply, pass, share);
-            if is_own {
-                return done;
+            if answer.client() == client {
+                return answer.open();
             }
-            self.hand_over(rt, done);
+            self.hand_over(rt, answer);
         }
         unreachable!()
     }
+}
+
+/// Does a job of several warehouses in partitions whose locks are held.
+fn cross_held<const N: usize, K: Loaded>(
+    held: &mut Held<'_, N, K>,
+    journal: &mut Journal<Commit, K>,
+    job: Job<K>,
+) -> Answer<K>
+    requires parts { ArePartitions K.load (values_of held.old.items) }
+    requires whole { HaveNoPart (values_of held.old.items) }
+    requires several { nat_lt 1 (length (warehouses_of job.command)) ≡ true }
+    requires new { job.edition ≡ editions.Second }
+    ensures { Crosses K.load job journal.old.list.log journal.new.list.log (values_of held.old.items)
+        (values_of held.new.items) result }
+{
+    Answer::new(cross(held, journal, job))
+}
+
+/// The answer to a job for which there is no room.
+pub(crate) fn refuse_for_memory<K: Loaded>(job: Job<K>) -> Answer<K>
+    requires { job.edition ≡ editions.Second }
+    ensures { result ≡ refused_answer job.pass Refusal.NoMemory }
+{
+    Answer::new(job.refuse(Refusal::NoMemory))
 }
 
 /// Puts a job into a warehouse's queue. It comes back with E16 or E17.
@@ -129,9 +152,10 @@ fn wait_in<R: Wait, K: Loaded>(
     line: &Line<NewJob<K>>,
     job: Job<K>,
 ) -> Result<(), (Job<K>, Refusal)>
-    requires { job.edition ≡ editions.Second }
+    requires new { job.edition ≡ editions.Second }
+    requires local { names_several job.command ≡ false }
     ensures back { IfErr result (λ refused. refused.0 ≡ job) }
-    ensures refused { IfErr result (λ refused. (refused.1 ≡ Refusal.Closed) ⊎ (refused.1 ≡ Refusal.QueueFull)) }
+    ensures refused { IfErr result (λ refused. (jobs : FrontState JobState) × IsWhyUnput jobs refused.1) }
 {
     match line.put(rt, NewJob::new(job)) {
         Ok(()) => Ok(()),

@@ -4,9 +4,10 @@ ghost use Rattle.std.specs.Prelude.{◌≡◌, ◌↔◌, IfSome, IsSome, IsSome
 ghost use Rattle.hy_redo_drains.specs.of_partition.declared.job.Progress.{Progress};
 ghost use Rattle.hy_redo_drains.specs.of_partition.Partition.{PartitionState};
 ghost use Rattle.hy_redo_drains.specs.of_partition.Jobs.{is_last};
-ghost use Rattle.hy_engine.specs.Engines.{AnswersJob, AnswersRunning};
+ghost use Rattle.hy_engine.specs.Engines.{AnswersJob, AnswersRunning, IsAnswer};
 ghost use Rattle.hy_engine.specs.inside.Early.{AreEarly, EndsRun};
 
+use crate::answer::Answer;
 use crate::engine::Engine;
 use crate::gate::Gate;
 use crate::locking::lock_soon;
@@ -27,22 +28,41 @@ impl<const N: usize, K: Loaded, G: Gate + Drop> Engine<N, K, G> {
             let Some(job) = self.jobs[place].take(rt) else {
                 return;
             };
-            let done = self.answer_job(rt, warehouse, &mut lock_soon(rt, &self.parts[place]), job);
-            self.hand_over(rt, done);
+            let answer = self.answer_job(
+                rt,
+                warehouse,
+                &mut lock_soon(rt, &self.parts[place]),
+                job,
+            );
+            self.hand_over(rt, answer);
             self.gate.answered(rt, warehouse);
         }
         unreachable!()
     }
 
-    /// Does a job, under the lock of its partition. What `begin` refuses is the answer.
+    /// Does a job in a partition, whose lock is held. What `begin` refuses is the answer.
     fn answer_job<R: Wait>(
         &self,
         rt: &R,
         warehouse: u8,
         part: &mut Partition<N, K>,
         job: NewJob<K>,
-    ) -> Done<K>
+    ) -> Answer<K>
         ensures { AnswersJob job part.old part.new result }
+    {
+        Answer::new(self.do_job(rt, warehouse, part, job))
+    }
+
+    /// The same, with an answer that may be any value.
+    fn do_job<R: Wait>(
+        &self,
+        rt: &R,
+        warehouse: u8,
+        part: &mut Partition<N, K>,
+        job: NewJob<K>,
+    ) -> Done<K>
+        ensures answers { AnswersJob job part.old part.new result }
+        ensures is { ∥ IsAnswer K.load result ∥₁ }
     {
         match part.begin(job.open()) {
             Ok(()) => self.run_slices(rt, warehouse, part),
@@ -94,13 +114,8 @@ impl<const N: usize, K: Loaded, G: Gate + Drop> Engine<N, K, G> {
     }
 
     /// Puts an answer into its client's queue.
-    pub(crate) fn hand_over<R: Wait>(&self, rt: &R, done: Done<K>) {
-        let (reply, pass, share) = done.open();
-        let client = pass.client() as usize;
-        let done = Done::new(reply, pass, share);
-        if let Some(line) = self.answers.get(client) {
-            line.put_soon(rt, done);
-        }
+    pub(crate) fn hand_over<R: Wait>(&self, rt: &R, answer: Answer<K>) {
+        self.answers[answer.client() as usize].put_soon(rt, answer);
     }
 }
 

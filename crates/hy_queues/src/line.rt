@@ -1,7 +1,7 @@
 //! A bounded queue on which a thread can sleep, and which can be closed.
 
-ghost use Rattle.std.specs.Prelude.{◌≡◌, ◌++◌, ◌∷◌, [], ◌⊎◌, ◌↔◌, ◌<◌, true, false, IsTrue, IfErr, IfOk, OnErr, OnOk, MatchOption, MatchResult};
-ghost use Rattle.hy_schema.specs.declared.refusal.Refusal.{Refusal};
+ghost use Rattle.std.specs.Prelude.{◌≡◌, ◌++◌, ◌∷◌, [], ◌<◌, true, false, IsTrue, IfErr, IfOk, OnErr, OnOk, MatchOption};
+ghost use Rattle.hy_queues.specs.Queues.{FrontState, IsWhyUnput, with_put};
 
 use crate::rule::{InOrder, Log, Put, Sides, Take};
 use crossbeam_queue::{Pass, RuledArrayQueue};
@@ -33,27 +33,32 @@ struct Front<T> {
     is_closed: bool,
 }
 
-// Clauses see what was put, and whether it is closed.
+// Clauses see what was put, how many places there are, and whether it is closed.
 impl<T> Model for Front<T> {
     ghost use Rattle.std.specs.Prelude.{◌≡◌, true, false};
     ghost use Rattle.std.specs.Arc.{arc_value};
-    ghost use Rattle.crossbeam_queue.specs.Passes.{IsPassOf};
+    ghost use Rattle.crossbeam_queue.specs.Passes.{IsPassOf, ruled_capacity};
     ghost use Rattle.hy_queues.specs.Queues.{FrontState, log_of};
 
     ghost Value = { FrontState T };
 
-    ghost view = { λ front. record { put = (log_of front.pass).put; is_closed = front.is_closed } };
+    ghost view = { λ front. record {
+      put = (log_of front.pass).put;
+      capacity = ruled_capacity (arc_value front.queue);
+      is_closed = front.is_closed;
+    } };
 
     ghost invariant = { λ front. IsPassOf (arc_value front.queue) front.pass × ((log_of front.pass).puts ≡ true) };
 }
 
 impl<T: Drop> Front<T> {
-    /// Puts an item at the end. It comes back with E16 where the queue is closed, and else with E17, which comes only
-    /// where the queue was full at one moment.
+    /// Puts an item at the end. It comes back with E16 exactly where the queue is closed; else with E17, only where the
+    /// queue was full at one moment.
     fn put<R: Wait>(&mut self, rt: &R, item: T) -> Result<(), (T, Refusal)>
-        ensures put { OnOk result ((self.old.is_closed ≡ false) × (self.new ≡ record self.old { put = self.old.put ++ item ∷ [] })) }
-        ensures refused { IfErr result (λ refused. (refused.0 ≡ item) × ((refused.1 ≡ Refusal.Closed) ⊎ (refused.1 ≡ Refusal.QueueFull))) }
-        ensures closed { IfErr result (λ refused. (refused.1 ≡ Refusal.Closed) ↔ (self.old.is_closed ≡ true)) }
+        ensures open { OnOk result (self.old.is_closed ≡ false) }
+        ensures put { OnOk result (self.new ≡ with_put self.old item) }
+        ensures back { IfErr result (λ refused. refused.0 ≡ item) }
+        ensures refused { IfErr result (λ refused. IsWhyUnput self.old refused.1) }
         ensures err { OnErr result (self.new ≡ self.old) }
     {
         if self.is_closed {
@@ -113,31 +118,44 @@ impl<T: Drop> Back<T> {
 /// A queue of at most so many items, in the order in which they were put. Whoever waits for one sleeps.
 #[derive(Drop)]
 pub struct Line<T> {
+    queue: Arc<Queue<T>, Global>,
     front: Mutex<Front<T>>,
     back: Mutex<Back<T>>,
     moved: Condvar,
     short_waits: AtomicU64,
 }
 
+// Clauses see how many places there are.
+impl<T> Model for Line<T> {
+    ghost use Rattle.std.specs.Prelude.{ℕ};
+    ghost use Rattle.std.specs.Arc.{arc_value};
+    ghost use Rattle.crossbeam_queue.specs.Passes.{ruled_capacity};
+
+    ghost Value = { ℕ };
+
+    ghost view = { λ line. ruled_capacity (arc_value line.queue) };
+}
+
 impl<T: Drop> Line<T> {
     /// An empty queue with so many places. All memory that it ever takes is taken here.
     pub fn new(alloc: Global, capacity: usize) -> Result<Line<T>, AllocError>
         requires { 0 < capacity }
+        ensures { IfOk result (λ line. line ≡ capacity) }
     {
         let (queue, mut pass) = Queue::<T>::ruled(alloc, capacity)?;
         let taking = queue.another::<Sides>(&mut pass);
         let queue = Arc::new(alloc, queue)?;
-        let shared = Arc::try_clone(&queue)?;
         let front = Front {
-            queue: shared,
+            queue: Arc::try_clone(&queue)?,
             pass,
             is_closed: false,
         };
         let back = Back {
-            queue,
+            queue: Arc::try_clone(&queue)?,
             pass: taking,
         };
         Ok(Line {
+            queue,
             front: Mutex::new(front),
             back: Mutex::new(back),
             moved: Condvar::new(),
@@ -145,10 +163,11 @@ impl<T: Drop> Line<T> {
         })
     }
 
-    /// Puts an item at the end, and wakes whoever waits for one. It comes back with E16 where the queue is closed, and
-    /// with E17 where it is full.
+    /// Puts an item at the end, and wakes whoever waits for one. It comes back with E16 where the queue was closed, and
+    /// with E17 where it was full, as whoever holds its front finds it.
     pub fn put<R: Wait>(&self, rt: &R, item: T) -> Result<(), (T, Refusal)>
-        ensures { IfErr result (λ refused. (refused.0 ≡ item) × ((refused.1 ≡ Refusal.Closed) ⊎ (refused.1 ≡ Refusal.QueueFull))) }
+        ensures back { IfErr result (λ refused. refused.0 ≡ item) }
+        ensures refused { IfErr result (λ refused. (front : FrontState T) × IsWhyUnput front refused.1) }
     {
         self.front.lock(rt).put(rt, item)?;
         self.moved.notify_one();
@@ -219,8 +238,10 @@ impl<T: Drop> Line<T> {
         true
     }
 
-    /// Whether it is closed.
-    pub fn is_closed<R: Wait>(&self, rt: &R) -> bool {
+    /// Whether it is closed, as whoever holds its front finds it.
+    pub fn is_closed<R: Wait>(&self, rt: &R) -> bool
+        ensures { IsTrue result → (front : FrontState T) × (front.is_closed ≡ true) }
+    {
         self.front.lock(rt).is_closed()
     }
 

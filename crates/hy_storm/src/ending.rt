@@ -2,7 +2,7 @@
 
 ghost use Rattle.std.specs.Prelude.{◌≡◌, ◌≤◌, ◌+◌, IfOk, IsTrue, None, length};
 ghost use Rattle.hy_schema.specs.Conditions.{first_broken};
-ghost use Rattle.hy_ledger.specs.Books.{no_totals, with_book};
+ghost use Rattle.hy_ledger.specs.Books.{no_totals, totals_of, with_book};
 ghost use Rattle.hy_session.specs.of_partition.Accounts.{IsBookOf};
 ghost use Rattle.hy_session.specs.of_partition.Jobs.{Log};
 ghost use Rattle.hy_session.specs.of_crossing.Crossings.{ArePartitions, HaveNoPart, database_behind};
@@ -56,6 +56,8 @@ pub fn figures_of<K: Loaded>(
     requires parts { ArePartitions K.load parts.items }
     requires whole { HaveNoPart parts.items }
     ensures figures { IfOk result (AreFiguresBehind K.load journal.list.log) }
+    ensures purses { IfOk result (λ figures. totals_of gathered.purse.shares
+        ≡ record { commits = figures.commits; cents = figures.cents }) }
     ensures refusal { IfOk result (λ figures. figures.refusal ≡ None → gathered.unlogged ≡ None) }
 {
     find_history(&mut parts, &mut journal);

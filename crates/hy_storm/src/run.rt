@@ -100,6 +100,7 @@ fn storm_in<
     requires kit { kit ≡ K.passes }
     requires load { load.now ≡ K.load }
     requires partitions { kit.partitions ≡ length load.now.tables.warehouses }
+    requires clients { kit.clients ≡ size.terminals + size.sessions + 2 }
     requires new { kit.replayed ≡ [] }
     requires terminals { (1 ≤ size.terminals) × (size.terminals ≤ 64) }
     requires sessions { size.sessions ≤ 16 }
@@ -142,6 +143,7 @@ impl<'a, K: Loaded, G: Gate + Drop> Stage<'a, K, G> {
         requires kit { kit ≡ K.passes }
         requires load { load.now ≡ K.load }
         requires partitions { kit.partitions ≡ length load.now.tables.warehouses }
+        requires clients { kit.clients ≡ size.terminals + size.sessions + 2 }
         requires new { kit.replayed ≡ [] }
         requires terminals { (1 ≤ size.terminals) × (size.terminals ≤ 64) }
         requires sessions { size.sessions ≤ 16 }

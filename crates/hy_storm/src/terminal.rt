@@ -1,6 +1,7 @@
 //! What a terminal does.
 
-ghost use Rattle.std.specs.Prelude.{◌≡◌, ◌≤◌, ◌<◌};
+ghost use Rattle.std.specs.Prelude.{◌≡◌, ◌≤◌, ◌<◌, ◌++◌};
+ghost use Rattle.std.specs.Option.{option_to_list};
 
 use crate::PAGE_BYTES;
 use crate::commands::command_of;
@@ -63,14 +64,21 @@ pub fn run_terminal<K: Loaded, G: Gate + Drop, R: Wait>(
         match run_command(rt, alloc, engine, command, pass) {
             Ok((share, back)) => {
                 pass = back;
-                if let Some(share) = share {
-                    purse.add(share);
-                }
+                put_away(&mut purse, share);
             }
             Err(refusal) => return ended(purse, Some(refusal)),
         }
     }
     ended(purse, None)
+}
+
+/// Puts the share that an answer has, where it has one, into the purse.
+fn put_away<K: Loaded>(purse: &mut Purse<K>, share: Option<Share<K>>)
+    ensures { purse.new.shares ≡ purse.old.shares ++ option_to_list share }
+{
+    if let Some(share) = share {
+        purse.add(share);
+    }
 }
 
 /// The end of a terminal.
@@ -86,6 +94,7 @@ fn run_command<K: Loaded, G: Gate + Drop, R: Wait>(
     command: Command,
     pass: Pass<Commit, K>,
 ) -> Result<(Option<Share<K>>, Pass<Commit, K>), Refusal> {
+    pass.sound();
     let client = pass.client();
     if let Err((_job, refusal)) = engine.submit(rt, alloc, Job::new(command, pass)) {
         return Err(refusal);

@@ -1,6 +1,6 @@
 //! The threads of a storm: workers, terminals and sessions.
 
-ghost use Rattle.std.specs.Prelude.{◌≡◌, ◌≤◌, ◌<◌};
+ghost use Rattle.std.specs.Prelude.{◌≡◌, ◌≤◌, ◌<◌, ◌++◌, None};
 
 use crate::PAGE_BYTES;
 use crate::kept::Kept;
@@ -33,6 +33,19 @@ pub struct Gathered<K: Loaded> {
     pub refusal: Option<Refusal>,
     /// Why what was drained wasn't acknowledged.
     pub unlogged: Option<Refusal>,
+}
+
+impl<K: Loaded> Gathered<K> {
+    /// Puts what a terminal ended with to the rest: all its shares, and its refusal.
+    fn merge(&mut self, end: TerminalEnd<K>)
+        ensures shares { self.new.purse.shares ≡ self.old.purse.shares ++ end.purse.shares }
+        ensures refusal { self.new.refusal ≡ None → (self.old.refusal ≡ None) × (end.refusal ≡ None) }
+        ensures rest { (self.new.held ≡ self.old.held) × (self.new.unlogged ≡ self.old.unlogged) }
+    {
+        let TerminalEnd { purse, refusal } = end;
+        self.purse.merge(purse);
+        self.refusal = self.refusal.or(refusal);
+    }
 }
 
 /// Who takes part: a terminal for each purse, and sessions.
@@ -264,9 +277,7 @@ fn run_crew<
             unlogged: looked.unlogged,
         };
         for thread in running {
-            let end = thread.join(rt);
-            gathered.purse.merge(end.purse);
-            gathered.refusal = gathered.refusal.or(end.refusal);
+            gathered.merge(thread.join(rt));
         }
         gathered
     })

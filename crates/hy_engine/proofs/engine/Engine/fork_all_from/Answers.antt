@@ -10,5 +10,5 @@ returns-clause-mine g c =
 
 pub returns-clause-refused : goal.returns-clause-refused
 returns-clause-refused g c =
-    not-again g.K.World.passes g.K.Loaded.load c.args.all.now (values_of c.in_ok-held.held.items)
+    not-again g.K.World.passes g.K.Loaded.load c.args.self.now c.args.all.now (values_of c.in_ok-held.held.items)
     c.fork_all_from.result c.in_ok-held.ensures.parts c.fork_all_from.ensures.mine c.fork_all_from.ensures.refused
