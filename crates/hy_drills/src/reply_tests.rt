@@ -56,13 +56,15 @@ fn order_and_look<K: Loaded, R: Wait + Abort + AllocGlobal>(
 ) -> Pass<Commit, K> {
     let order = "neworder 1 1 1 1 1:2:5 2:1:5 3:1:5 4:1:5 5:1:5";
     let pass = says(rt, engine, pass, order, "order 1 total 5536\n");
-    let wanted = "status customer 1 F0001 OE BARBARBAR balance -1000\norder 1 entry 1 carrier 0\nline 1 item 1 from 2 quantity 5 amount 685 delivered 0\nline 2 item 2 from 1 quantity 5 amount 870 delivered 0\nline 3 item 3 from 1 quantity 5 amount 1055 delivered 0\nline 4 item 4 from 1 quantity 5 amount 1240 delivered 0\nline 5 item 5 from 1 quantity 5 amount 1425 delivered 0\n";
+    let wanted =
+        "status customer 1 F0001 OE BARBARBAR balance -1000\norder 1 entry 1 carrier 0\nline 1 item 1 from 2 quantity 5 amount 685 delivered 0\nline 2 item 2 from 1 quantity 5 amount 870 delivered 0\nline 3 item 3 from 1 quantity 5 amount 1055 delivered 0\nline 4 item 4 from 1 quantity 5 amount 1240 delivered 0\nline 5 item 5 from 1 quantity 5 amount 1425 delivered 0\n";
     let pass = says(rt, engine, pass, "orderstatus 1 1 1", wanted);
     let pass = says(rt, engine, pass, "stocklevel 1 1 19", "low 1\n");
     let pass = says(rt, engine, pass, "stocklevel 1 1 18", "low 0\n");
     let wanted = "delivered 1 0 0 0 0 0 0 0 0 0\n";
     let pass = says(rt, engine, pass, "delivery 1 7 2", wanted);
-    let wanted = "status customer 1 F0001 OE BARBARBAR balance 4275\norder 1 entry 1 carrier 7\nline 1 item 1 from 2 quantity 5 amount 685 delivered 2\nline 2 item 2 from 1 quantity 5 amount 870 delivered 2\nline 3 item 3 from 1 quantity 5 amount 1055 delivered 2\nline 4 item 4 from 1 quantity 5 amount 1240 delivered 2\nline 5 item 5 from 1 quantity 5 amount 1425 delivered 2\n";
+    let wanted =
+        "status customer 1 F0001 OE BARBARBAR balance 4275\norder 1 entry 1 carrier 7\nline 1 item 1 from 2 quantity 5 amount 685 delivered 2\nline 2 item 2 from 1 quantity 5 amount 870 delivered 2\nline 3 item 3 from 1 quantity 5 amount 1055 delivered 2\nline 4 item 4 from 1 quantity 5 amount 1240 delivered 2\nline 5 item 5 from 1 quantity 5 amount 1425 delivered 2\n";
     says(rt, engine, pass, "orderstatus 1 1 1", wanted)
 }
 

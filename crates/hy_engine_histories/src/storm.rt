@@ -90,6 +90,7 @@ fn storm_in<K: Loaded + Send + Sync, O: Output, R: Threads + Wait + Sync>(
     requires kit { kit ≡ K.passes }
     requires load { load.now ≡ K.load }
     requires partitions { kit.partitions ≡ length load.now.tables.warehouses }
+    requires clients { kit.clients ≡ size.terminals }
     requires terminals { (1 ≤ size.terminals) × (size.terminals ≤ 8) }
 {
     let Stage {
@@ -114,6 +115,7 @@ fn stage_of<K: Loaded>(
     requires kit { kit ≡ K.passes }
     requires load { load.now ≡ K.load }
     requires partitions { kit.partitions ≡ length load.now.tables.warehouses }
+    requires clients { kit.clients ≡ size.terminals }
     requires terminals { (1 ≤ size.terminals) × (size.terminals ≤ 8) }
 {
     load.sound();

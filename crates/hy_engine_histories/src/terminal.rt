@@ -56,6 +56,7 @@ fn run_command<K: Loaded, R: Wait>(
     command: Command,
     pass: Pass<Commit, K>,
 ) -> Result<Pass<Commit, K>, AllocError> {
+    pass.sound();
     let client = pass.client();
     history.note(Event::Asks(Moment::of(clock, &pass), command.copy()?))?;
     let (reply, pass, share) = match engine.submit(rt, alloc, Job::new(command, pass)) {
