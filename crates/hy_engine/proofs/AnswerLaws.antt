@@ -33,7 +33,7 @@ module _ (lists : Lists) (engine : EngineState) (command : Command) where
       → (why ≡ refusals.NoSuchWarehouse) ⊎ ((why ≡ refusals.Closed) × ((jobs : FrontState JobState) × (jobs.is_closed ≡ true)))
       → IsWhyBack lists engine command why
   back-homeless why nowhere (inl is) = homeless is nowhere
-  back-homeless why nowhere (inr (is, jobs, shut)) = closed is jobs shut
+  back-homeless why nowhere (inr (is, (jobs, shut))) = closed is jobs shut
 
   -- one that its home's queue didn't take
   pub back-untaken : {X : Type 0} (result : Result (Unit {0}) (X × Refusal)) → IsHome engine (home_of command)

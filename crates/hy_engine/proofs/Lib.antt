@@ -5,3 +5,4 @@ pub use Rattle.hy_redo_drains.proofs.FollowLaws
 pub mod RunLaws
 pub mod MineLaws
 pub mod AnswerLaws
+pub mod RoomLaws

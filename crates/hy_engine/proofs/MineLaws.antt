@@ -8,10 +8,10 @@ use Rattle.hy_redo_drains.specs.of_partition.Jobs.{Log}
 use Rattle.hy_redo_drains.specs.of_partition.Partition.{PartitionState}
 use Rattle.hy_redo_drains.specs.of_partition.Snapshots.{SnapshotState}
 use Rattle.hy_redo_drains.specs.of_crossing.Crossings.{ArePartitions}
-use Rattle.hy_redo_drains.specs.of_forks.Forks.{ForksAll, ForksAllFrom, are_from}
+use Rattle.hy_redo_drains.specs.of_forks.Forks.{ForksAll, ForksAllFrom, IsWhyUnforked, are_from}
 use Rattle.hy_redo_drains.specs.of_forks.Origins.{Origin}
 use Rattle.hy_redo_drains.proofs.of_forks.ForkedLaws.{are_from-again, are_from-forks, are_from-others}
-use Rattle.hy_engine.specs.Engines.{AreMine, EngineState, IsWhyNotAgain}
+use Rattle.hy_engine.specs.Engines.{AreMine, EngineState, IsWhyNotAgain, IsWhyUnseen, unforked}
 
 pub forked-mine : (n : ℕ) (kit : Origin) (lists : Lists) (log known : Log) (olds news : List PartitionState)
     (result : Result (List SnapshotState) Refusal) → IfOk result (ForksAll n kit log known olds news)
@@ -39,3 +39,9 @@ not-again kit lists engine others parts (Ok all) are mine why = tt
 not-again kit lists engine others parts (Err why) are mine (inl is) =
     inl (is, λ own. true≢false (sym (own parts are) ∙ mine.0 (ap Err is)))
 not-again kit lists engine others parts (Err why) are mine (inr memory) = inr (inr memory)
+
+-- why there is none for a client
+pub unseen : (lists : Lists) (engine : EngineState) (parts : List PartitionState) (result : Result (List SnapshotState) Refusal)
+    → ArePartitions lists parts → IfErr result (IsWhyUnforked parts) → IfErr result (IsWhyUnseen lists engine)
+unseen lists engine parts (Ok all) are why = tt
+unseen lists engine parts (Err refusal) are why = unforked parts are why

@@ -1,5 +1,5 @@
 -- What clauses see of an engine, and what its calls answer.
-use Rattle.std.specs.Prelude.{◌≡◌, ◌⊎◌, ◌<◌, ◌≤◌, ℕ, Bool, true, false, List, None, Some, Result, Ok, Err, All, length, nat_lt}
+use Rattle.std.specs.Prelude.{◌≡◌, ◌⊎◌, ◌<◌, ◌≤◌, ℕ, Bool, true, false, List, [], ◌∷◌, None, Some, Result, Ok, Err, length, nat_lt}
 use mathlib.Core.List.{IsPrefix}
 use Rattle.hy_rows.specs.Tables.{Lists}
 use Rattle.hy_schema.specs.Conditions.{first_broken}
@@ -31,7 +31,8 @@ pub record EngineState : Type 0 where
 
 -- each queue has so many places
 abbrev pub HavePlaces : ℕ → List ℕ → Type 0
-HavePlaces count queues = All (λ places. places ≡ count) queues
+HavePlaces count [] = Unit {0}
+HavePlaces count (places ∷ queues) = (places ≡ count) × HavePlaces count queues
 
 -- the greatest capacity of a queue of jobs
 abbrev pub max_capacity : ℕ
