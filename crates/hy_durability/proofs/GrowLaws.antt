@@ -23,7 +23,7 @@ use Rattle.hy_commands.specs.declared.command.Commit.TheVariants as commits
 use Rattle.hy_database.specs.Database.{kept_in}
 use Rattle.hy_crossing.specs.Crossings.{database_behind, next_number}
 use Rattle.hy_crossing.proofs.AcceptLaws.{same-refusal}
-use Rattle.hy_schedules.specs.Schedules.{ChangesPlace, DoesAll, DoesAt, DoesCross, Ends, EndsIn, EventOfAll, Place, Whole, each_changed, entry_behind, is_local, named_in, place_at, refusal_behind, with_commit, with_drained, with_entry, with_place, with_snapshot, with_snapshot_from, without_snapshot, world_at}
+use Rattle.hy_schedules.specs.Schedules.{ChangesPlace, DoesAll, DoesAt, DoesCross, Ends, EndsIn, EventOfAll, LooksAmid, Place, Whole, each_changed, entry_behind, is_local, named_in, place_at, refusal_behind, with_commit, with_drained, with_entry, with_looks, with_place, with_snapshot, with_snapshot_from, without_snapshot, world_at}
 use Rattle.hy_schedules.specs.Schedules as all
 use Rattle.hy_schedules.proofs.OrderLaws.{there-between}
 use Rattle.hy_schedules.proofs.PlaceLaws.{each-changed, each-replaced, holds-place, length-each, length-with_place}
@@ -249,18 +249,22 @@ module _ (lists : Lists) where
             (λ other place apart is. is) runs);
       }
 
-  -- what runs in some ends
-  grows-ends : (numbers : List ℕ) (old new : Whole) → old.load ≡ lists
-      → length old.places ≡ length lists.tables.warehouses → AllRunNew old.places → EndsIn numbers old new
+  -- clients look
+  grows-looks : (clients : List ℕ) (old : Whole) → AllRunNew old.places → Grows lists old (with_looks clients old)
+  grows-looks clients old runs = grows-same lists old (with_looks clients old) refl refl refl (λ number. refl) runs
+
+  -- what runs in some ends, and clients look meanwhile
+  grows-ends : (amid : LooksAmid) (numbers : List ℕ) (old new : Whole) → old.load ≡ lists
+      → length old.places ≡ length lists.tables.warehouses → AllRunNew old.places → EndsIn amid numbers old new
       → Grows lists old new
-  grows-ends [] old new load count runs same =
-      grows-same lists old new (ap (λ (w : Whole). w.log) same) (ap (λ (w : Whole). w.load) same)
-      (ap (λ (w : Whole). length w.places) same) (λ number. ap (λ (w : Whole). drained_at w.places number) same)
-      (subst (λ (w : Whole). AllRunNew w.places) (sym same) runs)
-  grows-ends (number ∷ numbers) old new load count runs ends =
-      let first = grows-place Ends (λ a b l t r. adds-ends lists a b l t r) number old ends.0 load count runs ends.1 in
-      grows-then lists old ends.0 new first
-      (grows-ends numbers ends.0 new (first.load ∙ load) (first.count ∙ count) first.new_run ends.2)
+  grows-ends amid [] old new load count runs same =
+      subst (λ (w : Whole). Grows lists old w) (sym same) (grows-looks amid.before_commit old runs)
+  grows-ends amid (number ∷ numbers) old new load count runs ends =
+      let seen : Whole = with_looks (amid.before_end number) old in
+      let first = grows-place Ends (λ a b l t r. adds-ends lists a b l t r) number seen ends.0 load count runs ends.1 in
+      grows-then lists old seen new (grows-looks (amid.before_end number) old runs)
+      (grows-then lists seen ends.0 new first
+      (grows-ends amid numbers ends.0 new (first.load ∙ load) (first.count ∙ count) first.new_run ends.2))
 
   drained-commit : (commit : Commit) (number : ℕ) (place : Place)
       → (with_commit commit number place).drained ≡ place.drained
@@ -281,17 +285,16 @@ module _ (lists : Lists) where
       ]
 
   -- a command of several warehouses
-  grows-crosses : (client : ℕ) (command : Command) (old new : Whole)
+  grows-crosses : (client : ℕ) (command : Command) (amid : LooksAmid) (old new : Whole)
       → old.load ≡ lists → length old.places ≡ length lists.tables.warehouses → AllRunNew old.places
-      → DoesCross client command old new → Grows lists old new
-  grows-crosses client command old new load count runs does = elim does.does [
-    | inl same ↦ subst (λ (w : Whole). Grows lists old w) (sym same) ended
-    | inr accepted ↦ subst (λ (w : Whole). Grows lists old w) (sym accepted.1)
-        (grows-then lists old does.ended (with_entry does.ended client entry) ended (entering accepted.0))
-  ]
+      → DoesCross client command amid old new → Grows lists old new
+  grows-crosses client command amid old new load count runs does =
+      subst (λ (w : Whole). Grows lists old w) (sym does.looked)
+      (grows-then lists old does.done (with_looks amid.behind does.done) done
+      (grows-looks amid.behind does.done done.new_run))
     where
       ended : Grows lists old does.ended
-      ended = grows-ends (named_in old command) old does.ended load count runs does.ends
+      ended = grows-ends amid (named_in old command) old does.ended load count runs does.ends
 
       entry : Entry Commit
       entry = entry_behind does.ended command (old.known client)
@@ -321,6 +324,13 @@ module _ (lists : Lists) where
         new_run = new-each (with_commit entry.commit) (running-commit entry.commit) does.ended.places ended.new_run;
       }
 
+      done : Grows lists old does.done
+      done = elim does.does [
+        | inl same ↦ subst (λ (w : Whole). Grows lists old w) (sym same) ended
+        | inr accepted ↦ subst (λ (w : Whole). Grows lists old w) (sym accepted.1)
+            (grows-then lists old does.ended (with_entry does.ended client entry) ended (entering accepted.0))
+      ]
+
   -- an event that is no drain
   pub grows : (event : EventOfAll) (old new : Whole) → is_drain event ≡ false → old.load ≡ lists
       → length old.places ≡ length lists.tables.warehouses → AllRunNew old.places → DoesAll event old new
@@ -328,8 +338,8 @@ module _ (lists : Lists) where
   grows (all.at number event) old new other load count runs does =
       grows-place (Does event) (λ a b l t r. adds-does lists a b l t r number event does.0) number old new load
       count runs does.1
-  grows (all.crosses client command) old new other load count runs does =
-      grows-crosses client command old new load count runs does
+  grows (all.crosses client command amid) old new other load count runs does =
+      grows-crosses client command amid old new load count runs does
   grows (all.forks_all client children) old new other load count runs does =
       grows-same lists old new (ap (λ (w : Whole). w.log) does.1) (ap (λ (w : Whole). w.load) does.1)
       (ap (λ (w : Whole). length w.places) does.1 ∙ length-each (with_snapshot old children) 1 old.places)

@@ -182,8 +182,8 @@ module _ (lists : Lists) where
     drained-event all.drains old new batches everything is does = drained-drain old new batches everything is does
     drained-event (all.at number event) old new batches everything is does =
         still new batches (drained-other (all.at number event) old new batches refl is does)
-    drained-event (all.crosses client command) old new batches everything is does =
-        still new batches (drained-other (all.crosses client command) old new batches refl is does)
+    drained-event (all.crosses client command amid) old new batches everything is does =
+        still new batches (drained-other (all.crosses client command amid) old new batches refl is does)
     drained-event (all.forks_all client children) old new batches everything is does =
         still new batches (drained-other (all.forks_all client children) old new batches refl is does)
     drained-event (all.forks_all_from from children) old new batches everything is does =

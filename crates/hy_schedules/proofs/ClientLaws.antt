@@ -74,18 +74,18 @@ knows-fewer known passes others pass knows =
 
 -- ---- parts in another order
 
-swapped : (a b c : List Pass) → IsPermutation (a ++ (b ++ c)) (b ++ (a ++ c))
+pub swapped : (a b c : List Pass) → IsPermutation (a ++ (b ++ c)) (b ++ (a ++ c))
 swapped a b c =
     subst (λ (l : List Pass). IsPermutation l (b ++ (a ++ c))) (append_assoc a b c)
     (subst (λ (l : List Pass). IsPermutation ((a ++ b) ++ c) l) (append_assoc b a c)
     (IsPermutation-append_left c (a ++ b) (b ++ a) (IsPermutation-append_comm a b)))
 
 -- the second of four parts goes behind the third, and the first one too
-second-behind : (a b c d : List Pass) → IsPermutation (((a ++ b) ++ c) ++ d) ((a ++ c) ++ (b ++ d))
+pub second-behind : (a b c d : List Pass) → IsPermutation (((a ++ b) ++ c) ++ d) ((a ++ c) ++ (b ++ d))
 second-behind a b c d =
     simp append_assoc (IsPermutation-append_right a (b ++ (c ++ d)) (c ++ (b ++ d)) (swapped b c d))
 
-first-behind : (a b c d : List Pass) → IsPermutation (((a ++ b) ++ c) ++ d) ((b ++ c) ++ (a ++ d))
+pub first-behind : (a b c d : List Pass) → IsPermutation (((a ++ b) ++ c) ++ d) ((b ++ c) ++ (a ++ d))
 first-behind a b c d =
     simp append_assoc
     (IsPermutation-trans (a ++ (b ++ (c ++ d))) (b ++ (a ++ (c ++ d))) (b ++ (c ++ (a ++ d)))

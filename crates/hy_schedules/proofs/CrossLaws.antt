@@ -1,9 +1,11 @@
 -- A command over several warehouses as one event of the whole.
 use Rattle.std.proofs.Common.{◌≡◌, ℕ, suc, ◌+◌, ◌<◌, ◌==◌, ◌⊎◌, Bool, true, false, cond, nat_lt, inl, inr, List, [], ◌∷◌, ◌++◌, filter, length, Option, Some, None, refl, sym, ap, ◌∙◌, subst, arith, append_assoc, length-append}
-use Rattle.std.specs.Prelude.{MatchOption, is_some, slice_get, slice_index_or, slice_set}
+use Rattle.std.specs.Prelude.{⊤, MatchOption, is_some, slice_get, slice_index_or, slice_set}
 use Rattle.std.specs.List.{list_any, range_with_len}
 use Rattle.std.specs.Option.{option_map}
 use Rattle.std.proofs.lemmas.Option.{same_Some}
+use Rattle.std.specs.List.Sorted.{IsPermutation}
+use Rattle.std.proofs.lemmas.List.Sorted.{IsPermutation-append_comm, IsPermutation-append_left, IsPermutation-middle, IsPermutation-sym, IsPermutation-trans}
 use Rattle.hy_passes.specs.SerialList.{names}
 use Rattle.hy_passes.specs.declared.entry.Entry.{Entry}
 use Rattle.hy_rows.specs.Tables.{Lists}
@@ -24,11 +26,12 @@ use Rattle.hy_forks.specs.of_partition.Jobs.{DoneState, JobState, Log, RunningJo
 use Rattle.hy_forks.specs.of_partition.Partition.{PartitionState, commits_of, outcome_now}
 use Rattle.hy_forks.specs.of_partition.Schedules.{IsTaken, IsWorldOf, Taken, Underway, World, entered, rows_of, underway, with_accepted, with_known, with_refused}
 use Rattle.hy_forks.specs.of_partition.Steps.{Accepts, Ends as EndsWith, KeepsRest, Refuses}
-use Rattle.hy_forks.specs.of_crossing.Crossings.{AcceptsAll, ArePartitions, Crosses, EndsIfNamed, EndsJob, KeepsIfNamed, LeavesIfNamed, RefusesAll, TellsIfNamed, crossing_entry, database_behind, entry_of, is_named, with_full}
+use Rattle.hy_forks.specs.of_crossing.Crossings.{AcceptsAll, ArePartitions, Crosses, EndsIfNamed, EndsJob, KeepsIfNamed, LeavesIfNamed, IfNamed, RefusesAll, TellsIfNamed, TellsNamed, crossing_entry, database_behind, entry_of, is_named, with_full}
 use Rattle.hy_forks.specs.of_crossing.Lists.{InTurn}
-use Rattle.hy_schedules.specs.Clients.{passes_in, passes_of}
-use Rattle.hy_schedules.specs.Schedules.{ArePlacesOf, ChangesPlace, Ends, DoesAll, EndsIn, EventOfAll, IsPlaceOf, IsWholeOf, LeadsAll, Place, Whole, crosses, entry_behind, place_at, refusal_behind, with_commit, with_entry, with_place, world_at}
-use Rattle.hy_schedules.proofs.ClientLaws.{Moves, Pass, moves-answered, moves-both, moves-same, moves-then, moves-told, passes-beside, passes-pairs}
+use Rattle.hy_schedules.specs.Clients.{KnowsClients, LeadsKnowing, passes_in, passes_of}
+use Rattle.hy_schedules.specs.Looking.{CrossesLooking, LookInTurn, LooksOnce, Moment, looked}
+use Rattle.hy_schedules.specs.Schedules.{ArePlacesOf, ChangesPlace, Ends, DoesAll, EndsIn, EventOfAll, IsPlaceOf, IsWholeOf, LeadsAll, LooksAmid, Place, Whole, crosses, entry_behind, no_looks, place_at, refusal_behind, with_all_known, with_commit, with_entry, with_looks, with_place, world_at}
+use Rattle.hy_schedules.proofs.ClientLaws.{Moves, Pass, first-behind, knows-permuted, knows-told, moves-alone, moves-answered, moves-both, moves-same, moves-then, moves-told, passes-beside, passes-pairs, second-behind, swapped}
 use Rattle.hy_schedules.proofs.CallLaws.{beside-keeps, beside-told, place-beside, place-carried, place-stays, place_of, places-carried, places-changed, places-same, taken-same}
 
 -- ---- what runs in one warehouse ends
@@ -174,58 +177,164 @@ set-behind (first ∷ front) place later rest = ap (λ (l : List Place). first �
 abbrev numbers_from : Command → ℕ → ℕ → List ℕ
 numbers_from command number count = filter (is_named command) (range_with_len number count)
 
-module _ (command : Command) (number count : ℕ) (whole mid next : Whole)
-    (ends : EndsIn (numbers_from command (suc number) count) mid next) where
-  behind : EndsIn (numbers_from command (number + 1) count) mid next
+module _ (command : Command) (amid : LooksAmid) (number count : ℕ) (whole mid next : Whole)
+    (ends : EndsIn amid (numbers_from command (suc number) count) mid next) where
+  behind : EndsIn amid (numbers_from command (number + 1) count) mid next
   behind =
       let same : suc number ≡ number + 1 = omega arith in
-      subst (λ k. EndsIn (numbers_from command k count) mid next) same ends
+      subst (λ k. EndsIn amid (numbers_from command k count) mid next) same ends
 
-  ends-named : is_named command number ≡ true → ChangesPlace Ends number whole mid
-      → EndsIn (numbers_from command number (suc count)) whole next
+  ends-named : is_named command number ≡ true
+      → ChangesPlace Ends number (with_looks (amid.before_end number) whole) mid
+      → EndsIn amid (numbers_from command number (suc count)) whole next
   ends-named named changes =
-      subst (λ b. EndsIn (cond b (number ∷ numbers_from command (number + 1) count)
+      subst (λ b. EndsIn amid (cond b (number ∷ numbers_from command (number + 1) count)
       (numbers_from command (number + 1) count)) whole next) (sym named) (mid, changes, behind)
 
   ends-unnamed : is_named command number ≡ false → whole ≡ mid
-      → EndsIn (numbers_from command number (suc count)) whole next
+      → EndsIn amid (numbers_from command number (suc count)) whole next
   ends-unnamed unnamed same =
-      subst (λ b. EndsIn (cond b (number ∷ numbers_from command (number + 1) count)
+      subst (λ b. EndsIn amid (cond b (number ∷ numbers_from command (number + 1) count)
       (numbers_from command (number + 1) count)) whole next) (sym unnamed)
-      (subst (λ (w : Whole). EndsIn (numbers_from command (number + 1) count) w next) (sym same) behind)
+      (subst (λ (w : Whole). EndsIn amid (numbers_from command (number + 1) count) w next) (sym same) behind)
+
+-- ---- looks
+
+-- what looks make of the passes that clients hold
+abbrev Looking : Type 1
+Looking = List ℕ → Log → List Pass → List Pass → Type 0
+
+-- they tell those clients, and nobody else
+abbrev AreTelling : Looking → Type 0
+AreTelling L = (clients : List ℕ) (log : Log) (known : ℕ → ℕ) (held now : List Pass) → L clients log held now
+    → Moves known (with_all_known known clients log) held now
+
+tells-in_turn : (clients : List ℕ) (log : Log) (known : ℕ → ℕ) (held now : List Pass) → LookInTurn clients log held now
+    → Moves known (with_all_known known clients log) held now
+tells-in_turn [] log known held now same = moves-same known held now same
+tells-in_turn (client ∷ clients) log known held now turn =
+    moves-then known (with_known known client log) (with_all_known (with_known known client log) clients log) held
+    turn.0 now once (tells-in_turn clients log (with_known known client log) turn.0 now turn.2)
+  where
+    one : LooksOnce client log held turn.0
+    one = turn.1
+
+    once : Moves known (with_known known client log) held turn.0
+    once = λ others knows.
+        subst (λ (l : List Pass). KnowsClients (with_known known client log) (l ++ others)) (sym one.now_are)
+        (subst (λ (l : List Pass). KnowsClients (with_known known client log) l)
+        (sym (append_assoc one.front (looked one.pass log ∷ one.rest) others))
+        (subst (λ k. KnowsClients (with_known known k log) (one.front ++ looked one.pass log ∷ (one.rest ++ others)))
+        one.client_is
+        (knows-told known one.front one.front one.pass (looked one.pass log) (one.rest ++ others) log refl refl refl
+        (subst (λ (l : List Pass). KnowsClients known l) (append_assoc one.front (one.pass ∷ one.rest) others)
+        (subst (λ (l : List Pass). KnowsClients known (l ++ others)) one.held_are knows)))))
+
+-- a step in the midst of looks, and all steps
+abbrev EndsAmid : Looking → Command → LooksAmid → ℕ → Moment → Moment → PartitionState → PartitionState → Type 0
+EndsAmid L command amid number before after old new =
+    IfNamed command number
+    (EndsJob before.log after.log old new × L (amid.before_end number) before.log before.held after.held)
+    ((new ≡ old) × (after ≡ before))
+
+record CrossesAmid (L : Looking) (lists : Lists) (job : JobState) (amid : LooksAmid) (before after : Moment)
+    (old new : List PartitionState) (answer : DoneState) : Type 0 where
+  last : Moment
+  ended : List PartitionState
+  middle : List PartitionState
+  ready : List Pass
+  ends : InTurn (EndsAmid L job.command amid) 1 before last old ended
+  tells : TellsNamed job.command last.log ended middle
+  looks_before : L amid.before_commit last.log last.held ready
+  does : AcceptsAll lists job last.log after.log middle new answer
+      ⊎ RefusesAll lists job last.log after.log middle new answer
+  looks_behind : L amid.behind after.log ready after.held
+
+-- a call alone, where the looks that are to fall within it leave what is held
+module _ (L : Looking) (amid : LooksAmid) (held : List Pass) where
+  abbrev at : Log → Moment
+  at log = record { log = log; held = held }
+
+  quiet-ends : (command : Command) → ((number : ℕ) (log : Log) → L (amid.before_end number) log held held)
+      → (number : ℕ) (before after : Log) (olds news : List PartitionState)
+      → InTurn (EndsIfNamed command) number before after olds news
+      → InTurn (EndsAmid L command amid) number (at before) (at after) olds news
+  quiet-ends command stays number before after [] [] turn = ap at turn
+  quiet-ends command stays number before after (p ∷ olds) (q ∷ news) turn = (
+    at turn.0,
+    elim turn.1 [
+      | inl named ↦ inl (named.0, (named.1, stays number before))
+      | inr unnamed ↦ inr (unnamed.0, (unnamed.1.0, ap at unnamed.1.1))
+    ],
+    quiet-ends command stays (suc number) turn.0 after olds news turn.2,
+  )
+  quiet-ends command stays number before after [] (q ∷ news) turn = absurd turn
+  quiet-ends command stays number before after (p ∷ olds) [] turn = absurd turn
+
+-- passes that clients hold move first, then those in one partition, and then those in the others with what is held
+moves-more : (known seen later last : ℕ → ℕ) (p q olds news held mid now : List Pass) → Moves known seen held mid
+    → Moves seen later p q → Moves later last (olds ++ mid) (news ++ now)
+    → Moves known last ((p ++ olds) ++ held) ((q ++ news) ++ now)
+moves-more known seen later last p q olds news held mid now first second third = λ others knows.
+    let began : KnowsClients known ((held ++ p) ++ (olds ++ others)) =
+    knows-permuted known (((p ++ olds) ++ held) ++ others) ((held ++ p) ++ (olds ++ others))
+    (IsPermutation-trans (((p ++ olds) ++ held) ++ others) ((p ++ held) ++ (olds ++ others))
+    ((held ++ p) ++ (olds ++ others)) (second-behind p olds held others) (turned p held (olds ++ others))) knows in
+    let both : KnowsClients later ((mid ++ q) ++ (olds ++ others)) =
+    moves-both known seen later held mid p q first second (olds ++ others) began in
+    let ready : KnowsClients later ((olds ++ mid) ++ (q ++ others)) =
+    knows-permuted later ((mid ++ q) ++ (olds ++ others)) ((olds ++ mid) ++ (q ++ others))
+    (IsPermutation-trans ((mid ++ q) ++ (olds ++ others)) ((q ++ mid) ++ (olds ++ others))
+    ((olds ++ mid) ++ (q ++ others)) (turned mid q (olds ++ others))
+    (IsPermutation-trans ((q ++ mid) ++ (olds ++ others)) (((q ++ olds) ++ mid) ++ others)
+    ((olds ++ mid) ++ (q ++ others))
+    (IsPermutation-sym (((q ++ olds) ++ mid) ++ others) ((q ++ mid) ++ (olds ++ others))
+    (second-behind q olds mid others)) (first-behind q olds mid others))) both in
+    knows-permuted last ((news ++ now) ++ (q ++ others)) (((q ++ news) ++ now) ++ others)
+    (IsPermutation-sym (((q ++ news) ++ now) ++ others) ((news ++ now) ++ (q ++ others))
+    (first-behind q news now others)) (third (q ++ others) ready)
+  where
+    turned : (a b c : List Pass) → IsPermutation ((a ++ b) ++ c) ((b ++ a) ++ c)
+    turned a b c = IsPermutation-append_left c (a ++ b) (b ++ a) (IsPermutation-append_comm a b)
 
 -- the whole behind the places that were passed, once what ran in those from a number on has ended
-record EndedFrom (n : ℕ) (command : Command) (number count : ℕ) (after : Log) (olds news : List PartitionState)
-    (front : List Place) (whole : Whole) : Type 0 where
+record EndedFrom (L : Looking) (n : ℕ) (command : Command) (amid : LooksAmid) (number count : ℕ) (before after : Moment)
+    (olds news : List PartitionState) (front : List Place) (whole : Whole) : Type 0 where
   next : Whole
   later : List Place
   places : next.places ≡ front ++ later
-  ends : EndsIn (numbers_from command number count) whole next
+  ends : EndsIn amid (numbers_from command number count) whole next
   load : next.load ≡ whole.load
-  log_is : next.log ≡ after
-  are : ArePlacesOf n after next number news later
-  moves : Moves whole.known next.known (passes_in olds) (passes_in news)
+  log_is : next.log ≡ after.log
+  are : ArePlacesOf n after.log next number news later
+  moves : AreTelling L → (now : List Pass) → L amid.before_commit after.log after.held now
+      → Moves whole.known next.known (passes_in olds ++ before.held) (passes_in news ++ now)
 
 -- one warehouse more
-ended-more : (n : ℕ) (command : Command) (number count : ℕ) (middle after : Log) (p q : PartitionState)
-    (olds news : List PartitionState) (front : List Place) (later : Place) (whole mid : Whole)
-    → mid.load ≡ whole.load → Moves whole.known mid.known (passes_of p) (passes_of q)
-    → IsPlaceOf n middle mid number q later
-    → ((next : Whole) → EndsIn (numbers_from command (suc number) count) mid next
-    → EndsIn (numbers_from command number (suc count)) whole next)
-    → EndedFrom n command (suc number) count after olds news (front ++ later ∷ []) mid
-    → EndedFrom n command number (suc count) after (p ∷ olds) (q ∷ news) front whole
-ended-more n command number count middle after p q olds news front later whole mid load moves is ends rest = record {
-  next = rest.next;
-  later = later ∷ rest.later;
-  places = rest.places ∙ append_assoc front (later ∷ []) rest.later;
-  ends = ends rest.next rest.ends;
-  load = rest.load ∙ load;
-  log_is = rest.log_is;
-  are = (place-carried n middle after mid rest.next number q later rest.load rest.log_is is, rest.are);
-  moves = moves-both whole.known mid.known rest.next.known (passes_of p) (passes_of q) (passes_in olds) (passes_in news)
-      moves rest.moves;
-}
+ended-more : (L : Looking) (n : ℕ) (command : Command) (amid : LooksAmid) (number count : ℕ) (before middle after : Moment)
+    (p q : PartitionState) (olds news : List PartitionState) (front : List Place) (later : Place) (whole mid : Whole)
+    (seen : ℕ → ℕ) → mid.load ≡ whole.load → (AreTelling L → Moves whole.known seen before.held middle.held)
+    → Moves seen mid.known (passes_of p) (passes_of q) → IsPlaceOf n middle.log mid number q later
+    → ((next : Whole) → EndsIn amid (numbers_from command (suc number) count) mid next
+    → EndsIn amid (numbers_from command number (suc count)) whole next)
+    → EndedFrom L n command amid (suc number) count middle after olds news (front ++ later ∷ []) mid
+    → EndedFrom L n command amid number (suc count) before after (p ∷ olds) (q ∷ news) front whole
+ended-more L n command amid number count before middle after p q olds news front later whole mid seen load first
+    second is ends rest = record {
+      next = rest.next;
+      later = later ∷ rest.later;
+      places = rest.places ∙ append_assoc front (later ∷ []) rest.later;
+      ends = ends rest.next rest.ends;
+      load = rest.load ∙ load;
+      log_is = rest.log_is;
+      are = (
+        place-carried n middle.log after.log mid rest.next number q later rest.load rest.log_is is,
+        rest.are,
+      );
+      moves = λ telling now looked.
+          moves-more whole.known seen mid.known rest.next.known (passes_of p) (passes_of q) (passes_in olds)
+          (passes_in news) before.held middle.held now (first telling) second (rest.moves telling now looked);
+    }
 
 -- the whole once one warehouse has ended what ran there
 module _ (n number : ℕ) (before middle : Log) (p q : PartitionState) (front rest : List Place) (place : Place)
@@ -270,62 +379,81 @@ module _ (n number : ℕ) (before middle : Log) (p q : PartitionState) (front re
   mid-is : IsPlaceOf n middle mid_whole number q later_place
   mid-is = subst (λ k. IsWorldOf n middle q (record ended.0 { warehouse = k })) ended.1.warehouse ended.1.is
 
-ended-turn : (n : ℕ) (command : Command) (number : ℕ) (before after : Log) (olds news : List PartitionState)
-    (front rest : List Place) (whole : Whole) → number ≡ suc (length front) → whole.places ≡ front ++ rest
-    → whole.log ≡ before → ArePlacesOf n before whole number olds rest
-    → InTurn (EndsIfNamed command) number before after olds news
-    → EndedFrom n command number (length rest) after olds news front whole
-ended-turn n command number before after [] [] front [] whole here places log_is are turn = record {
-  next = whole;
+ended-turn : (L : Looking) (n : ℕ) (command : Command) (amid : LooksAmid) (number : ℕ) (before after : Moment)
+    (olds news : List PartitionState) (front rest : List Place) (whole : Whole) → number ≡ suc (length front)
+    → whole.places ≡ front ++ rest → whole.log ≡ before.log → ArePlacesOf n before.log whole number olds rest
+    → InTurn (EndsAmid L command amid) number before after olds news
+    → EndedFrom L n command amid number (length rest) before after olds news front whole
+ended-turn L n command amid number before after [] [] front [] whole here places log_is are turn = record {
+  next = with_looks amid.before_commit whole;
   later = [];
   places = places;
   ends = refl;
   load = refl;
-  log_is = log_is ∙ sym turn;
+  log_is = same;
   are = tt;
-  moves = moves-same whole.known [] [] refl;
+  moves = λ telling now looked.
+      subst (λ (held : List Pass).
+      Moves whole.known (with_all_known whole.known amid.before_commit whole.log) held now)
+      (ap (λ (m : Moment). m.held) turn)
+      (telling amid.before_commit whole.log whole.known after.held now
+      (subst (λ (log : Log). L amid.before_commit log after.held now) (sym same) looked));
 }
-ended-turn n command number before after (p ∷ olds) (q ∷ news) front (place ∷ rest) whole here places log_is are turn =
+  where
+    same : whole.log ≡ after.log
+    same = log_is ∙ sym (ap (λ (m : Moment). m.log) turn)
+ended-turn L n command amid number before after (p ∷ olds) (q ∷ news) front (place ∷ rest) whole here places log_is are turn =
     elim turn.1 [
       | inl named ↦
+          let clients : List ℕ = amid.before_end number in
+          let seen : Whole = with_looks clients whole in
+          let middle : Moment = turn.0 in
+          let is : IsPlaceOf n before.log seen number p place =
+          place-carried n before.log before.log whole seen number p place refl log_is are.0 in
           let mid : Whole =
-          mid_whole n number before turn.0 p q front rest place whole here places are.0 named.1 in
+          mid_whole n number before.log middle.log p q front rest place seen here places is named.1.0 in
           let later : Place =
-          later_place n number before turn.0 p q front rest place whole here places are.0 named.1 in
-          let led = ended n number before turn.0 p q front rest place whole here places are.0 named.1 in
-          ended-more n command number (length rest) turn.0 after p q olds news front later whole mid led.1.load led.1.moves
-          (mid-is n number before turn.0 p q front rest place whole here places are.0 named.1)
-          (λ next ends. ends-named command number (length rest) whole mid next ends named.0
-          (mid-changes n number before turn.0 p q front rest place whole here places are.0 named.1))
-          (ended-turn n command (suc number) turn.0 after olds news (front ++ later ∷ []) rest mid
+          later_place n number before.log middle.log p q front rest place seen here places is named.1.0 in
+          let led = ended n number before.log middle.log p q front rest place seen here places is named.1.0 in
+          ended-more L n command amid number (length rest) before middle after p q olds news front later whole mid
+          (with_all_known whole.known clients whole.log) led.1.load
+          (λ telling. telling clients whole.log whole.known before.held middle.held
+          (subst (λ (log : Log). L clients log before.held middle.held) (sym log_is) named.1.1)) led.1.moves
+          (mid-is n number before.log middle.log p q front rest place seen here places is named.1.0)
+          (λ next ends. ends-named command amid number (length rest) whole mid next ends named.0
+          (mid-changes n number before.log middle.log p q front rest place seen here places is named.1.0))
+          (ended-turn L n command amid (suc number) middle after olds news (front ++ later ∷ []) rest mid
           (ap suc (here ∙ sym (longer front later))) (sym (append_assoc front (later ∷ []) rest)) led.1.is.log_is
-          (places-carried n before turn.0 whole mid led.1.load led.1.is.log_is (suc number) olds rest are.1) turn.2)
+          (places-carried n before.log middle.log whole mid led.1.load led.1.is.log_is (suc number) olds rest are.1)
+          turn.2)
       | inr unnamed ↦
-          ended-more n command number (length rest) before after p q olds news front place whole whole refl
+          ended-more L n command amid number (length rest) before before after p q olds news front place whole whole
+          whole.known refl (λ telling. moves-same whole.known before.held before.held refl)
           (moves-same whole.known (passes_of p) (passes_of q) (ap passes_of unnamed.1.0))
-          (subst (λ (now : PartitionState). IsPlaceOf n before whole number now place) (sym unnamed.1.0) are.0)
-          (λ next ends. ends-unnamed command number (length rest) whole whole next ends unnamed.0 refl)
-          (ended-turn n command (suc number) before after olds news (front ++ place ∷ []) rest whole
+          (subst (λ (now : PartitionState). IsPlaceOf n before.log whole number now place) (sym unnamed.1.0) are.0)
+          (λ next ends. ends-unnamed command amid number (length rest) whole whole next ends unnamed.0 refl)
+          (ended-turn L n command amid (suc number) before after olds news (front ++ place ∷ []) rest whole
           (ap suc (here ∙ sym (longer front place))) (places ∙ sym (append_assoc front (place ∷ []) rest)) log_is
           are.1
-          (subst (λ (list : Log). InTurn (EndsIfNamed command) (suc number) list after olds news) unnamed.1.1 turn.2))
+          (subst (λ (m : Moment). InTurn (EndsAmid L command amid) (suc number) m after olds news) unnamed.1.1
+          turn.2))
     ]
   where
     longer : (front : List Place) (place : Place) → length (front ++ place ∷ []) ≡ suc (length front)
     longer front place = omega (arith, length-append front (place ∷ []))
-ended-turn n command number before after [] (q ∷ news) front rest whole here places log_is are turn = absurd turn
-ended-turn n command number before after (p ∷ olds) [] front rest whole here places log_is are turn = absurd turn
-ended-turn n command number before after [] [] front (place ∷ rest) whole here places log_is are turn = absurd are
-ended-turn n command number before after (p ∷ olds) (q ∷ news) front [] whole here places log_is are turn = absurd are
+ended-turn L n command amid number before after [] (q ∷ news) front rest whole here places log_is are turn = absurd turn
+ended-turn L n command amid number before after (p ∷ olds) [] front rest whole here places log_is are turn = absurd turn
+ended-turn L n command amid number before after [] [] front (place ∷ rest) whole here places log_is are turn = absurd are
+ended-turn L n command amid number before after (p ∷ olds) (q ∷ news) front [] whole here places log_is are turn = absurd are
 
 -- ---- the command
 
--- an event that leads somewhere, with what becomes of all passes: those in the partitions, and some that clients held
-abbrev pub LeadsMoving : ℕ → EventOfAll → Whole → Log → List PartitionState → List Pass → List PartitionState
-    → List Pass → Type 0
-LeadsMoving n event whole after parts held news now =
+-- an event that leads somewhere, with what becomes of all passes: those in the partitions, and those that clients hold
+abbrev LeadsMoving : Looking → ℕ → EventOfAll → Whole → Log → List PartitionState → List Pass
+    → List PartitionState → List Pass → Type 0
+LeadsMoving L n event whole after parts held news now =
     (next : Whole) × DoesAll event whole next × IsWholeOf n after news next
-    × Moves whole.known next.known (passes_in parts ++ held) (passes_in news ++ now)
+    × (AreTelling L → Moves whole.known next.known (passes_in parts ++ held) (passes_in news ++ now))
 
 -- nothing refuses a command that is accepted, whether a kept list is full or not
 pub unrefused : (full : Bool) (refusal : Option Refusal) → with_full full refusal ≡ None → refusal ≡ None
@@ -341,14 +469,18 @@ load-is n log lists whole (p ∷ parts) (place ∷ places) is are some = is.0.lo
 load-is n log lists whole [] (place ∷ places) is are some = absurd is
 load-is n log lists whole (p ∷ parts) [] is are some = absurd is
 
-module _ (n : ℕ) (lists : Lists) (job : JobState) (log after : Log) (parts news : List PartitionState)
-    (answer : DoneState) (whole : Whole) (is : IsWholeOf n log parts whole) (is_load : IsLoad lists)
-    (are : ArePartitions lists parts) (several : nat_lt 1 (length (warehouses_of job.command)) ≡ true)
+module _ (L : Looking) (n : ℕ) (lists : Lists) (job : JobState) (amid : LooksAmid) (before after : Moment)
+    (parts news : List PartitionState) (answer : DoneState) (whole : Whole) (is : IsWholeOf n before.log parts whole)
+    (is_load : IsLoad lists) (are : ArePartitions lists parts)
+    (several : nat_lt 1 (length (warehouses_of job.command)) ≡ true)
     (known : whole.known job.pass.client ≡ length job.pass.seen) (new : job.edition ≡ editions.Second)
-    (does : Crosses lists job log after parts news answer) where
-  from : EndedFrom n job.command 1 (length whole.places) does.log parts does.informs.ended [] whole
-  from = ended-turn n job.command 1 log does.log parts does.informs.ended [] whole.places whole refl refl is.0 is.1
-      does.informs.ends
+    (does : CrossesAmid L lists job amid before after parts news answer) where
+  abbrev last_log : Log
+  last_log = does.last.log
+
+  from : EndedFrom L n job.command amid 1 (length whole.places) before does.last parts does.ended [] whole
+  from = ended-turn L n job.command amid 1 before does.last parts does.ended [] whole.places whole refl refl is.0 is.1
+      does.ends
 
   abbrev ended_whole : Whole
   ended_whole = from.next
@@ -356,62 +488,120 @@ module _ (n : ℕ) (lists : Lists) (job : JobState) (log after : Log) (parts new
   load : ended_whole.load ≡ lists
   load =
       from.load
-      ∙ load-is n log lists whole parts whole.places is.1 are (omega (arith, are.count, is_load.warehouses.whole))
+      ∙ load-is n before.log lists whole parts whole.places is.1 are (omega (arith, are.count, is_load.warehouses.whole))
 
   -- partitions that were told stay as the model sees them
-  informed : ArePlacesOf n does.log ended_whole 1 does.middle ended_whole.places
+  informed : ArePlacesOf n last_log ended_whole 1 does.middle ended_whole.places
   informed =
-      places-same n does.log does.log ended_whole ended_whole (TellsIfNamed job.command does.log) told 1
-      does.informs.ended does.middle ended_whole.places does.informs.tells
-      (subst (λ (l : List Place). ArePlacesOf n does.log ended_whole 1 does.informs.ended l) (sym from.places)
+      places-same n last_log last_log ended_whole ended_whole (TellsIfNamed job.command last_log) told 1
+      does.ended does.middle ended_whole.places does.tells
+      (subst (λ (l : List Place). ArePlacesOf n last_log ended_whole 1 does.ended l) (sym from.places)
       from.are)
     where
-      told : (number : ℕ) (p q : PartitionState) (place : Place) → TellsIfNamed job.command does.log number p q
-          → IsPlaceOf n does.log ended_whole number p place → IsPlaceOf n does.log ended_whole number q place
+      told : (number : ℕ) (p q : PartitionState) (place : Place) → TellsIfNamed job.command last_log number p q
+          → IsPlaceOf n last_log ended_whole number p place → IsPlaceOf n last_log ended_whole number q place
       told number p q place tells was = elim tells [
         | inl named ↦
-            subst (λ (now : PartitionState). IsPlaceOf n does.log ended_whole number now place) (sym named.1.0)
-            (place-stays n does.log ended_whole number p (record p { seen = does.log }) place
-            (beside-told p does.log) refl was)
+            subst (λ (now : PartitionState). IsPlaceOf n last_log ended_whole number now place) (sym named.1.0)
+            (place-stays n last_log ended_whole number p (record p { seen = last_log }) place
+            (beside-told p last_log) refl was)
         | inr unnamed ↦
-            subst (λ (now : PartitionState). IsPlaceOf n does.log ended_whole number now place) (sym unnamed.1) was
+            subst (λ (now : PartitionState). IsPlaceOf n last_log ended_whole number now place) (sym unnamed.1) was
       ]
 
   -- they have the passes that they had
-  passes-informed : passes_in does.middle ≡ passes_in does.informs.ended
+  passes-informed : passes_in does.middle ≡ passes_in does.ended
   passes-informed =
-      passes-pairs (TellsIfNamed job.command does.log) same 1 does.informs.ended does.middle does.informs.tells
+      passes-pairs (TellsIfNamed job.command last_log) same 1 does.ended does.middle does.tells
     where
-      same : (number : ℕ) (p q : PartitionState) → TellsIfNamed job.command does.log number p q
+      same : (number : ℕ) (p q : PartitionState) → TellsIfNamed job.command last_log number p q
           → passes_of q ≡ passes_of p
       same number p q tells = elim tells [
         | inl named ↦ ap passes_of named.1.0
         | inr unnamed ↦ ap passes_of unnamed.1
       ]
 
+  -- the whole that the call leaves behind one in which all is done
+  abbrev left_whole : Whole → Whole
+  left_whole done = with_looks amid.behind done
+
+  left-is : (done : Whole) → IsWholeOf n after.log news done → IsWholeOf n after.log news (left_whole done)
+  left-is done are = (
+    are.0,
+    places-carried n after.log after.log done (left_whole done) refl are.0 1 news done.places are.1,
+  )
+
   -- what becomes of all passes, where those in the partitions stay as they were when all jobs had ended
-  moves-crossing : (later : ℕ → ℕ) → passes_in news ≡ passes_in does.middle
-      → Moves ended_whole.known later (job.pass ∷ []) (answer.pass ∷ [])
-      → Moves whole.known later (passes_in parts ++ job.pass ∷ []) (passes_in news ++ answer.pass ∷ [])
-  moves-crossing later same moves =
-      moves-both whole.known ended_whole.known later (passes_in parts) (passes_in news) (job.pass ∷ [])
-      (answer.pass ∷ [])
-      (moves-then whole.known ended_whole.known ended_whole.known (passes_in parts) (passes_in does.informs.ended)
-      (passes_in news) from.moves
-      (moves-same ended_whole.known (passes_in does.informs.ended) (passes_in news) (same ∙ passes-informed))) moves
+  moves-crossing : (done : Whole) → done.log ≡ after.log → passes_in news ≡ passes_in does.middle
+      → Moves ended_whole.known done.known (job.pass ∷ []) (answer.pass ∷ []) → AreTelling L
+      → Moves whole.known (left_whole done).known (passes_in parts ++ job.pass ∷ before.held)
+      (passes_in news ++ answer.pass ∷ after.held)
+  moves-crossing done log_is same moves telling = λ others knows.
+      let began : KnowsClients whole.known ((passes_in parts ++ before.held) ++ (job.pass ∷ others)) =
+      knows-permuted whole.known ((passes_in parts ++ job.pass ∷ before.held) ++ others)
+      ((passes_in parts ++ before.held) ++ (job.pass ∷ others))
+      (IsPermutation-sym ((passes_in parts ++ before.held) ++ (job.pass ∷ others))
+      ((passes_in parts ++ job.pass ∷ before.held) ++ others)
+      (one-between (passes_in parts) before.held job.pass others)) knows in
+      let ended : KnowsClients ended_whole.known ((passes_in does.ended ++ does.ready) ++ (job.pass ∷ others)) =
+      from.moves telling does.ready does.looks_before (job.pass ∷ others) began in
+      let crossed : KnowsClients done.known (answer.pass ∷ ((passes_in does.ended ++ does.ready) ++ others)) =
+      moves ((passes_in does.ended ++ does.ready) ++ others)
+      (knows-permuted ended_whole.known ((passes_in does.ended ++ does.ready) ++ (job.pass ∷ others))
+      (job.pass ∷ ((passes_in does.ended ++ does.ready) ++ others))
+      (IsPermutation-middle (passes_in does.ended ++ does.ready) job.pass others) ended) in
+      let front : List Pass = answer.pass ∷ passes_in does.ended in
+      let turned : KnowsClients done.known (does.ready ++ (front ++ others)) =
+      knows-permuted done.known (answer.pass ∷ ((passes_in does.ended ++ does.ready) ++ others))
+      (does.ready ++ (front ++ others)) (turned-out front does.ready others) crossed in
+      let behind : KnowsClients (left_whole done).known (after.held ++ (front ++ others)) =
+      telling amid.behind done.log done.known does.ready after.held
+      (subst (λ (log : Log). L amid.behind log does.ready after.held) (sym log_is) does.looks_behind)
+      (front ++ others) turned in
+      subst (λ (l : List Pass). KnowsClients (left_whole done).known ((l ++ answer.pass ∷ after.held) ++ others))
+      (sym (same ∙ passes-informed))
+      (knows-permuted (left_whole done).known (after.held ++ (front ++ others))
+      ((passes_in does.ended ++ answer.pass ∷ after.held) ++ others)
+      (IsPermutation-trans (after.held ++ (front ++ others)) ((front ++ after.held) ++ others)
+      ((passes_in does.ended ++ answer.pass ∷ after.held) ++ others)
+      (IsPermutation-sym ((front ++ after.held) ++ others) (after.held ++ (front ++ others))
+      (turned-out front after.held others))
+      (IsPermutation-append_left others (front ++ after.held) (passes_in does.ended ++ answer.pass ∷ after.held)
+      (IsPermutation-sym (passes_in does.ended ++ answer.pass ∷ after.held) (front ++ after.held)
+      (IsPermutation-middle (passes_in does.ended) answer.pass after.held)))) behind)
+    where
+      turned-out : (a b c : List Pass) → IsPermutation ((a ++ b) ++ c) (b ++ (a ++ c))
+      turned-out a b c =
+          subst (λ (l : List Pass). IsPermutation l (b ++ (a ++ c))) (sym (append_assoc a b c)) (swapped a b c)
+
+      one-between : (a b : List Pass) (pass : Pass) (c : List Pass)
+          → IsPermutation ((a ++ b) ++ (pass ∷ c)) ((a ++ pass ∷ b) ++ c)
+      one-between a b pass c =
+          IsPermutation-trans ((a ++ b) ++ (pass ∷ c)) (pass ∷ ((a ++ b) ++ c)) ((a ++ pass ∷ b) ++ c)
+          (IsPermutation-middle (a ++ b) pass c)
+          (IsPermutation-append_left c (pass ∷ (a ++ b)) (a ++ pass ∷ b)
+          (IsPermutation-sym (a ++ pass ∷ b) (pass ∷ (a ++ b)) (IsPermutation-middle a pass b)))
 
   -- refused, no part of it is left
-  crosses-refused : RefusesAll lists job does.log after does.middle news answer
-      → LeadsMoving n (crosses job.pass.client job.command) whole after parts (job.pass ∷ []) news (answer.pass ∷ [])
+  crosses-refused : RefusesAll lists job last_log after.log does.middle news answer
+      → LeadsMoving L n (crosses job.pass.client job.command amid) whole after.log parts (job.pass ∷ before.held) news
+      (answer.pass ∷ after.held)
   crosses-refused refuses = (
-    ended_whole,
-    record { several = several; ended = ended_whole; ends = from.ends; does = inl refl },
-    (
+    left_whole ended_whole,
+    record {
+      several = several;
+      ended = ended_whole;
+      ends = from.ends;
+      done = ended_whole;
+      does = inl refl;
+      looked = refl;
+    },
+    left-is ended_whole (
       from.log_is ∙ sym refuses.log_is,
-      places-same n does.log after ended_whole ended_whole (LeavesIfNamed job.command) left 1 does.middle news
+      places-same n last_log after.log ended_whole ended_whole (LeavesIfNamed job.command) left 1 does.middle news
           ended_whole.places refuses.parts informed,
     ),
-    moves-crossing ended_whole.known
+    moves-crossing ended_whole (from.log_is ∙ sym refuses.log_is)
         (passes-pairs (LeavesIfNamed job.command) stays 1 does.middle news refuses.parts)
         (moves-same ended_whole.known (job.pass ∷ []) (answer.pass ∷ [])
         (ap (λ (one : DoneState). one.pass ∷ []) refuses.answer_is)),
@@ -427,35 +617,43 @@ module _ (n : ℕ) (lists : Lists) (job : JobState) (log after : Log) (parts new
       ]
 
       left : (number : ℕ) (p q : PartitionState) (place : Place) → LeavesIfNamed job.command number p q
-          → IsPlaceOf n does.log ended_whole number p place → IsPlaceOf n after ended_whole number q place
+          → IsPlaceOf n last_log ended_whole number p place → IsPlaceOf n after.log ended_whole number q place
       left number p q place leaves was =
-          let later = place-carried n does.log after ended_whole ended_whole number p place refl
+          let later = place-carried n last_log after.log ended_whole ended_whole number p place refl
           (from.log_is ∙ sym refuses.log_is) was in
-          let same : q ≡ p → IsPlaceOf n after ended_whole number q place = λ same.
-          subst (λ (now : PartitionState). IsPlaceOf n after ended_whole number now place) (sym same) later in
+          let same : q ≡ p → IsPlaceOf n after.log ended_whole number q place = λ same.
+          subst (λ (now : PartitionState). IsPlaceOf n after.log ended_whole number now place) (sym same) later in
           elim leaves [
             | inl named ↦ elim named.1 [
               | inl stays ↦ same stays
-              | inr before ↦ place-stays n after ended_whole number p q place (beside-keeps p q before.beside)
+              | inr before ↦ place-stays n after.log ended_whole number p q place (beside-keeps p q before.beside)
                   before.nothing.kept later
             ]
             | inr unnamed ↦ same unnamed.1
           ]
 
   -- accepted, it enters all lists that it names
-  crosses-accepted : AcceptsAll lists job does.log after does.middle news answer
-      → LeadsMoving n (crosses job.pass.client job.command) whole after parts (job.pass ∷ []) news (answer.pass ∷ [])
+  crosses-accepted : AcceptsAll lists job last_log after.log does.middle news answer
+      → LeadsMoving L n (crosses job.pass.client job.command amid) whole after.log parts (job.pass ∷ before.held) news
+      (answer.pass ∷ after.held)
   crosses-accepted accepts = (
-    next,
-    record { several = several; ended = ended_whole; ends = from.ends; does = inr (accepted, refl) },
-    (
+    left_whole next,
+    record {
+      several = several;
+      ended = ended_whole;
+      ends = from.ends;
+      done = next;
+      does = inr (accepted, refl);
+      looked = refl;
+    },
+    left-is next (
       log_is,
-      places-changed n does.log after ended_whole next (with_commit entry.commit)
-          (KeepsIfNamed job.command (entry_of lists job does.log).commit after) kept 1 does.middle news
+      places-changed n last_log after.log ended_whole next (with_commit entry.commit)
+          (KeepsIfNamed job.command (entry_of lists job last_log).commit after.log) kept 1 does.middle news
           ended_whole.places accepts.parts informed,
     ),
-    moves-crossing next.known
-        (passes-pairs (KeepsIfNamed job.command (entry_of lists job does.log).commit after) stays 1 does.middle news
+    moves-crossing next log_is
+        (passes-pairs (KeepsIfNamed job.command (entry_of lists job last_log).commit after.log) stays 1 does.middle news
         accepts.parts)
         (moves-told ended_whole.known job.pass answer.pass next.log
         (ap (λ (one : DoneState). one.pass.client) accepts.answer_is)
@@ -463,7 +661,7 @@ module _ (n : ℕ) (lists : Lists) (job : JobState) (log after : Log) (parts new
   )
     where
       stays : (number : ℕ) (p q : PartitionState)
-          → KeepsIfNamed job.command (entry_of lists job does.log).commit after number p q → passes_of q ≡ passes_of p
+          → KeepsIfNamed job.command (entry_of lists job last_log).commit after.log number p q → passes_of q ≡ passes_of p
       stays number p q keeps = elim keeps [
         | inl named ↦ passes-beside p q named.1.beside.running named.1.beside.finished
         | inr unnamed ↦ ap passes_of unnamed.1
@@ -479,23 +677,23 @@ module _ (n : ℕ) (lists : Lists) (job : JobState) (log after : Log) (parts new
       accepted =
           ap (λ (l : Lists). refusal_in (database_behind l ended_whole.log) job.command) load
           ∙ ap (λ (list : Log). refusal_in (database_behind lists list) job.command) from.log_is
-          ∙ unrefused _ (refusal_in (database_behind lists does.log) job.command) accepts.accepted
+          ∙ unrefused _ (refusal_in (database_behind lists last_log) job.command) accepts.accepted
 
-      entry_is : entry_of lists job does.log ≡ entry
+      entry_is : entry_of lists job last_log ≡ entry
       entry_is =
           sym (ap (λ (l : Lists). crossing_entry editions.Second (kept_in (database_behind l ended_whole.log) job.command)
           (whole.known job.pass.client) ended_whole.log) load
           ∙ ap (λ (list : Log). crossing_entry editions.Second (kept_in (database_behind lists list) job.command)
           (whole.known job.pass.client) list) from.log_is
-          ∙ ap (λ stamp. crossing_entry editions.Second (kept_in (database_behind lists does.log) job.command) stamp does.log)
+          ∙ ap (λ stamp. crossing_entry editions.Second (kept_in (database_behind lists last_log) job.command) stamp last_log)
           known
-          ∙ ap (λ (edition : Edition). crossing_entry edition (kept_in (database_behind lists does.log) job.command)
-          (length job.pass.seen) does.log) (sym new))
+          ∙ ap (λ (edition : Edition). crossing_entry edition (kept_in (database_behind lists last_log) job.command)
+          (length job.pass.seen) last_log) (sym new))
 
-      log_is : next.log ≡ after
+      log_is : next.log ≡ after.log
       log_is =
           ap (λ (list : Log). list ++ entry ∷ []) from.log_is
-          ∙ ap (λ (one : Entry Commit). does.log ++ one ∷ []) (sym entry_is)
+          ∙ ap (λ (one : Entry Commit). last_log ++ one ∷ []) (sym entry_is)
           ∙ sym accepts.log_is
 
       named_is : (number : ℕ) → names warehouses_of_commit number entry.commit ≡ is_named job.command number
@@ -505,32 +703,97 @@ module _ (n : ℕ) (lists : Lists) (job : JobState) (log after : Log) (parts new
           (customer_rows job.command (database_behind ended_whole.load ended_whole.log)))
 
       kept : (number : ℕ) (p q : PartitionState) (place : Place)
-          → KeepsIfNamed job.command (entry_of lists job does.log).commit after number p q
-          → IsPlaceOf n does.log ended_whole number p place
-          → IsPlaceOf n after next number q (with_commit entry.commit number place)
+          → KeepsIfNamed job.command (entry_of lists job last_log).commit after.log number p q
+          → IsPlaceOf n last_log ended_whole number p place
+          → IsPlaceOf n after.log next number q (with_commit entry.commit number place)
       kept number p q place keeps was = elim keeps [
         | inl named ↦
             subst (λ b.
-            IsPlaceOf n after next number q (cond b (record place { kept = place.kept ++ entry.commit ∷ [] }) place))
+            IsPlaceOf n after.log next number q (cond b (record place { kept = place.kept ++ entry.commit ∷ [] }) place))
             (sym (named_is number ∙ named.0))
-            (place-beside n does.log after ended_whole next number p q place (place.kept ++ entry.commit ∷ [])
+            (place-beside n last_log after.log ended_whole next number p q place (place.kept ++ entry.commit ∷ [])
             place.drained (beside-keeps p q named.1.beside) refl log_is
             (ap (λ list. list ++ entry.commit ∷ []) was.kept
             ∙ ap (λ (one : Entry Commit). p.kept ++ one.commit ∷ []) (sym entry_is) ∙ sym named.1.kept) was)
         | inr unnamed ↦
             subst (λ b.
-            IsPlaceOf n after next number q (cond b (record place { kept = place.kept ++ entry.commit ∷ [] }) place))
+            IsPlaceOf n after.log next number q (cond b (record place { kept = place.kept ++ entry.commit ∷ [] }) place))
             (sym (named_is number ∙ unnamed.0))
-            (subst (λ (now : PartitionState). IsPlaceOf n after next number now place) (sym unnamed.1)
-            (place-carried n does.log after ended_whole next number p place refl log_is was))
+            (subst (λ (now : PartitionState). IsPlaceOf n after.log next number now place) (sym unnamed.1)
+            (place-carried n last_log after.log ended_whole next number p place refl log_is was))
       ]
 
-  pub moves-cross
-      : LeadsMoving n (crosses job.pass.client job.command) whole after parts (job.pass ∷ []) news (answer.pass ∷ [])
-  moves-cross = elim does.does [
+  moves-amid : LeadsMoving L n (crosses job.pass.client job.command amid) whole after.log parts
+      (job.pass ∷ before.held) news (answer.pass ∷ after.held)
+  moves-amid = elim does.does [
     | inl accepts ↦ crosses-accepted accepts
     | inr refuses ↦ crosses-refused refuses
   ]
 
-  pub leads-cross : LeadsAll n (crosses job.pass.client job.command) whole after news
-  leads-cross = (moves-cross.0, moves-cross.1, moves-cross.2)
+-- a call, and whatever looks fell within it
+module _ (n : ℕ) (lists : Lists) (job : JobState) (amid : LooksAmid) (parts news : List PartitionState)
+    (answer : DoneState) (whole : Whole) (is_load : IsLoad lists) (are : ArePartitions lists parts)
+    (several : nat_lt 1 (length (warehouses_of job.command)) ≡ true)
+    (known : whole.known job.pass.client ≡ length job.pass.seen) (new : job.edition ≡ editions.Second) where
+  -- by any clients
+  pub leads-cross : (log after : Log) → IsWholeOf n log parts whole → Crosses lists job log after parts news answer
+      → LeadsAll n (crosses job.pass.client job.command amid) whole after news
+  leads-cross log after is does =
+      let any : Looking = λ clients log held now. ⊤ in
+      let led = moves-amid any n lists job amid (record { log = log; held = [] }) (record { log = after; held = [] })
+      parts news answer whole is is_load are several known new (record {
+        last = record { log = does.log; held = [] };
+        ended = does.informs.ended;
+        middle = does.middle;
+        ready = [];
+        ends = quiet-ends any amid [] job.command (λ number log. tt) 1 log does.log parts does.informs.ended
+            does.informs.ends;
+        tells = does.informs.tells;
+        looks_before = tt;
+        does = does.does;
+        looks_behind = tt;
+      }) in
+      (led.0, led.1, led.2)
+
+  -- by those whose passes are held
+  pub knows-cross : (before after : Moment) → IsWholeOf n before.log parts whole
+      → KnowsClients whole.known (passes_in parts ++ job.pass ∷ before.held)
+      → CrossesLooking lists job amid before after parts news answer
+      → LeadsKnowing n (crosses job.pass.client job.command amid) whole after.log news (answer.pass ∷ after.held)
+  knows-cross before after is knows does =
+      let led = moves-amid LookInTurn n lists job amid before after parts news answer whole is is_load are several known
+      new (record {
+        last = does.last;
+        ended = does.ended;
+        middle = does.middle;
+        ready = does.ready;
+        ends = does.ends;
+        tells = does.tells;
+        looks_before = does.looks_before;
+        does = does.does;
+        looks_behind = does.looks_behind;
+      }) in (
+        led.0,
+        led.1,
+        led.2,
+        moves-alone whole.known led.0.known (passes_in parts ++ job.pass ∷ before.held)
+            (passes_in news ++ answer.pass ∷ after.held) (led.3 tells-in_turn) knows,
+      )
+
+-- a call alone is one within which nobody looks
+pub crosses-alone : (lists : Lists) (job : JobState) (log after : Log) (held : List Pass)
+    (parts news : List PartitionState) (answer : DoneState) → Crosses lists job log after parts news answer
+    → CrossesLooking lists job no_looks (record { log = log; held = held }) (record { log = after; held = held }) parts
+    news answer
+crosses-alone lists job log after held parts news answer does = record {
+  last = record { log = does.log; held = held };
+  ended = does.informs.ended;
+  middle = does.middle;
+  ready = held;
+  ends = quiet-ends LookInTurn no_looks held job.command (λ number log. refl) 1 log does.log parts does.informs.ended
+      does.informs.ends;
+  tells = does.informs.tells;
+  looks_before = refl;
+  does = does.does;
+  looks_behind = refl;
+}

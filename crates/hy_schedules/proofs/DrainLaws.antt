@@ -10,7 +10,7 @@ use Rattle.hy_commands.specs.Commands.{warehouses_of_commit}
 use Rattle.hy_forks.specs.of_partition.Jobs.{Log}
 use Rattle.hy_forks.specs.of_partition.Partition.{projection_of}
 use Rattle.hy_forks.specs.of_partition.Schedules.{World}
-use Rattle.hy_schedules.specs.Schedules.{ChangesPlace, DoesAll, DoesCross, Ends, EndsIn, EventOfAll, IsDrainedTo, KeepsEverything, KeepsPlace, Place, Whole, each_changed, entry_behind, fresh_place, fresh_whole, place_at, rested_places, rested_whole, with_commit, with_drained, with_snapshot, with_snapshot_from, without_snapshot}
+use Rattle.hy_schedules.specs.Schedules.{ChangesPlace, DoesAll, DoesCross, Ends, EndsIn, EventOfAll, IsDrainedTo, KeepsEverything, KeepsPlace, LooksAmid, Place, Whole, each_changed, entry_behind, fresh_place, fresh_whole, place_at, rested_places, rested_whole, with_commit, with_drained, with_looks, with_snapshot, with_snapshot_from, without_snapshot}
 use Rattle.hy_schedules.specs.Schedules as all
 use Rattle.hy_schedules.proofs.PlaceLaws.{each-changed, each-replaced, holds-place}
 
@@ -27,11 +27,12 @@ drained-place seen Change number old new changes is =
     (changes.drained ∙ holds-place (To seen) old.places number changes.before changes.there is)
     (λ other place apart to. to) is)
 
-drained-ends : (seen : Log) (numbers : List ℕ) (old new : Whole) → EndsIn numbers old new → IsDrainedTo seen old
-    → IsDrainedTo seen new
-drained-ends seen [] old new same is = subst (IsDrainedTo seen) (sym same) is
-drained-ends seen (number ∷ numbers) old new ends is =
-    drained-ends seen numbers ends.0 new ends.2 (drained-place seen Ends number old ends.0 ends.1 is)
+drained-ends : (seen : Log) (amid : LooksAmid) (numbers : List ℕ) (old new : Whole) → EndsIn amid numbers old new
+    → IsDrainedTo seen old → IsDrainedTo seen new
+drained-ends seen amid [] old new same is = subst (IsDrainedTo seen) (sym same) is
+drained-ends seen amid (number ∷ numbers) old new ends is =
+    drained-ends seen amid numbers ends.0 new ends.2
+    (drained-place seen Ends number (with_looks (amid.before_end number) old) ends.0 ends.1 is)
 
 -- a change of each that leaves what was drained
 drained-each : (seen : Log) (change : ℕ → Place → Place)
@@ -50,26 +51,29 @@ keeps-commit commit number place =
       | false ↦ refl
     ]
 
-drained-crosses : (seen : Log) (client : ℕ) (command : Command) (old new : Whole) → DoesCross client command old new
-    → IsDrainedTo seen old → IsDrainedTo seen new
-drained-crosses seen client command old new does is = elim does.does [
-  | inl same ↦ subst (IsDrainedTo seen) (sym same) ended
-  | inr accepted ↦
-      subst (IsDrainedTo seen) (sym accepted.1)
-      (drained-each seen (with_commit entry.commit) (keeps-commit entry.commit) does.ended.places ended)
-]
+drained-crosses : (seen : Log) (client : ℕ) (command : Command) (amid : LooksAmid) (old new : Whole)
+    → DoesCross client command amid old new → IsDrainedTo seen old → IsDrainedTo seen new
+drained-crosses seen client command amid old new does is = subst (IsDrainedTo seen) (sym does.looked) done
   where
     entry : Entry Commit
     entry = entry_behind does.ended command (old.known client)
 
     ended : IsDrainedTo seen does.ended
-    ended = drained-ends seen _ old does.ended does.ends is
+    ended = drained-ends seen amid _ old does.ended does.ends is
+
+    done : IsDrainedTo seen does.done
+    done = elim does.does [
+      | inl same ↦ subst (IsDrainedTo seen) (sym same) ended
+      | inr accepted ↦
+          subst (IsDrainedTo seen) (sym accepted.1)
+          (drained-each seen (with_commit entry.commit) (keeps-commit entry.commit) does.ended.places ended)
+    ]
 
 pub drained-stays : (seen : Log) (event : EventOfAll) (old new : Whole) → event ≢ all.drains → DoesAll event old new
     → IsDrainedTo seen old → IsDrainedTo seen new
 drained-stays seen (all.at number event) old new other does is = drained-place seen _ number old new does.1 is
-drained-stays seen (all.crosses client command) old new other does is =
-    drained-crosses seen client command old new does is
+drained-stays seen (all.crosses client command amid) old new other does is =
+    drained-crosses seen client command amid old new does is
 drained-stays seen (all.forks_all client children) old new other does is =
     subst (IsDrainedTo seen) (sym does.1)
     (drained-each seen (with_snapshot old children) (λ number place. refl) old.places is)

@@ -36,7 +36,7 @@ use Rattle.hy_forks.specs.of_partition.Schedules as one
 use Rattle.hy_forks.specs.of_partition.Schedules.{Does, Event, Taken, with_known}
 use Rattle.hy_forks.proofs.of_partition.ReplayLaws.{sound-rows}
 use Rattle.hy_forks.specs.of_crossing.Crossings.{commits_in, database_behind}
-use Rattle.hy_schedules.specs.Schedules.{ChangesPlace, DoesAll, DoesCross, Ends, EndsIn, EventOfAll, HasSnapshotOf, KeepsEverything, KeepsPlace, Place, RunsAll, Whole, at, closes_all, crosses, drains, entry_behind, forks_all, forks_all_from, fresh_place, fresh_whole, is_local, kept_at, looks, place_at, refusal_behind, rested_place, rested_places, rested_whole, with_commit, with_drained, with_entry, with_place, with_places, with_snapshot, with_snapshot_from, without_snapshot, world_at}
+use Rattle.hy_schedules.specs.Schedules.{ChangesPlace, DoesAll, DoesCross, Ends, EndsIn, EventOfAll, HasSnapshotOf, KeepsEverything, KeepsPlace, LooksAmid, Place, RunsAll, Whole, at, closes_all, crosses, drains, entry_behind, forks_all, forks_all_from, fresh_place, fresh_whole, is_local, kept_at, looks, place_at, refusal_behind, rested_place, rested_places, rested_whole, with_all_known, with_commit, with_drained, with_entry, with_looks, with_place, with_places, with_snapshot, with_snapshot_from, without_snapshot, world_at}
 use Rattle.hy_schedules.proofs.PlaceLaws.{each-changed, each-replaced, holds-place, length-each, length-with_place}
 use Rattle.hy_schedules.proofs.StepLaws.{HasRows, IsStep, added-elsewhere, added-here, added-longer, added-rows, added-serial, known-more, rows-more, rows-now, step-ends, step-event}
 
@@ -177,14 +177,36 @@ module _ (lists : Lists) (old : Whole) (order : IsInOrder lists old) where
       (step-ends (world_at old number changes.before) (place-old number changes.before changes.there).stamped
       order.known (world_at new number changes.after) changes.change)
 
-in_order-ends : (lists : Lists) (numbers : List ℕ) (old new : Whole) → IsInOrder lists old → EndsIn numbers old new
-    → IsInOrder lists new × (length old.log ≤ length new.log)
-in_order-ends lists [] old new order same =
-    (subst (λ (w : Whole). IsInOrder lists w) (sym same) order, omega (arith, ap (λ (w : Whole). length w.log) same))
-in_order-ends lists (number ∷ numbers) old new order ends =
-    let first = in_order-end lists old order number ends.0 ends.1 in
-    let later = in_order-ends lists numbers ends.0 new first.0 ends.2 in
-    (later.0, omega (arith, first.1, later.1))
+-- clients that look know no more than the serial list
+known-looked : (known : ℕ → ℕ) (clients : List ℕ) (log : Log) → ((client : ℕ) → known client ≤ length log)
+    → (client : ℕ) → with_all_known known clients log client ≤ length log
+known-looked known [] log within = within
+known-looked known (client ∷ clients) log within =
+    known-looked (with_known known client log) clients log (known-more known client log within)
+
+in_order-looks : (lists : Lists) (clients : List ℕ) (whole : Whole) → IsInOrder lists whole
+    → IsInOrder lists (with_looks clients whole)
+in_order-looks lists clients whole order = record {
+  load = order.load;
+  count = order.count;
+  each = order.each;
+  serial = order.serial;
+  known = known-looked whole.known clients whole.log order.known;
+}
+
+in_order-ends : (lists : Lists) (amid : LooksAmid) (numbers : List ℕ) (old new : Whole) → IsInOrder lists old
+    → EndsIn amid numbers old new → IsInOrder lists new × (length old.log ≤ length new.log)
+in_order-ends lists amid [] old new order same =
+    let long : length new.log ≡ length old.log = ap (λ (w : Whole). length w.log) same in (
+      subst (λ (w : Whole). IsInOrder lists w) (sym same) (in_order-looks lists amid.before_commit old order),
+      omega (arith, long),
+    )
+in_order-ends lists amid (number ∷ numbers) old new order ends =
+    let first = in_order-end lists (with_looks (amid.before_end number) old)
+    (in_order-looks lists (amid.before_end number) old order) number ends.0 ends.1 in
+    let later = in_order-ends lists amid numbers ends.0 new first.0 ends.2 in
+    let long : length old.log ≤ length ends.0.log = first.1 in
+    (later.0, omega (arith, long, later.1))
 
 -- ---- a command over several warehouses
 
@@ -264,16 +286,17 @@ module _ (lists : Lists) (old : Whole) (order : IsInOrder lists old) (client sta
   }
 
 module _ (lists : Lists) (old : Whole) (order : IsInOrder lists old) where
-  in_order-crosses : (client : ℕ) (command : Command) (new : Whole) → DoesCross client command old new
-      → IsInOrder lists new
-  in_order-crosses client command new does =
-      let ended = in_order-ends lists _ old does.ended order does.ends in
-      elim does.does [
+  in_order-crosses : (client : ℕ) (command : Command) (amid : LooksAmid) (new : Whole)
+      → DoesCross client command amid old new → IsInOrder lists new
+  in_order-crosses client command amid new does =
+      let ended = in_order-ends lists amid _ old does.ended order does.ends in
+      let done : IsInOrder lists does.done = elim does.does [
         | inl refused ↦ subst (λ (w : Whole). IsInOrder lists w) (sym refused) ended.0
         | inr accepts ↦ subst (λ (w : Whole). IsInOrder lists w) (sym accepts.1)
             (in_order-entered lists does.ended ended.0 client (old.known client) command does.several accepts.0
             (omega (arith, order.known client, ended.1)))
-      ]
+      ] in
+      subst (λ (w : Whole). IsInOrder lists w) (sym does.looked) (in_order-looks lists amid.behind does.done done)
 
   -- ---- snapshots of all warehouses, drains and looks
 
@@ -344,7 +367,7 @@ module _ (lists : Lists) (old : Whole) (order : IsInOrder lists old) where
 
   in_order-event : (event : EventOfAll) (new : Whole) → DoesAll event old new → IsInOrder lists new
   in_order-event (at number event) new does = in_order-at lists old order number event new does.0 does.1
-  in_order-event (crosses client command) new does = in_order-crosses client command new does
+  in_order-event (crosses client command amid) new does = in_order-crosses client command amid new does
   in_order-event (forks_all client children) new does = subst (λ (w : Whole). IsInOrder lists w) (sym does.1)
       (in_order-changed (with_snapshot old children) (with_known old.known client old.log)
       (known-more old.known client old.log order.known) (place-snapshot children))

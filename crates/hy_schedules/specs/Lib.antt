@@ -1,4 +1,5 @@
 pub mod Schedules
 pub mod WorkedSchedules
 pub mod Clients
+pub mod Looking
 pub mod WorkedClients

@@ -103,12 +103,22 @@ rested_whole lists log known =
 
 -- ---- events
 
--- what happens in the warehouse with a number; a client's command over several warehouses, by the second edition; a client
--- takes a snapshot of all warehouses, under a number in each; what those under such numbers see is opened under others;
--- those under such numbers are closed; what was kept is drained; a client looks
+-- the clients that look, one after another, while a command over several warehouses is done: before what runs in the
+-- warehouse with a number ends, if the command names that; once all that has ended; and behind the command's own commit
+pub record LooksAmid : Type 0 where
+  pub before_end : ℕ → List ℕ
+  pub before_commit : List ℕ
+  pub behind : List ℕ
+
+abbrev pub no_looks : LooksAmid
+no_looks = record { before_end = λ number. []; before_commit = []; behind = [] }
+
+-- what happens in the warehouse with a number; a client's command over several warehouses, by the second edition, while
+-- clients look; a client takes a snapshot of all warehouses, under a number in each; what those under such numbers see is
+-- opened under others; those under such numbers are closed; what was kept is drained; a client looks
 pub data EventOfAll : Type 0 where
   at : ℕ → Event → EventOfAll
-  crosses : ℕ → Command → EventOfAll
+  crosses : ℕ → Command → LooksAmid → EventOfAll
   forks_all : ℕ → (ℕ → ℕ) → EventOfAll
   forks_all_from : (ℕ → ℕ) → (ℕ → ℕ) → EventOfAll
   closes_all : (ℕ → ℕ) → EventOfAll
@@ -139,10 +149,19 @@ Ends old new = MatchOption old.running (new ≡ old) (λ job.
     ((refusal_of old.load.items old.warehouse job.command (one.rows_of old) ≡ None) × (new ≡ with_accepted old job))
     ⊎ (new ≡ with_refused old))
 
--- the same in some warehouses, one after the other
-abbrev pub EndsIn : List ℕ → Whole → Whole → Type 0
-EndsIn [] old new = new ≡ old
-EndsIn (number ∷ numbers) old new = (mid : Whole) × ChangesPlace Ends number old mid × EndsIn numbers mid new
+-- some clients look at a serial list, one after another: each of them knows all of it then
+abbrev pub with_all_known : (ℕ → ℕ) → List ℕ → Log → ℕ → ℕ
+with_all_known known [] log = known
+with_all_known known (client ∷ clients) log = with_all_known (with_known known client log) clients log
+
+abbrev pub with_looks : List ℕ → Whole → Whole
+with_looks clients whole = record whole { known = with_all_known whole.known clients whole.log }
+
+-- what runs in some warehouses ends, one after the other, and clients look before each end and behind the last one
+abbrev pub EndsIn : LooksAmid → List ℕ → Whole → Whole → Type 0
+EndsIn amid [] old new = new ≡ with_looks amid.before_commit old
+EndsIn amid (number ∷ numbers) old new =
+    (mid : Whole) × ChangesPlace Ends number (with_looks (amid.before_end number) old) mid × EndsIn amid numbers mid new
 
 -- the warehouses that are there and that a command names, in rising order
 abbrev pub named_in : Whole → Command → List ℕ
@@ -168,14 +187,17 @@ abbrev pub entry_behind : Whole → Command → ℕ → Entry Commit
 entry_behind whole command stamp =
     crossing_entry editions.Second (kept_in (database_behind whole.load whole.log) command) stamp whole.log
 
--- what runs in the warehouses that a command names ends; then the command is refused, or it is accepted and enters
-pub record DoesCross (client : ℕ) (command : Command) (old new : Whole) : Type 0 where
+-- what runs in the warehouses that a command names ends; then the command is refused, or it is accepted and enters; clients
+-- look before each of these commits, and behind them
+pub record DoesCross (client : ℕ) (command : Command) (amid : LooksAmid) (old new : Whole) : Type 0 where
   pub several : nat_lt 1 (length (warehouses_of command)) ≡ true
   pub ended : Whole
-  pub ends : EndsIn (named_in old command) old ended
-  pub does : (new ≡ ended)
+  pub ends : EndsIn amid (named_in old command) old ended
+  pub done : Whole
+  pub does : (done ≡ ended)
       ⊎ ((refusal_behind ended command ≡ None)
-      × (new ≡ with_entry ended client (entry_behind ended command (old.known client))))
+      × (done ≡ with_entry ended client (entry_behind ended command (old.known client))))
+  pub looked : new ≡ with_looks amid.behind done
 
 -- a snapshot of a warehouse as it is now, under the number that it has there
 abbrev pub with_snapshot : Whole → (ℕ → ℕ) → ℕ → Place → Place
@@ -204,7 +226,7 @@ with_drained number place = record place { drained = length place.kept }
 -- what an event does
 abbrev pub DoesAll : EventOfAll → Whole → Whole → Type 0
 DoesAll (at number event) old new = DoesAt number event old new
-DoesAll (crosses client command) old new = DoesCross client command old new
+DoesAll (crosses client command amid) old new = DoesCross client command amid old new
 DoesAll (forks_all client children) old new =
     ((number : ℕ) → IfSome (place_at old.places number) (λ place. place.open_at (children number) ≡ None))
     × (new ≡ record (with_places (with_snapshot old children) old) { known = with_known old.known client old.log })

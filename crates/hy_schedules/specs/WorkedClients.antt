@@ -1,8 +1,8 @@
 -- The schedule of WorkedSchedules with the passes of its clients 5, 6 and 7: where each lies, what it has seen, and what
 -- the model knows of that. And passes that the model doesn't know.
-use Rattle.std.specs.Prelude.{◌≡◌, ◌≤◌, ℕ, negsuc, ◌+◌, ◌==◌, Bool, true, false, Option, Some, None, List, [], ◌∷◌, ◌++◌, refl}
+use Rattle.std.specs.Prelude.{◌≡◌, ◌≤◌, ℕ, negsuc, ◌+◌, ◌==◌, Bool, true, false, Option, Some, None, List, [], ◌∷◌, ◌++◌, length, refl}
 use Rattle.std.specs.List.{AllByRecursion}
-use Rattle.std.proofs.Common.{arith, cond}
+use Rattle.std.proofs.Common.{◌∙◌, ap, arith, cond}
 use Rattle.std.proofs.lemmas.Bool.{eqb-true}
 use Rattle.std.proofs.lemmas.List.Elements.{All-from_recursion}
 use Rattle.hy_passes.specs.Worlds.{PassState}
@@ -15,8 +15,9 @@ use Rattle.hy_forks.specs.of_partition.Jobs.{DoneState, Log, RunningJob, accepte
 use Rattle.hy_forks.specs.of_partition.Partition.{PartitionState}
 use Rattle.hy_forks.specs.of_partition.Schedules.{underway, with_accepted}
 use Rattle.hy_schedules.specs.Clients.{AreApart, IsTold, KnowsClients, passes_in}
+use Rattle.hy_schedules.specs.Looking.{LookInTurn, LooksOnce, looked}
 use Rattle.hy_schedules.specs.Schedules.{world_at}
-use Rattle.hy_schedules.specs.WorkedSchedules.{bought, drained, forked, last, lists, paid, pay, paying, place_in, start}
+use Rattle.hy_schedules.specs.WorkedSchedules.{bought, bought_amid, drained, forked, last, lists, paid, pay, paying, place_in, start}
 
 -- a client's pass that has seen a list
 abbrev pass : ℕ → Log → PassState Commit
@@ -129,6 +130,55 @@ known_at_last = record {
       (λ is. eqb-true 7 client is);
 }
 
+-- ---- looks within a command over several warehouses
+
+-- before the purchase enters client 9 looks twice: its pass has seen the payment, and two looks more
+looks_twice : LookInTurn (9 ∷ 9 ∷ []) paid.log (pass 8 [] ∷ pass 9 [] ∷ [])
+    (pass 8 [] ∷ record (pass 9 paid.log) { looks = 2 } ∷ [])
+looks_twice = (
+  pass 8 [] ∷ record (pass 9 paid.log) { looks = 1 } ∷ [],
+  record { front = pass 8 [] ∷ []; pass = pass 9 []; rest = []; held_are = refl; client_is = refl; now_are = refl },
+  (
+    pass 8 [] ∷ record (pass 9 paid.log) { looks = 2 } ∷ [],
+    record {
+      front = pass 8 [] ∷ [];
+      pass = record (pass 9 paid.log) { looks = 1 };
+      rest = [];
+      held_are = refl;
+      client_is = refl;
+      now_are = refl;
+    },
+    refl,
+  ),
+)
+
+-- of that pass, of those of clients 7 and 8 and of the other two the model knows what they have seen
+told_amid : AreTold bought_amid.known
+    (passes_in waiting ++ told (pass 6 []) bought.log ∷ looked (pass 7 []) bought.log ∷ looked (pass 8 []) []
+    ∷ record (pass 9 paid.log) { looks = 2 } ∷ [])
+told_amid = (refl, (refl, (refl, (refl, (refl, tt)))))
+
+-- each look adds one to the number of looks
+abbrev looks_in : List (PassState Commit) → ℕ
+looks_in [] = 0
+looks_in (pass ∷ passes) = pass.looks + looks_in passes
+
+looks_in_both : (front behind : List (PassState Commit)) → looks_in (front ++ behind) ≡ looks_in front + looks_in behind
+looks_in_both [] behind = let same : looks_in behind ≡ 0 + looks_in behind = omega arith in same
+looks_in_both (pass ∷ front) behind =
+    let same : pass.looks + (looks_in front + looks_in behind) ≡ (pass.looks + looks_in front) + looks_in behind =
+    omega arith in
+    ap (λ (n : ℕ). pass.looks + n) (looks_in_both front behind) ∙ same
+
+counts_one : (client : ℕ) (log : Log) (held now : List (PassState Commit)) → LooksOnce client log held now
+    → looks_in now ≡ looks_in held + 1
+counts_one client log held now once =
+    let before : looks_in held ≡ looks_in once.front + (once.pass.looks + looks_in once.rest) =
+    ap looks_in once.held_are ∙ looks_in_both once.front (once.pass ∷ once.rest) in
+    let after : looks_in now ≡ looks_in once.front + ((once.pass.looks + 1) + looks_in once.rest) =
+    ap looks_in once.now_are ∙ looks_in_both once.front (looked once.pass log ∷ once.rest) in
+    omega (arith, before, after)
+
 -- a command that only reads tells its client too, though it enters nothing
 abbrev level : RunningJob
 level = record {
@@ -156,3 +206,38 @@ not_untold knows = let same : 1 ≡ 2 = knows.told 0 (pass 5 []) (omega arith) i
 -- nor one that has forgotten
 not_forgotten : KnowsClients bought.known (pass 6 [] ∷ []) → ⊥
 not_forgotten knows = let same : 2 ≡ 0 = knows.told 0 (pass 5 []) (omega arith) in absurd (omega (arith, same))
+
+-- a look that isn't counted
+not_uncounted : LooksOnce 9 paid.log (pass 9 [] ∷ []) (pass 9 paid.log ∷ []) → ⊥
+not_uncounted once = let one : 0 ≡ 1 = counts_one 9 paid.log _ _ once in absurd (omega (arith, one))
+
+-- one that doesn't see what is there, or that sees what isn't there yet
+sees_all : (log seen : Log) (count : ℕ)
+    → LooksOnce 9 log (pass 9 [] ∷ []) (record (pass 9 seen) { looks = count } ∷ []) → length seen ≡ length log
+sees_all log seen count once = by once.front once.held_are once.now_are
+  where
+    by : (front : List (PassState Commit)) → pass 9 [] ∷ [] ≡ front ++ once.pass ∷ once.rest
+        → record (pass 9 seen) { looks = count } ∷ [] ≡ front ++ looked once.pass log ∷ once.rest
+        → length seen ≡ length log
+    by [] held now = ap lengths now
+      where
+        lengths : List (PassState Commit) → ℕ
+        lengths [] = 0
+        lengths (one ∷ others) = length one.seen
+    by (first ∷ front) held now =
+        absurd (never front (ap rest_of held))
+      where
+        rest_of : List (PassState Commit) → List (PassState Commit)
+        rest_of [] = []
+        rest_of (one ∷ others) = others
+
+        never : (front : List (PassState Commit)) → [] ≡ front ++ once.pass ∷ once.rest → ⊥
+        never [] none = absurd (cc)
+        never (one ∷ others) none =
+            let no_more : [] ≡ one ∷ (others ++ once.pass ∷ once.rest) = none in absurd (cc)
+
+not_blind : (count : ℕ) → LooksOnce 9 paid.log (pass 9 [] ∷ []) (record (pass 9 []) { looks = count } ∷ []) → ⊥
+not_blind count once = let same : 0 ≡ 1 = sees_all paid.log [] count once in absurd (omega (arith, same))
+
+not_early : (count : ℕ) → LooksOnce 9 paid.log (pass 9 [] ∷ []) (record (pass 9 bought.log) { looks = count } ∷ []) → ⊥
+not_early count once = let same : 2 ≡ 1 = sees_all paid.log bought.log count once in absurd (omega (arith, same))

@@ -1,7 +1,7 @@
 -- A schedule on two small warehouses: a purchase over both ends a payment that was half done in one of them; a snapshot
 -- of both is taken, what is kept is drained, another purchase is refused, a client looks, and the snapshot is closed.
--- And events that don't happen.
-use Rattle.std.specs.Prelude.{◌≡◌, ◌⊎◌, ℕ, zero, suc, pos, ◌+◌, Bool, true, false, Option, Some, None, List, [], ◌∷◌, IfSome, IsSome, fold, is_some, length, map, slice_get, slice_set, take, refl}
+-- The purchase again while other clients look, and events that don't happen.
+use Rattle.std.specs.Prelude.{◌≡◌, ◌⊎◌, ℕ, zero, suc, pos, ◌+◌, ◌==◌, if◌then◌else◌, Bool, true, false, Option, Some, None, List, [], ◌∷◌, IfSome, IsSome, fold, is_some, length, map, slice_get, slice_set, take, refl}
 use Rattle.std.proofs.Common.{inl, inr, ap, sym, ◌∙◌, subst, arith}
 use Rattle.std.proofs.lemmas.Option.{MatchOption-at_none, same_Some}
 use Rattle.std.specs.Option.{option_map, unwrap_or}
@@ -23,7 +23,7 @@ use Rattle.hy_commands.specs.Commands.{number_of}
 use Rattle.hy_commands.specs.WorkedSample.{customers, district, each, items, stock, up_to, warehouse}
 use Rattle.hy_forks.specs.of_partition.Schedules as one
 use Rattle.hy_forks.specs.of_partition.Schedules.{Taken, Underway, World, begins, steps, takes, with_accepted, with_known}
-use Rattle.hy_schedules.specs.Schedules.{ChangesPlace, DoesAll, Ends, EventOfAll, Place, RunsAll, Whole, at, closes_all, crosses, drains, entry_behind, forks_all, forks_all_from, fresh_place, fresh_whole, kept_at, looks, place_at, refusal_behind, rested_whole, with_drained, with_entry, with_place, with_places, with_snapshot, with_snapshot_from, without_snapshot, world_at}
+use Rattle.hy_schedules.specs.Schedules.{ChangesPlace, DoesAll, Ends, EventOfAll, LooksAmid, Place, RunsAll, Whole, at, closes_all, crosses, drains, entry_behind, forks_all, forks_all_from, fresh_place, fresh_whole, kept_at, looks, no_looks, place_at, refusal_behind, rested_whole, with_drained, with_entry, with_looks, with_place, with_places, with_snapshot, with_snapshot_from, without_snapshot, world_at}
 
 -- ---- two warehouses with a district each, where a load has ten
 
@@ -116,7 +116,7 @@ last = with_places (without_snapshot children) looked
 
 abbrev events : List EventOfAll
 events =
-    at 1 (begins 5 pay) ∷ at 1 steps ∷ crosses 6 order ∷ forks_all 7 children ∷ drains ∷ crosses 6 missing ∷ looks 5
+    at 1 (begins 5 pay) ∷ at 1 steps ∷ crosses 6 order no_looks ∷ forks_all 7 children ∷ drains ∷ crosses 6 missing no_looks ∷ looks 5
     ∷ closes_all children ∷ []
 
 -- ---- each event happens
@@ -148,12 +148,14 @@ half_done = (
 )
 
 -- the payment, of which a slice was left, is accepted before the purchase is
-crossed : DoesAll (crosses 6 order) (paying 1) bought
+crossed : DoesAll (crosses 6 order no_looks) (paying 1) bought
 crossed = record {
   several = refl;
   ended = paid;
   ends = (paid, first, (paid, second, refl));
+  done = bought;
   does = inr (refl, refl);
+  looked = refl;
 }
   where
     first : ChangesPlace Ends 1 (paying 1) paid
@@ -176,6 +178,66 @@ crossed = record {
       places = refl;
     }
 
+-- so it is where others look meanwhile: client 8 before the payment ends, client 9 twice between that and the purchase, and
+-- client 7 behind it
+abbrev pub looks_amid : LooksAmid
+looks_amid = record {
+  before_end = λ number. if number == 1 then 8 ∷ [] else 9 ∷ [];
+  before_commit = 9 ∷ [];
+  behind = 7 ∷ [];
+}
+
+abbrev paid_amid : Whole
+paid_amid = record paid { known = with_known (with_known start.known 8 []) 5 paid.log }
+
+abbrev looked_between : Whole
+looked_between = with_looks (9 ∷ 9 ∷ []) paid_amid
+
+abbrev bought_between : Whole
+bought_between = with_entry looked_between 6 (entry_behind looked_between order 0)
+
+abbrev pub bought_amid : Whole
+bought_amid = with_looks (7 ∷ []) bought_between
+
+crossed_amid : DoesAll (crosses 6 order looks_amid) (paying 1) bought_amid
+crossed_amid = record {
+  several = refl;
+  ended = looked_between;
+  ends = (paid_amid, first, (with_looks (9 ∷ []) paid_amid, second, refl));
+  done = bought_between;
+  does = inr (refl, refl);
+  looked = refl;
+}
+  where
+    first : ChangesPlace Ends 1 (with_looks (8 ∷ []) (paying 1)) paid_amid
+    first = record {
+      before = record fresh_place { running = Some (job 1) };
+      after = record fresh_place { kept = commits.Local editions.Second pay ∷ []; waits = true };
+      there = refl;
+      change = inl (refl, refl);
+      drained = refl;
+      places = refl;
+    }
+
+    second : ChangesPlace Ends 2 (with_looks (9 ∷ []) paid_amid) (with_looks (9 ∷ []) paid_amid)
+    second = record {
+      before = fresh_place;
+      after = fresh_place;
+      there = refl;
+      change = refl;
+      drained = refl;
+      places = refl;
+    }
+
+-- client 9 knows the payment, and not the purchase; client 8 knows nothing, and client 7 both. All else is as where nobody
+-- looks
+known_amid : (bought_amid.known 9 ≡ 1) × (bought_amid.known 8 ≡ 0) × (bought_amid.known 7 ≡ 2)
+    × (bought_amid.known 6 ≡ 2) × (bought_amid.known 5 ≡ 1)
+known_amid = (refl, refl, refl, refl, refl)
+
+same_amid : record bought_amid { known = bought.known } ≡ bought
+same_amid = refl
+
 taken : DoesAll (forks_all 7 children) bought forked
 taken = (free, refl)
   where
@@ -186,12 +248,14 @@ taken = (free, refl)
     free (suc (suc (suc number))) = tt
 
 -- nothing runs, and nothing enters
-refused : DoesAll (crosses 6 missing) drained drained
+refused : DoesAll (crosses 6 missing no_looks) drained drained
 refused = record {
   several = refl;
   ended = drained;
   ends = (drained, stays_1, (drained, stays_2, refl));
+  done = drained;
   does = inl refl;
+  looked = refl;
 }
   where
     stays_1 : ChangesPlace Ends 1 drained drained
@@ -226,7 +290,7 @@ closed = (are_open, refl)
 runs : RunsAll events start last
 runs = (paying 0, inr begun, (paying 1, inr half_done, (bought, inr crossed, (forked, inr taken, afterwards))))
   where
-    afterwards : RunsAll (drains ∷ crosses 6 missing ∷ looks 5 ∷ closes_all children ∷ []) forked last
+    afterwards : RunsAll (drains ∷ crosses 6 missing no_looks ∷ looks 5 ∷ closes_all children ∷ []) forked last
     afterwards = (drained, inr refl, (drained, inr refused, (looked, inr refl, (last, inr closed, refl))))
 
 -- ---- what is seen
@@ -338,7 +402,7 @@ not_local : (new : Whole) → DoesAll (at 1 (one.looks 5)) paid new → ⊥
 not_local new does = let here = does.0 in absurd (cc)
 
 -- a command that names one warehouse isn't one over several
-not_several : (new : Whole) → DoesAll (crosses 5 pay) start new → ⊥
+not_several : (new : Whole) → DoesAll (crosses 5 pay no_looks) start new → ⊥
 not_several new does = let several = does.several in absurd (cc)
 
 -- a drain of one warehouse alone
@@ -400,48 +464,82 @@ idle_stays number old new place there idle changes =
     replaced zero places there = refl
     replaced (suc before) places there = set_same places before there
 
--- so a purchase that begins there enters behind the serial list of that moment
-entered_only : (new : Whole) → DoesAll (crosses 6 order) paid new
-    → (new ≡ paid) ⊎ (new ≡ with_entry paid 6 (entry_behind paid order 0))
-entered_only new does = elim does.does [
-  | inl refused ↦ inl (refused ∙ ended)
-  | inr accepts ↦ inr (accepts.1 ∙ ap (λ (w : Whole). with_entry w 6 (entry_behind w order 0)) ended)
+-- so a purchase that begins there enters behind the serial list of that moment, whoever looks meanwhile
+abbrev seen_amid : LooksAmid → Whole
+seen_amid amid =
+    with_looks amid.before_commit (with_looks (amid.before_end 2) (with_looks (amid.before_end 1) paid))
+
+entered_only : (amid : LooksAmid) (new : Whole) → DoesAll (crosses 6 order amid) paid new
+    → (new ≡ with_looks amid.behind (seen_amid amid))
+    ⊎ (new ≡ with_looks amid.behind (with_entry (seen_amid amid) 6 (entry_behind (seen_amid amid) order 0)))
+entered_only amid new does = elim does.does [
+  | inl refused ↦ inl (does.looked ∙ ap (λ (w : Whole). with_looks amid.behind w) (refused ∙ ended))
+  | inr accepts ↦
+      inr (does.looked ∙ ap (λ (w : Whole). with_looks amid.behind w) (accepts.1
+      ∙ ap (λ (w : Whole). with_entry w 6 (entry_behind w order 0)) ended))
 ]
   where
-    first : does.ends.0 ≡ paid
-    first = idle_stays 1 paid does.ends.0 (place_in paid 1) refl refl does.ends.1
+    first : does.ends.0 ≡ with_looks (amid.before_end 1) paid
+    first =
+        idle_stays 1 (with_looks (amid.before_end 1) paid) does.ends.0 (place_in paid 1) refl refl does.ends.1
 
-    ended : does.ended ≡ paid
-    ended =
-        does.ends.2.2
-        ∙ idle_stays 2 does.ends.0 does.ends.2.0 (place_in paid 2)
+    second : does.ends.2.0 ≡ with_looks (amid.before_end 2) (with_looks (amid.before_end 1) paid)
+    second =
+        idle_stays 2 (with_looks (amid.before_end 2) does.ends.0) does.ends.2.0 (place_in paid 2)
         (ap (λ (w : Whole). place_at w.places 2) first) refl does.ends.2.1
-        ∙ first
+        ∙ ap (λ (w : Whole). with_looks (amid.before_end 2) w) first
+
+    ended : does.ended ≡ seen_amid amid
+    ended = does.ends.2.2 ∙ ap (λ (w : Whole). with_looks amid.before_commit w) second
+
+-- a look before the purchase enters that knows it already, and one that has forgotten the payment
+abbrev look_late : LooksAmid
+look_late = record no_looks { before_commit = 9 ∷ [] }
+
+known_late : (new : Whole) → DoesAll (crosses 6 order look_late) paid new → new.known 9 ≡ 1
+known_late new does = elim (entered_only look_late new does) [
+  | inl same ↦ ap (λ (w : Whole). w.known 9) same
+  | inr same ↦ ap (λ (w : Whole). w.known 9) same
+]
+
+not_ahead : (new : Whole) → DoesAll (crosses 6 order look_late) paid new → new.known 9 ≡ 2 → ⊥
+not_ahead new does ahead = absurd (omega (arith, known_late new does, ahead))
+
+not_forgotten : (new : Whole) → DoesAll (crosses 6 order look_late) paid new → new.known 9 ≡ 0 → ⊥
+not_forgotten new does behind = absurd (omega (arith, known_late new does, behind))
+
+-- and one behind it that doesn't know it: all know what was there before
+look_behind : (new : Whole) → DoesAll (crosses 6 order (record no_looks { behind = 9 ∷ [] })) paid new
+    → new.known 9 ≡ length new.log
+look_behind new does = elim (entered_only (record no_looks { behind = 9 ∷ [] }) new does) [
+  | inl same ↦ ap (λ (w : Whole). w.known 9) same ∙ sym (ap (λ (w : Whole). length w.log) same)
+  | inr same ↦ ap (λ (w : Whole). w.known 9) same ∙ sym (ap (λ (w : Whole). length w.log) same)
+]
 
 -- a purchase that one of its warehouses doesn't keep
-not_kept : DoesAll (crosses 6 order) paid (record bought { places = place_in paid 1 ∷ place_in bought 2 ∷ [] }) → ⊥
-not_kept does = elim (entered_only _ does) [
-  | inl same ↦ let entered = ap (λ (w : Whole). length w.log) same in absurd (omega (arith, entered))
-  | inr same ↦ let kept = ap (λ (w : Whole). length (kept_at w.places 1)) same in absurd (omega (arith, kept))
+not_kept : DoesAll (crosses 6 order no_looks) paid (record bought { places = place_in paid 1 ∷ place_in bought 2 ∷ [] }) → ⊥
+not_kept does = elim (entered_only no_looks _ does) [
+  | inl same ↦ let entered : 2 ≡ 1 = ap (λ (w : Whole). length w.log) same in absurd (omega (arith, entered))
+  | inr same ↦ let kept : 1 ≡ 2 = ap (λ (w : Whole). length (kept_at w.places 1)) same in absurd (omega (arith, kept))
 ]
 
 -- one that has the number 2, where it is the first over several warehouses
-not_numbered : DoesAll (crosses 6 order) paid
+not_numbered : DoesAll (crosses 6 order no_looks) paid
     (with_entry paid 6 (record { commit = commits.Cross editions.Second 2 order; stamp = 0 })) → ⊥
-not_numbered does = elim (entered_only _ does) [
-  | inl same ↦ let entered = ap (λ (w : Whole). length w.log) same in absurd (omega (arith, entered))
-  | inr same ↦ let numbers = ap numbers_in same in absurd (omega (arith, numbers))
+not_numbered does = elim (entered_only no_looks _ does) [
+  | inl same ↦ let entered : 2 ≡ 1 = ap (λ (w : Whole). length w.log) same in absurd (omega (arith, entered))
+  | inr same ↦ let numbers : 2 ≡ 1 = ap numbers_in same in absurd (omega (arith, numbers))
 ]
   where
     numbers_in : Whole → ℕ
     numbers_in whole = fold (λ total (entry : Entry Commit). total + unwrap_or (number_of entry.commit) 0) 0 whole.log
 
 -- one before which the payment, of which a slice is left, didn't end
-not_before : DoesAll (crosses 6 order) (paying 1) (with_entry (paying 1) 6 (entry_behind (paying 1) order 0)) → ⊥
+not_before : DoesAll (crosses 6 order no_looks) (paying 1) (with_entry (paying 1) 6 (entry_behind (paying 1) order 0)) → ⊥
 not_before does = elim does.does [
-  | inl same ↦ let runs = ap runs_in same ∙ ap runs_in ended ∙ idle in absurd (cc)
+  | inl same ↦ let runs = ap runs_in (does.looked ∙ same) ∙ ap runs_in ended ∙ idle in absurd (cc)
   | inr same ↦
-      let runs = ap runs_in same.1 ∙ ap (λ (w : Whole). runs_in (with_entry w 6 (entry_behind w order 0))) ended
+      let runs = ap runs_in (does.looked ∙ same.1) ∙ ap (λ (w : Whole). runs_in (with_entry w 6 (entry_behind w order 0))) ended
       ∙ idle in
       absurd (cc)
 ]

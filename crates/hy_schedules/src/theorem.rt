@@ -22,7 +22,8 @@ ghost use Rattle.hy_forks.specs.of_crossing.Lists.{ChangesAt, Pairwise};
 ghost use Rattle.hy_forks.specs.Drains.{TellsHere};
 ghost use Rattle.hy_forks.specs.Forks.{ClosesHere, ForksAll, ForksAllFrom, IsUnforked};
 ghost use Rattle.hy_schedules.specs.Clients.{AreApart, IsWholeKnowing, KnowsClients, LeadsKnowing, passes_in};
-ghost use Rattle.hy_schedules.specs.Schedules.{DoesAll, EventOfAll, HasSnapshotOf, IsDrainedTo, IsWholeOf, KeepsEverything, LeadsAll, RunsAll, Whole, at, children_of, closes_all, crosses, drains, forks_all, forks_all_from, fresh_whole, looks, place_at, rested_whole};
+ghost use Rattle.hy_schedules.specs.Looking.{CrossesLooking, Moment};
+ghost use Rattle.hy_schedules.specs.Schedules.{DoesAll, EventOfAll, HasSnapshotOf, IsDrainedTo, IsWholeOf, KeepsEverything, LeadsAll, LooksAmid, RunsAll, Whole, at, children_of, closes_all, crosses, drains, forks_all, forks_all_from, fresh_whole, looks, no_looks, place_at, rested_whole};
 
 use hy_commands::{Command, Commit, Edition, StockLevel};
 use hy_forks::hy_partition::calls_are_events;
@@ -59,8 +60,8 @@ pub fn every_schedule_of_all()
 /// Does nothing: its contract says that the calls on the partitions of all warehouses are events of the model. What a
 /// call on one of them promises (`at`), and what `cross`, `fork_all`, `close_all` and `drain` promise of all of them,
 /// leads from partitions with their whole to partitions with the whole after the event. A command over several
-/// warehouses is one event, whether it is accepted or refused. Jobs are of the second edition, as they have to be where no
-/// log is replayed. Forks that are refused, and partitions that are told the
+/// warehouses is one event, whether it is accepted or refused, and whatever looks of clients fell within it. Jobs are of the
+/// second edition, as they have to be where no log is replayed. Forks that are refused, and partitions that are told the
 /// serial list, leave the whole; a look of a client leaves the partitions.
 pub fn calls_of_all_are_events()
     ensures new { (n : ℕ) (lists : Lists) (frames commits : ℕ) (parts : List PartitionState)
@@ -94,12 +95,12 @@ pub fn calls_of_all_are_events()
     ensures close { (n place : ℕ) (log : Log) (parts news : List PartitionState) (whole : Whole) (child : ℕ)
         → IsWholeOf n log parts whole → place < length parts → ChangesAt (λ p q. Closes p q child) place parts news
         → LeadsAll n (at (suc place) (closes child)) whole log news }
-    ensures cross { (n : ℕ) (lists : Lists) (job : JobState) (log after : Log) (parts news : List PartitionState)
-        (answer : DoneState) (whole : Whole) → IsWholeOf n log parts whole → IsLoad lists → ArePartitions lists parts
-        → nat_lt 1 (length (warehouses_of job.command)) ≡ true
+    ensures cross { (n : ℕ) (lists : Lists) (job : JobState) (amid : LooksAmid) (log after : Log)
+        (parts news : List PartitionState) (answer : DoneState) (whole : Whole) → IsWholeOf n log parts whole
+        → IsLoad lists → ArePartitions lists parts → nat_lt 1 (length (warehouses_of job.command)) ≡ true
         → whole.known job.pass.client ≡ length job.pass.seen → job.edition ≡ editions.Second
         → Crosses lists job log after parts news answer
-        → LeadsAll n (crosses job.pass.client job.command) whole after news }
+        → LeadsAll n (crosses job.pass.client job.command amid) whole after news }
     ensures fork_all { (n : ℕ) (kit : Origin) (log known : Log) (client : ℕ) (parts news : List PartitionState)
         (whole : Whole) (snapshots : List SnapshotState) → IsWholeOf n log parts whole
         → ForksAll n kit log known parts news snapshots
@@ -127,8 +128,9 @@ pub fn calls_of_all_are_events()
 /// its pass has seen (`KnowsClients`). So it is with the passes of a kit beside new partitions, and so it can be beside
 /// those of a database at rest. A client hands its pass in with a job, and has the one that the answer gives back: told the
 /// whole serial list where the job was accepted, though it may only read, and as it was where it was refused. A fork tells
-/// its client, and so does a look at the whole list; a fork of all that was refused behind telling it is such a look. In
-/// which order passes are held doesn't matter, and one that is thrown away isn't missed.
+/// its client, and so does a look at the whole list; a fork of all that was refused behind telling it is such a look. Clients
+/// that look by passes in their hands while a command over several warehouses is done have seen what the serial list had by
+/// then, and one look more. In which order passes are held doesn't matter, and one that is thrown away isn't missed.
 pub fn calls_of_all_tell_clients()
     ensures new { (n : ℕ) (lists : Lists) (frames commits clients : ℕ) (parts : List PartitionState)
         → length parts ≡ length lists.tables.warehouses
@@ -182,7 +184,13 @@ pub fn calls_of_all_tell_clients()
         → IsLoad lists → ArePartitions lists parts → nat_lt 1 (length (warehouses_of job.command)) ≡ true
         → KnowsClients whole.known (passes_in parts ++ job.pass ∷ held) → job.edition ≡ editions.Second
         → Crosses lists job log after parts news answer
-        → LeadsKnowing n (crosses job.pass.client job.command) whole after news (answer.pass ∷ held) }
+        → LeadsKnowing n (crosses job.pass.client job.command no_looks) whole after news (answer.pass ∷ held) }
+    ensures cross_looking { (n : ℕ) (lists : Lists) (job : JobState) (amid : LooksAmid) (before after : Moment)
+        (parts news : List PartitionState) (answer : DoneState) (whole : Whole) → IsWholeOf n before.log parts whole
+        → IsLoad lists → ArePartitions lists parts → nat_lt 1 (length (warehouses_of job.command)) ≡ true
+        → KnowsClients whole.known (passes_in parts ++ job.pass ∷ before.held) → job.edition ≡ editions.Second
+        → CrossesLooking lists job amid before after parts news answer
+        → LeadsKnowing n (crosses job.pass.client job.command amid) whole after.log news (answer.pass ∷ after.held) }
     ensures fork_all { (n : ℕ) (kit : Origin) (log known : Log) (pass : PassState Commit)
         (parts news : List PartitionState) (held : List (PassState Commit)) (whole : Whole)
         (snapshots : List SnapshotState) → IsWholeOf n log parts whole

@@ -56,8 +56,8 @@ returns-clause-close c = λ n place log parts news whole child is within changes
     child world changes.4)
 
 pub returns-clause-cross : goal.returns-clause-cross
-returns-clause-cross c = λ n lists job log after parts news answer whole is is_load are several known new does.
-    leads-cross n lists job log after parts news answer whole is is_load are several known new does
+returns-clause-cross c = λ n lists job amid log after parts news answer whole is is_load are several known new does.
+    leads-cross n lists job amid parts news answer whole is_load are several known new log after is does
 
 pub returns-clause-fork_all : goal.returns-clause-fork_all
 returns-clause-fork_all c = λ n kit log known client parts news whole snapshots is forked.

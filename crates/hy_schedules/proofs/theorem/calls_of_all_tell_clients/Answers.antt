@@ -4,9 +4,9 @@ use Rattle.std.specs.Prelude.{is_some}
 use Rattle.hy_forks.specs.of_partition.Jobs.{told}
 use Rattle.hy_forks.specs.of_partition.Schedules.{World, begins, closes, forks, forks_from, takes, with_known}
 use Rattle.hy_schedules.specs.Clients.{passes_in}
-use Rattle.hy_schedules.specs.Schedules.{Whole, at, children_of, closes_all, drains, forks_all, forks_all_from, looks}
-use Rattle.hy_schedules.proofs.ClientLaws.{knows-fewer, knows-kit, knows-permuted, knows-still, knows-told, moves-held, some-known, told-of}
-use Rattle.hy_schedules.proofs.CrossLaws.{moves-cross}
+use Rattle.hy_schedules.specs.Schedules.{Whole, at, children_of, closes_all, drains, forks_all, forks_all_from, looks, no_looks}
+use Rattle.hy_schedules.proofs.ClientLaws.{knows-fewer, knows-kit, knows-permuted, knows-still, knows-told, some-known, told-of}
+use Rattle.hy_schedules.proofs.CrossLaws.{crosses-alone, knows-cross}
 use Rattle.hy_schedules.proofs.TellingLaws.{knows-begun, knows-fresh, knows-rested, knows-step, knows-taken, leads-knowing, passes-changed, passes-closed, passes-forked, passes-forked_from, passes-told, passes-unforked}
 use Rattle.hy_schedules.proofs.theorem.calls_of_all_tell_clients.Goals as goal
 
@@ -84,13 +84,15 @@ returns-clause-close c = λ n place log parts news held whole child is within kn
 
 pub returns-clause-cross : goal.returns-clause-cross
 returns-clause-cross c = λ n lists job log after parts news held answer whole is is_load are several knows new does.
-    let led = moves-cross n lists job log after parts news answer whole is is_load are several
-    (told-of whole.known (passes_in parts) job.pass held knows) new does in (
-      led.0,
-      led.1,
-      led.2,
-      moves-held whole.known led.0.known (passes_in parts) (passes_in news) job.pass answer.pass held led.3 knows,
-    )
+    knows-cross n lists job no_looks parts news answer whole is_load are several
+    (told-of whole.known (passes_in parts) job.pass held knows) new (record { log = log; held = held })
+    (record { log = after; held = held }) is knows (crosses-alone lists job log after held parts news answer does)
+
+pub returns-clause-cross_looking : goal.returns-clause-cross_looking
+returns-clause-cross_looking c = λ n lists job amid before after parts news answer whole is is_load are several knows
+    new does.
+    knows-cross n lists job amid parts news answer whole is_load are several
+    (told-of whole.known (passes_in parts) job.pass before.held knows) new before after is knows does
 
 pub returns-clause-fork_all : goal.returns-clause-fork_all
 returns-clause-fork_all c = λ n kit log known pass parts news held whole snapshots is knows forked.
