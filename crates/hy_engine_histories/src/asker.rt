@@ -133,7 +133,7 @@ impl Asker {
             },
             customer_district: self.district(),
             who: self.who(alloc)?,
-            amount: 99u64.saturating_add(self.chance.up_to(RARE)),
+            amount: 98u64.saturating_add(self.chance.up_to(RARE)),
             at,
         }))
     }
