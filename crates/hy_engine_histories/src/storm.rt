@@ -72,10 +72,23 @@ pub fn run_storm<O: Output, R: Threads + Wait + Sync>(
     requires terminals { (1 ≤ size.terminals) × (size.terminals ≤ 8) }
 {
     let load = generate(alloc, size.warehouses, CUSTOMERS, ITEMS)?;
+    run_over(rt, alloc, &load, size, out)
+}
+
+/// The same over this load.
+fn run_over<O: Output, R: Threads + Wait + Sync>(
+    rt: &R,
+    alloc: Global,
+    load: &Load,
+    size: Size,
+    out: &mut O,
+) -> Result<(), Refusal>
+    requires terminals { (1 ≤ size.terminals) × (size.terminals ≤ 8) }
+{
     load.sound();
     let warehouses = load.tables().warehouses.len();
     let kit = make::<Commit>(alloc, warehouses as u8, size.terminals as u32, 1)?;
-    storm_in::<Brand, O, R>(rt, alloc, &load, kit, size, out)
+    storm_in::<Brand, O, R>(rt, alloc, load, kit, size, out)
 }
 
 /// The same in the world that names the load and a kit.

@@ -1,4 +1,4 @@
-use Rattle.hy_engine_histories.proofs.storm.run_storm.Given as goal
+use Rattle.hy_engine_histories.proofs.storm.run_over.Given as goal
 
 -- the kit that was just made
 abbrev pub ghosts-storm_in-K-World : goal.ghosts-storm_in-K-World
