@@ -2,11 +2,10 @@
 
 ghost use Rattle.std.specs.Prelude.{◌≡◌, ◌≤◌, IfSome, length};
 ghost use Rattle.hy_passes.specs.Worlds.{new_partition};
-ghost use Rattle.hy_partition.specs.Partition.{terms_of};
 
 use hy_commands::{Command, Commit, Payment, Reply, Who};
 use hy_loads::Load;
-use hy_partition::{Job, Loaded, Partition};
+use hy_partition::{Done, Job, Loaded, Partition};
 use hy_passes::{Journal, Kit, PartitionSeat, Pass, make};
 use hy_rows::Warehouse;
 use hy_schema::Refusal;
@@ -96,16 +95,9 @@ fn on_pages<K: Loaded>(
     }
 }
 
-/// One payment, from its begin to its answer.
-pub(crate) fn pay<K: Loaded>(
-    partition: &mut Partition<SIZE, K>,
-    journal: &mut Journal<Commit, K>,
-    pass: Pass<Commit, K>,
-) -> Result<Pass<Commit, K>, Refusal>
-    ensures terms { terms_of partition.new ≡ terms_of partition.old }
-    ensures part { partition.new.part ≡ partition.old.part }
-{
-    let payment = Command::Payment(Payment {
+/// What is paid each time.
+pub(crate) fn payment() -> Command {
+    Command::Payment(Payment {
         warehouse: 1,
         district: 1,
         customer_warehouse: 1,
@@ -113,23 +105,26 @@ pub(crate) fn pay<K: Loaded>(
         who: Who::Number(1),
         amount: 100,
         at: 1,
-    });
-    if let Err((_job, refusal)) = partition.begin(Job::new(payment, pass)) {
+    })
+}
+
+/// One payment, from its begin to its answer.
+fn pay<K: Loaded>(
+    partition: &mut Partition<SIZE, K>,
+    journal: &mut Journal<Commit, K>,
+    pass: Pass<Commit, K>,
+) -> Result<Pass<Commit, K>, Refusal> {
+    if let Err((_job, refusal)) = partition.begin(Job::new(payment(), pass)) {
         return Err(refusal);
     }
     partition.step(journal)?;
     partition.step(journal)?;
-    client_of(partition)
+    client_of(partition.take_done())
 }
 
 /// The client whose command is done, unless it was refused.
-pub(crate) fn client_of<K: Loaded>(
-    partition: &mut Partition<SIZE, K>,
-) -> Result<Pass<Commit, K>, Refusal>
-    ensures terms { terms_of partition.new ≡ terms_of partition.old }
-    ensures part { partition.new.part ≡ partition.old.part }
-{
-    match partition.take_done().map(|done| done.open()) {
+pub(crate) fn client_of<K: Loaded>(done: Option<Done<K>>) -> Result<Pass<Commit, K>, Refusal> {
+    match done.map(|done| done.open()) {
         Some((Reply::Refused(refusal), _, _)) => Err(refusal),
         Some((_, pass, _share)) => Ok(pass),
         None => Err(Refusal::NotRunning),

@@ -1,17 +1,13 @@
 //! All partitions of a load, with one client.
 
 ghost use Rattle.std.specs.Prelude.{◌≡◌, [], IfOk, IsTrue, length};
-ghost use Rattle.std.proofs.Props.{props};
-ghost use Rattle.hy_partition.specs.Partition.{terms_of};
-ghost use Rattle.hy_crossing.specs.Crossings.{ArePartitions, HaveNoPart};
 ghost use Rattle.hy_forks.specs.Forks.{AreOfKit, are_from};
 
-use crate::payment_rounds::{SIZE, client_of, pay};
+use crate::payment_rounds::{SIZE, client_of, payment};
 use hy_commands::{Command, Commit};
-use hy_crossing::partitions_of;
-use hy_forks::{drain, fork_all};
+use hy_forks::OwnPartitions;
 use hy_loads::Load;
-use hy_partition::{Job, Loaded, Partition};
+use hy_partition::{Job, Loaded};
 use hy_passes::{Cursor, Journal, Kit, Pass};
 use hy_schema::Refusal;
 use hy_session::Session;
@@ -20,11 +16,9 @@ use std::alloc::Global;
 /// The partitions of the load, and their journal.
 #[derive(Drop)]
 pub(crate) struct Shop<K: Loaded> {
-    parts: Vec<Partition<SIZE, K>>,
+    partitions: OwnPartitions<SIZE, K>,
     journal: Journal<Commit, K>,
     cursor: Cursor<Commit, K>,
-    ghost partitions: { ArePartitions K.load parts.items } by { Prim.hlevel props },
-    ghost whole: { HaveNoPart parts.items } by { Prim.hlevel props },
 }
 
 impl<K: Loaded> Shop<K> {
@@ -44,10 +38,10 @@ impl<K: Loaded> Shop<K> {
             return Err(Refusal::NotRunning);
         };
         let cursor = Cursor::new(alloc, place, &mut journal)?;
-        let parts = partitions_of(alloc, load, seats, 10_000_000, 100_000_000)?;
+        let partitions = OwnPartitions::of_load(alloc, load, seats, 10_000_000, 100_000_000)?;
         Ok((
             Shop {
-                parts,
+                partitions,
                 journal,
                 cursor,
             },
@@ -69,35 +63,35 @@ impl<K: Loaded> Shop<K> {
 
     /// One of them.
     fn pay_once(&mut self, pass: Pass<Commit, K>) -> Result<Pass<Commit, K>, Refusal> {
-        if self.parts.is_empty() {
-            return Err(Refusal::NoSuchWarehouse);
-        }
-        pay(&mut self.parts[0], &mut self.journal, pass)
+        self.run(0, payment(), pass)
     }
 
     /// How many commits there were since the last drain.
     pub fn drain(&mut self, alloc: Global) -> Result<u64, Refusal> {
-        if self.parts.is_empty() {
-            return Err(Refusal::NoSuchWarehouse);
-        }
-        let batch = drain(alloc, &mut self.parts, &mut self.journal, &mut self.cursor)?;
+        let batch = self
+            .partitions
+            .drain(alloc, &mut self.journal, &mut self.cursor)?;
         if batch.len() == 0 {
             return Err(Refusal::NoSuchWarehouse);
         }
         Ok(batch.list(0).len() as u64)
     }
 
-    /// Runs a command of one warehouse, that at a place.
+    /// Runs a command of one warehouse, that at a place, to its end. Its client comes back.
     pub fn run(
         &mut self,
         place: usize,
         command: Command,
         pass: Pass<Commit, K>,
     ) -> Result<Pass<Commit, K>, Refusal> {
-        if place >= self.parts.len() {
+        if place >= self.partitions.len() {
             return Err(Refusal::NoSuchWarehouse);
         }
-        finish(&mut self.parts[place], &mut self.journal, command, pass)
+        if let Err((_job, refusal)) = self.partitions.begin(place, Job::new(command, pass)) {
+            return Err(refusal);
+        }
+        self.partitions.finish_running(place, &mut self.journal);
+        client_of(self.partitions.take_done(place))
     }
 
     /// A session over all warehouses as they are now.
@@ -107,37 +101,20 @@ impl<K: Loaded> Shop<K> {
         pass: &mut Pass<Commit, K>,
     ) -> Result<Session<SIZE>, Refusal>
         ensures kit { IfOk result (AreOfKit K.passes) }
-        ensures mine { IfOk result (λ session. IsTrue (are_from K.passes session self.new.parts.items)) }
+        ensures mine { IfOk result (λ session. IsTrue (are_from K.passes session self.new.partitions)) }
     {
-        let all = fork_all(alloc, &mut self.parts, &mut self.journal, pass)?;
+        let all = self.partitions.fork_all(alloc, &mut self.journal, pass)?;
         Ok(Session::new(all))
     }
 
     /// Takes a session back.
     pub fn close(&mut self, session: Session<SIZE>)
         requires kit { AreOfKit K.passes session }
-        requires mine { IsTrue (are_from K.passes session self.old.parts.items) }
+        requires mine { IsTrue (are_from K.passes session self.old.partitions) }
     {
-        match session.close_all(&mut self.parts) {
+        match session.close_all(&mut self.partitions) {
             Ok(()) => {}
             Err(_) => unreachable!(),
         }
     }
-}
-
-/// Runs a command to its end. Its client comes back.
-fn finish<K: Loaded>(
-    partition: &mut Partition<SIZE, K>,
-    journal: &mut Journal<Commit, K>,
-    command: Command,
-    pass: Pass<Commit, K>,
-) -> Result<Pass<Commit, K>, Refusal>
-    ensures terms { terms_of partition.new ≡ terms_of partition.old }
-    ensures part { partition.new.part ≡ partition.old.part }
-{
-    if let Err((_job, refusal)) = partition.begin(Job::new(command, pass)) {
-        return Err(refusal);
-    }
-    partition.finish_running(journal);
-    client_of(partition)
 }

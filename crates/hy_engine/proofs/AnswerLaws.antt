@@ -9,7 +9,7 @@ use Rattle.hy_queues.specs.Queues.{FrontState, IsWhyUnput}
 use Rattle.hy_commands.specs.declared.edition.Edition.TheVariants as editions
 use Rattle.hy_redo_drains.specs.of_partition.Jobs.{DoneState, JobState, Log, refused_answer}
 use Rattle.hy_redo_drains.specs.of_partition.Partition.{PartitionState}
-use Rattle.hy_redo_drains.specs.of_crossing.Crossings.{ArePartitions, Crosses}
+use Rattle.hy_redo_drains.specs.of_forks.Partitions.{AreWhole, CrossesAndTells}
 use Rattle.hy_engine.specs.Engines.{AnswersJob, EngineState, IsAnswer, IsHome, IsWhyBack, at_home, closed, homeless, in_all, names_several, undone, waits}
 
 module _ (lists : Lists) (job : JobState) (answer : DoneState) (edition : job.edition ≡ editions.Second) where
@@ -18,8 +18,8 @@ module _ (lists : Lists) (job : JobState) (answer : DoneState) (edition : job.ed
   answered-at-home old new answers = ∣ record { job = job; edition = edition; done = at_home old new answers } ∣₁
 
   -- in the partitions of a load
-  pub answered-in-all : (before after : Log) (old new : List PartitionState) → ArePartitions lists old
-      → Crosses lists job before after old new answer → ∥ IsAnswer lists answer ∥₁
+  pub answered-in-all : (before after : Log) (old new : List PartitionState) → AreWhole lists old
+      → CrossesAndTells lists job before after old new answer → ∥ IsAnswer lists answer ∥₁
   answered-in-all before after old new are crosses =
       ∣ record { job = job; edition = edition; done = in_all before after old new are crosses } ∣₁
 

@@ -1,5 +1,5 @@
 -- The memory of an engine.
-use Rattle.std.proofs.Common.{◌≡◌, ◌≤◌, ℕ, List, [], ◌∷◌, ◌++◌, length, subst, sym}
+use Rattle.std.proofs.Common.{◌≡◌, ℕ, List, [], ◌∷◌, ◌++◌, length, subst, sym}
 use Rattle.hy_engine.specs.Engines.{HavePlaces}
 use Rattle.hy_engine.specs.inside.Rooms.{RoomsState}
 

@@ -1,5 +1,5 @@
 -- What clauses see of an engine, and what its calls answer.
-use Rattle.std.specs.Prelude.{◌≡◌, ◌⊎◌, ◌<◌, ◌≤◌, ℕ, Bool, true, false, List, [], ◌∷◌, None, Some, Result, Ok, Err, length, nat_lt}
+use Rattle.std.specs.Prelude.{◌≡◌, ◌⊎◌, ◌≤◌, ℕ, Bool, true, false, List, [], ◌∷◌, None, Some, Result, Ok, Err, length, nat_lt}
 use mathlib.Core.List.{IsPrefix}
 use Rattle.hy_rows.specs.Tables.{Lists}
 use Rattle.hy_schema.specs.Conditions.{first_broken}
@@ -16,12 +16,13 @@ use Rattle.hy_redo_drains.specs.of_partition.Jobs.{DoneState, JobState, Log, Run
 use Rattle.hy_redo_drains.specs.of_partition.Partition.{PartitionState}
 use Rattle.hy_redo_drains.specs.of_partition.Snapshots.{SnapshotState}
 use Rattle.hy_redo_drains.specs.of_partition.Steps.{Accepts, IsUnbegun, Refuses, begin_refusal, with_job}
-use Rattle.hy_redo_drains.specs.of_crossing.Crossings.{ArePartitions, Crosses, HaveNoPart, database_behind}
+use Rattle.hy_redo_drains.specs.of_crossing.Crossings.{ArePartitions, database_behind}
 use Rattle.hy_redo_drains.specs.Following.{DrainState, WritesDue}
 use Rattle.hy_redo_drains.specs.of_forks.Drains.{are_new, drained_of}
 use Rattle.hy_redo_drains.specs.of_forks.Forks.{IsWhyUnforked, SpellsDatabase, are_from}
 use Rattle.hy_redo_drains.specs.of_forks.Histories.{IsOneHistory}
 use Rattle.hy_redo_drains.specs.of_forks.Origins.{Origin}
+use Rattle.hy_redo_drains.specs.of_forks.Partitions.{AreWhole, CrossesAndTells}
 
 -- how many warehouses an engine has, and how many jobs the queue of each can hold. Its clients are those of the kit, and the queue
 -- of answers of each has one place
@@ -66,15 +67,14 @@ AnswersJob job old new answer =
 -- so many partitions that were locked aren't those of the load, or a part of a command is done in one of them
 abbrev pub AreOthers : Lists → EngineState → Type 0
 AreOthers lists engine =
-    (parts : List PartitionState) × (length parts ≡ engine.warehouses)
-    × ((1 ≤ length parts) × ArePartitions lists parts × HaveNoPart parts → ⊥)
+    (parts : List PartitionState) × (length parts ≡ engine.warehouses) × (AreWhole lists parts → ⊥)
 
 -- a job was done in a partition, or in the partitions of a load, all of them locked; or there was no room for their locks
 pub data IsDone (lists : Lists) (job : JobState) (answer : DoneState) : Type 0 where
   undone : answer ≡ refused_answer job.pass refusals.NoMemory → IsDone lists job answer
   at_home : (old new : PartitionState) → AnswersJob job old new answer → IsDone lists job answer
-  in_all : (before after : Log) (old new : List PartitionState) → ArePartitions lists old
-      → Crosses lists job before after old new answer → IsDone lists job answer
+  in_all : (before after : Log) (old new : List PartitionState) → AreWhole lists old
+      → CrossesAndTells lists job before after old new answer → IsDone lists job answer
 
 -- an answer is one that a job of the second edition got
 pub record IsAnswer (lists : Lists) (answer : DoneState) : Type 0 where

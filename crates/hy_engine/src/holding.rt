@@ -1,9 +1,7 @@
 //! Calls on all partitions, with all locks.
 
-ghost use Rattle.std.specs.Prelude.{◌≡◌, ◌⊎◌, ◌≤◌, [], IfErr, IfOk, OnErr, length, map, vec_capacity};
+ghost use Rattle.std.specs.Prelude.{◌≡◌, ◌⊎◌, ◌≤◌, [], IfErr, IfOk, map, vec_capacity};
 ghost use Rattle.hy_schema.specs.declared.refusal.Refusal.{Refusal};
-ghost use Rattle.hy_redo_drains.specs.of_crossing.Crossings.{ArePartitions, HaveNoPart};
-ghost use Rattle.hy_redo_drains.specs.of_crossing.inside.Guards.{values_of};
 ghost use Rattle.hy_redo_drains.specs.of_forks.Forks.{AreOfKit, shown};
 ghost use Rattle.hy_engine.specs.Engines.{AreMine, AreOthers, IsWhyNotAgain, IsWhyOpen, IsWhyUnseen, SeesAll};
 
@@ -12,8 +10,7 @@ use crate::gate::Gate;
 use crate::locking::lock_soon;
 use hy_commands::Commit;
 use hy_passes::Pass;
-use hy_redo_drains::hy_crossing::are_partitions;
-use hy_redo_drains::hy_forks::{SnapshotAll, close_all, fork_all, fork_all_from};
+use hy_redo_drains::hy_forks::{Partitions, SnapshotAll};
 use hy_redo_drains::hy_partition::{Loaded, Partition};
 use hy_schema::Refusal;
 use std::alloc::Global;
@@ -21,6 +18,9 @@ use std::sync::{MutexGuard, Wait};
 
 /// Partitions behind locks that are held.
 pub type Held<'a, const N: usize, K> = Vec<MutexGuard<'a, Partition<N, K>>>;
+
+/// The partitions of all warehouses of the load, with all of their locks.
+pub type HeldPartitions<'a, const N: usize, K> = Partitions<N, K, Held<'a, N, K>>;
 
 impl<const N: usize, K: Loaded, G: Gate + Drop> Engine<N, K, G> {
     /// Room for all locks, of which none is taken. E1.
@@ -33,27 +33,24 @@ impl<const N: usize, K: Loaded, G: Gate + Drop> Engine<N, K, G> {
     }
 
     /// The partitions of all warehouses, with all of their locks, which are taken in rising order of warehouse and lie
-    /// in this room: they are those of the load, in order, and no part of a command is done in any. E4 where they aren't.
+    /// in this room. E4 where they aren't those of the load, in order, or a part of a command is done in one. Takes no memory.
     pub fn hold<'a, R: Wait>(
         &'a self,
         rt: &R,
         room: Held<'a, N, K>,
-    ) -> Result<Held<'a, N, K>, Refusal>
+    ) -> Result<HeldPartitions<'a, N, K>, Refusal>
         requires empty { room.items ≡ [] }
         requires room { self.now.warehouses ≤ vec_capacity room }
-        ensures some { IfOk result (λ held. 1 ≤ length (values_of held.items)) }
-        ensures parts { IfOk result (λ held. ArePartitions K.load (values_of held.items)) }
-        ensures whole { IfOk result (λ held. HaveNoPart (values_of held.items)) }
         ensures refused { IfErr result (λ why. (why ≡ Refusal.NoSuchWarehouse) × AreOthers K.load self.now) }
     {
         let mut held = room;
         for place in 0..self.parts.len() {
             held.push_reserved(lock_soon(rt, &self.parts[place]));
         }
-        if !are_partitions(&mut held) {
-            return Err(Refusal::NoSuchWarehouse);
+        match Partitions::found(held) {
+            Ok(partitions) => Ok(partitions),
+            Err(_others) => Err(Refusal::NoSuchWarehouse),
         }
-        Ok(held)
     }
 
     /// A snapshot of all warehouses, for a client: it spells the database behind a serial list that begins with all
@@ -73,16 +70,19 @@ impl<const N: usize, K: Loaded, G: Gate + Drop> Engine<N, K, G> {
         ensures client { pass.new.client ≡ pass.old.client }
         ensures refused { IfErr result (IsWhyUnseen K.load self.now) }
     {
-        let mut held = self.hold(rt, self.room(alloc)?)?;
+        let mut partitions = self.hold(rt, self.room(alloc)?)?;
+        partitions.sound();
         let mut journal = lock_soon(rt, &self.journal);
         journal.tell_client(pass);
-        fork_all(alloc, &mut held, &mut journal, pass)
+        let forked = partitions.fork_all(alloc, &mut journal, pass);
+        partitions.sound();
+        forked
     }
 
     /// A snapshot of what another one of all warehouses sees, whose new tickets are of this kit: it lives on when that one is
     /// closed. It shows what that one shows, and says that it is one of this kit and of any partitions of the load. No pass
     /// is asked for, and nobody is told of the serial list. Refused with E11 only where the other one isn't one of the
-    /// partitions of the load; else with E4 or E1, of which no clause says why.
+    /// partitions of the load; else with E4, only where the locked partitions aren't those of the load; or with E1.
     pub fn fork_all_from<R: Wait>(
         &self,
         rt: &R,
@@ -94,13 +94,16 @@ impl<const N: usize, K: Loaded, G: Gate + Drop> Engine<N, K, G> {
         ensures mine { IfOk result (AreMine K.passes K.load) }
         ensures refused { IfErr result (IsWhyNotAgain K.passes K.load self.now all.now) }
     {
-        let mut held = self.hold(rt, self.room(alloc)?)?;
-        fork_all_from(alloc, &mut held, all)
+        let mut partitions = self.hold(rt, self.room(alloc)?)?;
+        partitions.sound();
+        let forked = partitions.fork_all_from(alloc, all);
+        partitions.sound();
+        forked
     }
 
     /// Closes a snapshot of all warehouses, with room for their locks. Refused with E11, only where it isn't one of the
     /// partitions of the load, or with E4, it comes back as it was. A snapshot with the kit's name has to be one of that kit.
-    /// Takes no memory. What becomes of the partitions behind their locks is said by `close_all` of hy_forks, which is
+    /// Takes no memory. What becomes of the partitions behind their locks is said by `close_all` of `Partitions`, which is
     /// called there, and by no clause here.
     pub fn close_all<'a, R: Wait>(
         &'a self,
@@ -115,7 +118,10 @@ impl<const N: usize, K: Loaded, G: Gate + Drop> Engine<N, K, G> {
         ensures refused { IfErr result (λ refused. IsWhyOpen K.passes K.load self.now all.entry refused.1) }
     {
         match self.hold(rt, room) {
-            Ok(mut held) => close_all(&mut held, all),
+            Ok(mut partitions) => {
+                partitions.sound();
+                partitions.close_all(all)
+            }
             Err(refusal) => Err((all, refusal)),
         }
     }

@@ -5,21 +5,20 @@ ghost use Rattle.hy_schema.specs.declared.refusal.Refusal.{Refusal};
 ghost use Rattle.hy_commands.specs.declared.edition.Edition.TheVariants as editions;
 ghost use Rattle.hy_commands.specs.Commands.{home_of, warehouses_of};
 ghost use Rattle.hy_redo_drains.specs.of_partition.Jobs.{JobState, refused_answer};
-ghost use Rattle.hy_redo_drains.specs.of_crossing.Crossings.{ArePartitions, Crosses, HaveNoPart};
-ghost use Rattle.hy_redo_drains.specs.of_crossing.inside.Guards.{values_of};
+ghost use Rattle.hy_redo_drains.specs.of_forks.Histories.{IsOneHistory};
+ghost use Rattle.hy_redo_drains.specs.of_forks.Partitions.{CrossesAndTells};
 ghost use Rattle.hy_queues.specs.Queues.{FrontState, IsWhyUnput};
 ghost use Rattle.hy_engine.specs.Engines.{AreOthers, IsAnswer, IsHome, IsWhyBack, names_several};
 
 use crate::answer::Answer;
 use crate::engine::Engine;
 use crate::gate::Gate;
-use crate::holding::Held;
+use crate::holding::HeldPartitions;
 use crate::locking::lock_soon;
 use crate::new_job::NewJob;
 use hy_commands::Commit;
 use hy_passes::Journal;
 use hy_queues::Line;
-use hy_redo_drains::hy_crossing::cross;
 use hy_redo_drains::hy_partition::{Done, Job, Loaded};
 use hy_schema::Refusal;
 use std::alloc::Global;
@@ -27,9 +26,10 @@ use std::sync::Wait;
 
 impl<const N: usize, K: Loaded, G: Gate + Drop> Engine<N, K, G> {
     /// Hands a job in, of the second edition. That of one warehouse waits in its queue for the worker; that of several is
-    /// done at once, on the caller's thread. Either answer comes by `answer`. Another one comes back as it was: with E16 where
-    /// the engine was closed; with E4 exactly where its home isn't there, or where it names several warehouses and the
-    /// partitions aren't those of the load; or with E17 where all places of its home's queue were taken at one moment.
+    /// done at once, on the caller's thread. Either answer comes by `answer`. Another one comes back as it was: with E16, only
+    /// where a queue of the engine was closed; with E4, only where its home isn't there, or where it names several warehouses
+    /// and the partitions aren't those of the load; or with E17, only where all places of its home's queue were taken at one
+    /// moment.
     pub fn submit<R: Wait>(
         &self,
         rt: &R,
@@ -93,9 +93,9 @@ impl<const N: usize, K: Loaded, G: Gate + Drop> Engine<N, K, G> {
         };
         let _turn = self.turn.lock(rt);
         match self.hold(rt, room) {
-            Ok(mut held) => {
+            Ok(mut partitions) => {
                 let mut journal = lock_soon(rt, &self.journal);
-                Ok(cross_held(&mut held, &mut journal, job))
+                Ok(cross_held(&mut partitions, &mut journal, job))
             }
             Err(refusal) => Err((job, refusal)),
         }
@@ -124,18 +124,18 @@ impl<const N: usize, K: Loaded, G: Gate + Drop> Engine<N, K, G> {
 
 /// Does a job of several warehouses in partitions whose locks are held.
 fn cross_held<const N: usize, K: Loaded>(
-    held: &mut Held<'_, N, K>,
+    partitions: &mut HeldPartitions<'_, N, K>,
     journal: &mut Journal<Commit, K>,
     job: Job<K>,
 ) -> Answer<K>
-    requires parts { ArePartitions K.load (values_of held.old.items) }
-    requires whole { HaveNoPart (values_of held.old.items) }
     requires several { nat_lt 1 (length (warehouses_of job.command)) ≡ true }
     requires new { job.edition ≡ editions.Second }
-    ensures { Crosses K.load job journal.old.list.log journal.new.list.log (values_of held.old.items)
-        (values_of held.new.items) result }
+    ensures crosses { CrossesAndTells K.load job journal.old.list.log journal.new.list.log partitions.old partitions.new
+        result }
+    ensures history { IsOneHistory K.passes.partitions journal.new.list.log partitions.new }
 {
-    Answer::new(cross(held, journal, job))
+    partitions.sound();
+    Answer::new(partitions.cross(journal, job))
 }
 
 /// The answer to a job for which there is no room.

@@ -6,6 +6,7 @@ use Rattle.hy_crossing.specs.of_partition.Partition.{PartitionState, Terms, term
 use Rattle.hy_crossing.specs.Crossings.{ArePartitions, HaveNoPart, IsPartition}
 use Rattle.hy_crossing.specs.Lists.{Pairwise}
 use Rattle.hy_crossing.proofs.PairLaws.{pairs-hold}
+use Rattle.hy_forks.specs.Partitions.{AreWhole}
 use Rattle.hy_forks.proofs.RelationLaws.{pairs-length}
 
 -- the load, the number and the part of a partition
@@ -47,3 +48,13 @@ pub partition-at : (lists : Lists) (parts : List PartitionState) → ArePartitio
     (p : PartitionState) → slice_get parts place ≡ Some p → IsPartition lists (suc place) p
 partition-at lists parts are place p is =
     subst (λ (found : Option PartitionState). IfSome found (IsPartition lists (suc place))) is (are.each place)
+
+-- all of what holds of the partitions of a load
+pub as-whole : (lists : Lists) (olds news : List PartitionState) → AreWhole lists olds
+    → (ArePartitions lists olds → ArePartitions lists news) → (HaveNoPart olds → HaveNoPart news) → AreWhole lists news
+as-whole lists olds news are partitions whole =
+    let now = partitions are.partitions in record {
+      some = omega (arith, are.some, are.partitions.count, now.count);
+      partitions = now;
+      whole = whole are.whole;
+    }

@@ -11,4 +11,5 @@ pub mod Forks
 pub mod Drains
 pub mod Histories
 pub mod Logged
+pub mod Partitions
 pub mod inside

@@ -15,8 +15,9 @@ ghost use Rattle.hy_forks.specs.Histories.{IsOneHistory};
 ghost use Rattle.hy_forks.specs.Logged.{SaySame};
 ghost use Rattle.hy_forks.specs.inside.Copies.{are_drained, counts_from_one, has_number, is_drained};
 
-use crate::history::find_history;
+use crate::history::tell_all;
 use crate::knowing::{know_load, know_replayed};
+use crate::partitions::Partitions;
 use hy_batches::Batch;
 use hy_commands::{Commit, Edition};
 use hy_crossing::Parts;
@@ -88,61 +89,56 @@ fn copy_behind<const N: usize, K: Loaded, P: Parts<Part = Partition<N, K>>>(
     Ok(Batch::new(Edition::Second, copies))
 }
 
-/// The end of the serial list, as a place from which commits are drained, for the partitions of a load that have kept all that
-/// comes from a log. E1.
-pub fn end_of<const N: usize, K: Loaded, P: Parts<Part = Partition<N, K>>>(
-    alloc: Global,
-    parts: &mut P,
-    journal: &mut Journal<Commit, K>,
-    pass: Pass<Commit, K>,
-) -> Result<Cursor<Commit, K>, AllocError>
-    requires parts { ArePartitions K.load (P.states parts.old) }
-    requires whole { HaveNoPart (P.states parts.old) }
-    requires count { length (P.states parts.old) ≡ K.passes.partitions }
-    requires replayed { (place : ℕ) → IfSome (slice_get (P.states parts.old) place) (λ p. p.replayed ≤ length p.kept) }
-    ensures end { IfOk result (λ cursor. cursor ≡ journal.old.list.log) }
-    ensures told { Pairwise (TellsHere journal.old.list.log) 1 (P.states parts.old) (P.states parts.new) }
-    ensures log { journal.new.list.log ≡ journal.old.list.log }
-    ensures parts { ArePartitions K.load (P.states parts.new) }
-    ensures whole { HaveNoPart (P.states parts.new) }
-{
-    find_history(parts, journal);
-    know_replayed(parts);
-    Cursor::new(alloc, pass, journal)
-}
+impl<const N: usize, K: Loaded, P: Parts<Part = Partition<N, K>>> Partitions<N, K, P> {
+    /// The end of the serial list, as a place from which commits are drained, for the partitions of a load that have kept all that
+    /// comes from a log. E1.
+    pub fn end_of(
+        &mut self,
+        alloc: Global,
+        journal: &mut Journal<Commit, K>,
+        pass: Pass<Commit, K>,
+    ) -> Result<Cursor<Commit, K>, AllocError>
+        requires partitions { K.passes.partitions ≡ length K.load.tables.warehouses }
+        requires replayed { (place : ℕ) → IfSome (slice_get self.old place) (λ p. p.replayed ≤ length p.kept) }
+        ensures end { IfOk result (λ cursor. cursor ≡ journal.old.list.log) }
+        ensures told { Pairwise (TellsHere journal.old.list.log) 1 self.old self.new }
+        ensures log { journal.new.list.log ≡ journal.old.list.log }
+    {
+        let parts = &mut self.parts;
+        tell_all(parts, journal);
+        know_replayed(parts);
+        Cursor::new(alloc, pass, journal)
+    }
 
-/// The commits of each warehouse behind the place of a cursor, as a batch of the second edition, of which they all are; the
-/// cursor then stands at the end of the serial list. Refused with E1, and then it stays where it was. Each partition is told
-/// of the whole list. Where batches and the serial list up to the cursor said the same, they do so with this batch behind
-/// them up to the end.
-pub fn drain<const N: usize, K: Loaded, P: Parts<Part = Partition<N, K>>>(
-    alloc: Global,
-    parts: &mut P,
-    journal: &mut Journal<Commit, K>,
-    cursor: &mut Cursor<Commit, K>,
-) -> Result<Batch, Refusal>
-    requires some { 1 ≤ length (P.states parts.old) }
-    requires parts { ArePartitions K.load (P.states parts.old) }
-    requires whole { HaveNoPart (P.states parts.old) }
-    ensures drained { IfOk result (λ batch. batch ≡ drained_of cursor.old (P.states parts.new)) }
-    ensures new { IfOk result (λ batch. are_new batch ≡ true) }
-    ensures follows { IfOk result (λ batch. K.passes.partitions ≡ length K.load.tables.warehouses
-        → (batches : List Batch) → SaySame K.load batches cursor.old
-        → SaySame K.load (batches ++ batch ∷ []) journal.old.list.log) }
-    ensures moved { OnOk result (cursor.new ≡ journal.old.list.log) }
-    ensures begins { IsPrefix cursor.old journal.old.list.log }
-    ensures refused { IfErr result (λ refusal. refusal ≡ Refusal.NoMemory) }
-    ensures err { OnErr result (cursor.new ≡ cursor.old) }
-    ensures told { Pairwise (TellsHere journal.old.list.log) 1 (P.states parts.old) (P.states parts.new) }
-    ensures history { IsOneHistory K.passes.partitions journal.old.list.log (P.states parts.new) }
-    ensures log { journal.new.list.log ≡ journal.old.list.log }
-    ensures parts { ArePartitions K.load (P.states parts.new) }
-    ensures whole { HaveNoPart (P.states parts.new) }
-{
-    find_history(parts, journal);
-    cursor.find(journal);
-    let batch = copy_behind(alloc, parts, cursor)?;
-    batch.sound();
-    cursor.advance(journal);
-    Ok(batch)
+    /// The commits of each warehouse behind the place of a cursor, as a batch of the second edition, of which they all are; the
+    /// cursor then stands at the end of the serial list. Refused with E1, and then it stays where it was. Each partition is told
+    /// of the whole list. Where batches and the serial list up to the cursor said the same, they do so with this batch behind
+    /// them up to the end.
+    pub fn drain(
+        &mut self,
+        alloc: Global,
+        journal: &mut Journal<Commit, K>,
+        cursor: &mut Cursor<Commit, K>,
+    ) -> Result<Batch, Refusal>
+        ensures drained { IfOk result (λ batch. batch ≡ drained_of cursor.old self.new) }
+        ensures new { IfOk result (λ batch. are_new batch ≡ true) }
+        ensures follows { IfOk result (λ batch. K.passes.partitions ≡ length K.load.tables.warehouses
+            → (batches : List Batch) → SaySame K.load batches cursor.old
+            → SaySame K.load (batches ++ batch ∷ []) journal.old.list.log) }
+        ensures moved { OnOk result (cursor.new ≡ journal.old.list.log) }
+        ensures begins { IsPrefix cursor.old journal.old.list.log }
+        ensures refused { IfErr result (λ refusal. refusal ≡ Refusal.NoMemory) }
+        ensures err { OnErr result (cursor.new ≡ cursor.old) }
+        ensures told { Pairwise (TellsHere journal.old.list.log) 1 self.old self.new }
+        ensures history { IsOneHistory K.passes.partitions journal.old.list.log self.new }
+        ensures log { journal.new.list.log ≡ journal.old.list.log }
+    {
+        let parts = &mut self.parts;
+        tell_all(parts, journal);
+        cursor.find(journal);
+        let batch = copy_behind(alloc, parts, cursor)?;
+        batch.sound();
+        cursor.advance(journal);
+        Ok(batch)
+    }
 }

@@ -9,17 +9,16 @@ mod forks_from;
 mod history;
 mod knowing;
 mod logged;
+mod partitions;
+mod serving;
 mod snapshot;
 
-pub use drains::{drain, end_of};
-pub use forks::{close_all, fork_all};
-pub use forks_from::fork_all_from;
-pub use history::find_history;
 pub use hy_batches::Batch;
 pub use hy_crossing::Parts;
 pub use hy_crossing::hy_partition::{Loaded, Partition, Snapshot};
 pub use knowing::know_replayed;
 pub use logged::logs_begin;
+pub use partitions::{OwnPartitions, Partitions};
 pub use snapshot::SnapshotAll;
 
 // what stands below, for the crates above

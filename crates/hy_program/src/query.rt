@@ -18,8 +18,7 @@ use hy_loads::Load;
 use hy_output::Output;
 use hy_passes::{Kit, make};
 use hy_query::{Query, parse_query};
-use hy_recovery::hy_crossing::partitions_of;
-use hy_recovery::hy_forks::fork_all;
+use hy_recovery::hy_forks::OwnPartitions;
 use hy_recovery::hy_partition::Loaded;
 use hy_schema::Refusal;
 use hy_storm::hy_session::{Session, text_of};
@@ -100,11 +99,13 @@ fn answer_in<K: Loaded, R: Threads + Sync>(
     load.sound();
     let (_passes, mut journal, seats, mut clients) = kit.open::<K>()?;
     let mut pass = clients.take_last();
-    let mut parts = partitions_of::<PAGE_BYTES, K>(alloc, load, seats, MAX_FRAMES, MAX_KEPT)?;
-    let session = Session::new(fork_all(alloc, &mut parts, &mut journal, &mut pass)?);
+    let mut partitions = OwnPartitions::<PAGE_BYTES, K>::of_load(
+        alloc, load, seats, MAX_FRAMES, MAX_KEPT,
+    )?;
+    let session = Session::new(partitions.fork_all(alloc, &mut journal, &mut pass)?);
     session.shows();
     let answer = answered(rt, alloc, &session, query);
-    match session.close_all(&mut parts) {
+    match session.close_all(&mut partitions) {
         Ok(()) => answer,
         Err(_) => unreachable!(),
     }

@@ -21,7 +21,6 @@ use hy_files::{FileSystem, write_load};
 use hy_loads::Load;
 use hy_output::Output;
 use hy_passes::Kit;
-use hy_recovery::hy_forks::fork_all;
 use hy_recovery::hy_partition::Loaded;
 use hy_recovery::{check_batches, kit_for, recover};
 use hy_rows::{Lists, Tables};
@@ -123,13 +122,13 @@ fn tables_behind<K: Loaded>(
         return Err(shortage_on(alloc, load, batches));
     };
     let pass = clients.take_last();
-    let (mut parts, mut journal, mut pass) = recover::<PAGE_BYTES, K>(
+    let (mut partitions, mut journal, mut pass) = recover::<PAGE_BYTES, K>(
         alloc, load, batches, journal, seats, pass, MAX_FRAMES, MAX_KEPT,
     )?;
-    let session = Session::new(fork_all(alloc, &mut parts, &mut journal, &mut pass)?);
+    let session = Session::new(partitions.fork_all(alloc, &mut journal, &mut pass)?);
     session.shows();
     let tables = session.tables(alloc);
-    match session.close_all(&mut parts) {
+    match session.close_all(&mut partitions) {
         Ok(()) => tables,
         Err(_) => unreachable!(),
     }

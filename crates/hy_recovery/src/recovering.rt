@@ -7,7 +7,7 @@ ghost use Rattle.hy_passes.specs.Worlds.{new_partition};
 ghost use Rattle.hy_schema.specs.Conditions.{first_broken};
 ghost use Rattle.hy_database.specs.Database.{all_rows};
 ghost use Rattle.hy_forks.specs.of_partition.Limits.{most_kept};
-ghost use Rattle.hy_forks.specs.of_crossing.Crossings.{ArePartitions, HaveNoPart, database_behind};
+ghost use Rattle.hy_forks.specs.of_crossing.Crossings.{database_behind};
 ghost use Rattle.hy_forks.specs.Histories.{IsOneHistory};
 ghost use Rattle.hy_recovery.specs.Recovering.{AreRecovered, Counts, GoesOn, IsWhyUnrecovered, NoneAreTooMany};
 
@@ -17,8 +17,8 @@ use hy_batches::Batches;
 use hy_commands::Commit;
 use hy_database::every_database_is_consistent;
 use hy_forks::hy_crossing::partitions_of;
-use hy_forks::hy_partition::{Loaded, Partition};
-use hy_forks::{find_history, know_replayed};
+use hy_forks::hy_partition::Loaded;
+use hy_forks::{OwnPartitions, Partitions, know_replayed};
 use hy_loads::Load;
 use hy_passes::{Journal, PartitionSeat, Pass};
 use hy_schema::Refusal;
@@ -39,7 +39,7 @@ pub fn recover<const N: usize, K: Loaded>(
     mut pass: Pass<Commit, K>,
     max_frames: u64,
     max_kept: u64,
-) -> Result<(Vec<Partition<N, K>>, Journal<Commit, K>, Pass<Commit, K>), Refusal>
+) -> Result<(OwnPartitions<N, K>, Journal<Commit, K>, Pass<Commit, K>), Refusal>
     requires size { IsPageSize N }
     requires some_frames { 1 ≤ max_frames }
     requires frames { max_frames ≤ most_frames }
@@ -50,18 +50,16 @@ pub fn recover<const N: usize, K: Loaded>(
     requires log { journal.list.log ≡ [] }
     requires replayed { Counts K.passes load.now batches.now }
     ensures recovered { IfOk result
-        (λ made. AreRecovered load.now max_frames max_kept batches.now made.0.items) }
+        (λ made. AreRecovered load.now max_frames max_kept batches.now made.0) }
     ensures replayed { IfOk result (λ made. (place : ℕ)
-        → IfSome (slice_get made.0.items place) (λ p. p.replayed ≤ length p.kept)) }
+        → IfSome (slice_get made.0 place) (λ p. p.replayed ≤ length p.kept)) }
     ensures history { IfOk result
-        (λ made. IsOneHistory K.passes.partitions made.1.list.log made.0.items) }
+        (λ made. IsOneHistory K.passes.partitions made.1.list.log made.0) }
     ensures goes_on { IfOk result (λ made. GoesOn load.now batches.now made.1.list.log) }
     ensures few { IfOk result (λ made. NoneAreTooMany load.now batches.now max_kept) }
     ensures consistent { IfOk result
         (λ made. first_broken (all_rows (database_behind load.now made.1.list.log)) ≡ None) }
     ensures client { IfOk result (λ made. made.2.client ≡ pass.client) }
-    ensures parts { IfOk result (λ made. ArePartitions load.now made.0.items) }
-    ensures whole { IfOk result (λ made. HaveNoPart made.0.items) }
     ensures refused { IfErr result (IsWhyUnrecovered N load.now max_frames batches.now max_kept) }
 {
     batches.sound();
@@ -71,8 +69,9 @@ pub fn recover<const N: usize, K: Loaded>(
     for place in 0..batches.count() as usize {
         pass = run_batch(&mut parts, &mut journal, batches.batch(place), pass)?;
     }
-    find_history(&mut parts, &mut journal);
     load.sound();
     every_database_is_consistent();
-    Ok((parts, journal, pass))
+    let mut partitions = Partitions::new(parts);
+    partitions.find_history(&mut journal);
+    Ok((partitions, journal, pass))
 }

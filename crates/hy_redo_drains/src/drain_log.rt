@@ -1,11 +1,10 @@
 //! A log that is handed what a database commits.
 
-ghost use Rattle.std.specs.Prelude.{◌≡◌, ◌≤◌, true, List, length, IfErr, None, OnErr, OnOk, Some};
+ghost use Rattle.std.specs.Prelude.{◌≡◌, true, List, length, IfErr, None, OnErr, OnOk, Some};
 ghost use mathlib.Core.List.{IsPrefix};
 ghost use Rattle.hy_schema.specs.declared.refusal.Refusal.{Refusal};
 ghost use Rattle.hy_batches.specs.Batches.{Batch};
 ghost use Rattle.hy_redo.specs.Disk.{BeginsBehind};
-ghost use Rattle.hy_forks.specs.Crossings.{ArePartitions, HaveNoPart};
 ghost use Rattle.hy_forks.specs.Lists.{Pairwise};
 ghost use Rattle.hy_forks.specs.Drains.{TellsHere, are_new, drained_of};
 ghost use Rattle.hy_forks.specs.Histories.{IsOneHistory};
@@ -15,7 +14,7 @@ ghost use Rattle.hy_redo_drains.specs.Following.{Follows, WritesDue};
 use hy_batches::Batch;
 use hy_commands::Commit;
 use hy_forks::hy_partition::{Loaded, Partition};
-use hy_forks::{Parts, drain};
+use hy_forks::{Partitions, Parts};
 use hy_passes::{Cursor, Journal};
 use hy_redo::{Log, LogOut};
 use hy_schema::Refusal;
@@ -87,27 +86,22 @@ impl<W: LogOut, K: Loaded> DrainLog<W, K> {
     pub fn drain<const N: usize, P: Parts<Part = Partition<N, K>>>(
         &mut self,
         alloc: Global,
-        parts: &mut P,
+        partitions: &mut Partitions<N, K, P>,
         journal: &mut Journal<Commit, K>,
     ) -> Result<(), Refusal>
         requires due { self.old.due ≡ None }
-        requires some { 1 ≤ length (P.states parts.old) }
-        requires parts { ArePartitions K.load (P.states parts.old) }
-        requires whole { HaveNoPart (P.states parts.old) }
         ensures log { self.new.log ≡ self.old.log }
-        ensures drained { OnOk result (self.new.due ≡ Some (drained_of self.old.seen (P.states parts.new))) }
-        ensures new { OnOk result (are_new (drained_of self.old.seen (P.states parts.new)) ≡ true) }
+        ensures drained { OnOk result (self.new.due ≡ Some (drained_of self.old.seen partitions.new)) }
+        ensures new { OnOk result (are_new (drained_of self.old.seen partitions.new) ≡ true) }
         ensures moved { OnOk result (self.new.seen ≡ journal.old.list.log) }
         ensures begins { IsPrefix self.old.seen journal.old.list.log }
         ensures refused { IfErr result (λ refusal. refusal ≡ Refusal.NoMemory) }
         ensures err { OnErr result (self.new ≡ self.old) }
-        ensures told { Pairwise (TellsHere journal.old.list.log) 1 (P.states parts.old) (P.states parts.new) }
-        ensures history { IsOneHistory K.passes.partitions journal.old.list.log (P.states parts.new) }
+        ensures told { Pairwise (TellsHere journal.old.list.log) 1 partitions.old partitions.new }
+        ensures history { IsOneHistory K.passes.partitions journal.old.list.log partitions.new }
         ensures same_log { journal.new.list.log ≡ journal.old.list.log }
-        ensures parts { ArePartitions K.load (P.states parts.new) }
-        ensures whole { HaveNoPart (P.states parts.new) }
     {
-        let batch = drain(alloc, parts, journal, &mut self.cursor)?;
+        let batch = partitions.drain(alloc, journal, &mut self.cursor)?;
         self.due = Some(batch);
         Ok(())
     }

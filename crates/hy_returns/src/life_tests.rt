@@ -7,29 +7,29 @@ use crate::logs::{payment, read, written};
 use crate::recovery_tests::{WIDE, recovered_of};
 use hy_batches::{Batches, Text, write_batch};
 use hy_commands::{Commit, Edition, Reply};
-use hy_crossing::are_partitions;
-use hy_forks::{drain, end_of};
+use hy_forks::OwnPartitions;
 use hy_loads::Load;
-use hy_partition::{Job, Loaded, Partition};
+use hy_partition::{Job, Loaded};
 use hy_passes::{Cursor, Journal, Kit, Pass};
 use hy_recovery::{kit_for, recover};
 use hy_tables::generate;
 use std::marker::Brand;
 use std::process::Abort;
 
-/// Pays 1.00 once more in the first of some partitions.
+/// Pays 1.00 once more in the first warehouse.
 fn pay_again<K: Loaded>(
     rt: &impl Abort,
-    part: &mut Partition<4096, K>,
+    partitions: &mut OwnPartitions<4096, K>,
     journal: &mut Journal<Commit, K>,
     pass: Pass<Commit, K>,
 ) {
-    match part.begin(Job::new(payment(1, 1, 1, 100), pass)) {
+    assert!(rt; 0 < partitions.len());
+    match partitions.begin(0, Job::new(payment(1, 1, 1, 100), pass)) {
         Ok(()) => {}
         Err(_) => panic!(rt; "the payment begins"),
     }
-    part.finish_running(journal);
-    let Some(done) = part.take_done() else {
+    partitions.finish_running(0, journal);
+    let Some(done) = partitions.take_done(0) else {
         panic!(rt; "an answer")
     };
     let (reply, _pass, _share) = done.open();
@@ -42,12 +42,13 @@ fn pay_again<K: Loaded>(
 /// The bytes of what was kept behind a place.
 fn drained_bytes<K: Loaded, R: Abort + AllocGlobal>(
     rt: &R,
-    parts: &mut Vec<Partition<4096, K>>,
+    partitions: &mut OwnPartitions<4096, K>,
     journal: &mut Journal<Commit, K>,
     cursor: &mut Cursor<Commit, K>,
 ) -> Text {
-    assert!(rt; are_partitions(parts));
-    let batch = drain(rt.alloc(), parts, journal, cursor).expect(rt, "a batch");
+    let batch = partitions
+        .drain(rt.alloc(), journal, cursor)
+        .expect(rt, "a batch");
     let mut text = Text::new(rt.alloc());
     write_batch(&mut text, &batch);
     text
@@ -69,7 +70,7 @@ fn live_on<K: Loaded, R: Abort + AllocGlobal>(
     let (Some(pass), Some(place)) = (clients.pop(), clients.pop()) else {
         panic!(rt; "two clients")
     };
-    let Ok((mut parts, mut journal, pass)) = recover::<4096, K>(
+    let Ok((mut partitions, mut journal, pass)) = recover::<4096, K>(
         rt.alloc(),
         load,
         batches,
@@ -81,10 +82,11 @@ fn live_on<K: Loaded, R: Abort + AllocGlobal>(
     ) else {
         panic!(rt; "it is recovered")
     };
-    let mut cursor = end_of(rt.alloc(), &mut parts, &mut journal, place).expect(rt, "a place");
-    assert!(rt; 0 < parts.len());
-    pay_again(rt, &mut parts[0], &mut journal, pass);
-    drained_bytes(rt, &mut parts, &mut journal, &mut cursor)
+    let mut cursor = partitions
+        .end_of(rt.alloc(), &mut journal, place)
+        .expect(rt, "a place");
+    pay_again(rt, &mut partitions, &mut journal, pass);
+    drained_bytes(rt, &mut partitions, &mut journal, &mut cursor)
 }
 
 /// The same on a generated load of two warehouses.

@@ -75,7 +75,7 @@ fn recover_in<K: Loaded, R: Abort + AllocGlobal>(
     let Some(pass) = clients.pop() else {
         panic!(rt; "a client")
     };
-    let (mut parts, mut journal, mut pass) = recover::<4096, K>(
+    let (partitions, mut journal, mut pass) = recover::<4096, K>(
         alloc,
         load,
         batches,
@@ -90,6 +90,7 @@ fn recover_in<K: Loaded, R: Abort + AllocGlobal>(
         taken_in: Vec::new(alloc),
         next: journal.list.next_crossing(),
     };
+    let mut parts = partitions.into_parts();
     for place in 0..parts.len() {
         assert!(rt; place < parts.len());
         let part = &mut parts[place];

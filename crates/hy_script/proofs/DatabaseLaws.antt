@@ -1,22 +1,19 @@
 -- Partitions with their terminals, one at each place.
-use Rattle.std.proofs.Common.{◌≡◌, ◌∙◌, ◌+◌, ◌<◌, ℕ, zero, suc, List, [], ◌∷◌, Option, None, All, IfSome, length, slice_get, slice_index_or, slice_set, ap, arith, inl, inr, refl, subst, sym}
-use Rattle.std.proofs.lemmas.List.{length-set}
+use Rattle.std.proofs.Common.{◌≡◌, ◌∙◌, ◌<◌, ℕ, zero, suc, List, [], ◌∷◌, Option, Result, All, IfSome, OnOk, length, slice_get, slice_index_or, slice_set, ap, arith, refl, subst, sym}
 use Rattle.std.proofs.lemmas.List.Elements.{All-head, All-tail}
 use Rattle.hy_rows.specs.Tables.{Lists}
 use Rattle.hy_session.specs.of_partition.Partition.{PartitionState}
 use Rattle.hy_session.specs.of_partition.Steps.{Begins}
-use Rattle.hy_session.specs.of_crossing.Crossings.{ArePartitions, HaveNoPart, IsPartition}
-use Rattle.hy_session.specs.of_crossing.Lists.{Pairwise}
+use Rattle.hy_session.specs.of_crossing.Lists.{ChangesAt, Pairwise}
 use Rattle.hy_session.specs.of_crossing.Making.{AllBegin}
-use Rattle.hy_session.specs.of_crossing.Pairs.{At}
-use Rattle.hy_session.proofs.of_crossing.PairLaws.{pairs-hold, pairs-replaced}
+use Rattle.hy_session.proofs.of_crossing.PlaceLaws.{get-at}
 use Rattle.hy_script.specs.declared.answer.Request.{Request}
 use Rattle.hy_script.specs.declared.terminal.Terminal.{Terminal}
 use Rattle.hy_script.specs.Databases.{DatabaseState, with_part}
 use Rattle.hy_script.specs.Printed.{IsAsked, IsGranted}
-use Rattle.hy_script.specs.inside.Invariants.{AreServed, IsReady, IsServed, StaysServed}
+use Rattle.hy_script.specs.inside.Invariants.{AreServed, IsReady, IsServed, IsServedAt}
 use Rattle.hy_script.proofs.CrossedLaws.{Keeps}
-use Rattle.hy_script.proofs.ListLaws.{item_at}
+use Rattle.hy_script.proofs.ResultLaws.{on_ok}
 use Rattle.hy_script.proofs.ServedLaws.{held-some, served-kept}
 
 module _ {K : Type 0} where
@@ -27,14 +24,14 @@ module _ {K : Type 0} where
   served-count (p ∷ parts) [] served = absurd served
   served-count (p ∷ parts) (terminal ∷ terminals) served = ap suc (served-count parts terminals served.1)
 
-  pub served-at : (parts : List PartitionState) (terminals : List (Terminal K)) (place : ℕ) (p : PartitionState)
-      (terminal : Terminal K) → AreServed parts terminals → place < length parts → p ≡ slice_index_or parts place p
-      → terminal ≡ slice_index_or terminals place terminal → IsServed p terminal
-  served-at [] terminals place p terminal served within is that = absurd (omega (arith, within))
-  served-at (x ∷ parts) [] place p terminal served within is that = absurd served
-  served-at (x ∷ parts) (t ∷ terminals) zero p terminal served within is that = rw (is, that) (served.0)
-  served-at (x ∷ parts) (t ∷ terminals) (suc place) p terminal served within is that =
-      served-at parts terminals place p terminal served.1 (omega (arith, within)) is that
+  pub served-at : (parts : List PartitionState) (terminals : List (Terminal K)) (place : ℕ) (terminal : Terminal K)
+      → AreServed parts terminals → place < length parts → terminal ≡ slice_index_or terminals place terminal
+      → IsServedAt parts place terminal
+  served-at [] terminals place terminal served within is = absurd (omega (arith, within))
+  served-at (x ∷ parts) [] place terminal served within is = absurd served
+  served-at (x ∷ parts) (t ∷ terminals) zero terminal served within is = rw is (served.0)
+  served-at (x ∷ parts) (t ∷ terminals) (suc place) terminal served within is =
+      served-at parts terminals place terminal served.1 (omega (arith, within)) is
 
   -- another partition and another terminal at a place
   pub served-set : (parts : List PartitionState) (terminals : List (Terminal K)) (place : ℕ) (p : PartitionState)
@@ -47,7 +44,6 @@ module _ {K : Type 0} where
   served-set (x ∷ parts) (t ∷ terminals) (suc place) p terminal served one =
       (served.0, served-set parts terminals place p terminal served.1 one)
 
-  -- one more of each
   -- where no step takes a pass away
   pub served-pairs : (number : ℕ) (olds news : List PartitionState) (terminals : List (Terminal K))
       → Pairwise Keeps number olds news → AreServed olds terminals → AreServed news terminals
@@ -61,44 +57,6 @@ module _ {K : Type 0} where
   )
 
 -- ---- the partitions of a load
-
--- another one of the same warehouse at a place
-module _ {K : Type 0} (lists : Lists) (parts : List PartitionState) (place : ℕ) (old new : PartitionState)
-    (terminal : Terminal K) (within : place < length parts) (is : old ≡ slice_index_or parts place old)
-    (stays : StaysServed old new terminal) where
-  abbrev IsOfSame : ℕ → PartitionState → PartitionState → Type 0
-  IsOfSame number p next = (next.load ≡ p.load) × (next.warehouse ≡ p.warehouse) × (next.part ≡ p.part)
-
-  same-here : IsOfSame (place + 1) old new
-  same-here = (ap (λ terms. terms.load) stays.terms, ap (λ terms. terms.warehouse) stays.terms, stays.part)
-
-  same-pairs : Pairwise (At (place + 1) IsOfSame) 1 parts (slice_set parts place new)
-  same-pairs = pairs-replaced IsOfSame place parts old new within is same-here
-
-  holds-set : (Holds : ℕ → PartitionState → Type 0)
-      → ((number : ℕ) (p next : PartitionState) → IsOfSame number p next → Holds number p → Holds number next)
-      → ((other : ℕ) → IfSome (slice_get parts other) (Holds (1 + other)))
-      → (other : ℕ) → IfSome (slice_get (slice_set parts place new) other) (Holds (1 + other))
-  holds-set Holds leads holds =
-      pairs-hold (At (place + 1) IsOfSame) Holds Holds
-      (λ number p next at. elim at as (λ _. Holds number p → Holds number next) [
-        | inl here ↦ leads number p next here.1
-        | inr elsewhere ↦ subst (λ (it : PartitionState). Holds number it) (sym elsewhere.1)
-      ]) 1 parts (slice_set parts place new) same-pairs holds
-
-  pub no_part-set : HaveNoPart parts → HaveNoPart (slice_set parts place new)
-  no_part-set none =
-      holds-set (λ number p. p.part ≡ None) (λ number p next same was. same.2 ∙ was) none
-
-  pub partitions-set : ArePartitions lists parts → ArePartitions lists (slice_set parts place new)
-  partitions-set are = record {
-    count = length-set parts place new ∙ are.count;
-    each = λ other.
-        let first : 1 + other ≡ suc other = omega arith in
-        subst (λ n. IfSome (slice_get (slice_set parts place new) other) (IsPartition lists n)) first
-        (holds-set (IsPartition lists) (λ number p next same was. (same.0 ∙ was.0, same.1 ∙ was.1))
-        (λ one. subst (λ n. IfSome (slice_get parts one) (IsPartition lists n)) (omega arith) (are.each one)) other);
-  }
 
 -- a new partition, with a terminal that has the pass
 served-start : {K : Type 0} (lists : Lists) (number frames commits : ℕ) (p : PartitionState) (terminal : Terminal K)
@@ -129,11 +87,15 @@ served-all lists frames commits parts terminals begin count ready =
 
 -- ---- what was asked of the partition at a place was asked of that of its number
 
-pub asked : (number place : ℕ) (request : Request) (old new : DatabaseState) (p next : PartitionState)
-    (before after : Option (List ℕ)) → number ≡ suc place → place < length old.parts
-    → p ≡ slice_index_or old.parts place p
-    → new ≡ record (with_part old (suc place) next) { log = new.log }
-    → IsGranted request old.log new.log p next before after → IsAsked number request old new before after
-asked number place request old new p next before after is within at writes granted =
-    subst (λ n. IsAsked n request old new before after) (sym is)
-    (granted.0, rw (item_at old.parts place p within at) (next, granted.1, writes), granted.2)
+module _ {A E : Type 0} (result : Result A E) (number place : ℕ) (request : Request) (old new : DatabaseState)
+    (before after : Option (List ℕ)) (Also : PartitionState → PartitionState → Type 0) where
+  pub asked : number ≡ suc place → place < length old.parts
+      → new ≡ record old { parts = new.parts; log = new.log }
+      → ChangesAt (λ p q. OnOk result (IsGranted request old.log new.log p q before after) × Also p q) place old.parts
+      new.parts → OnOk result (IsAsked number request old new before after)
+  asked is within writes changes = on_ok result changes.4.0 (λ granted.
+      let here = get-at old.parts place changes.0 within changes.2 in
+      let put : new ≡ record (with_part old (suc place) changes.1) { log = new.log } =
+      writes ∙ ap (λ (parts : List PartitionState). record old { parts = parts; log = new.log }) changes.3 in
+      subst (λ n. IsAsked n request old new before after) (sym is)
+      (granted.0, rw here (changes.1, granted.1, put), granted.2))

@@ -1,23 +1,16 @@
 -- A command is run as a whole, by whether its home is there.
-use Rattle.std.proofs.Common.{◌≡◌, ◌⊎◌, ℕ, List, Option, None, Some, true, false, inl, inr, refl}
+use Rattle.std.proofs.Common.{◌≡◌, ℕ, List, Option, None, Some, true, false, inl, inr, refl}
 use Rattle.std.specs.Prelude.{MatchOption, is_some}
-use Rattle.hy_schema.specs.declared.refusal.Refusal.TheVariants as refusals
 use Rattle.hy_commands.specs.Commands.{home_of}
 use Rattle.hy_commands.specs.declared.command.Command.{Command}
 use Rattle.hy_commands.specs.declared.reply.Reply.{Reply}
 use Rattle.hy_events.specs.Replies.{reply_text}
-use Rattle.hy_session.specs.of_partition.Partition.{PartitionState}
 use Rattle.hy_script.specs.declared.answer.Request.TheVariants as requests
-use Rattle.hy_script.specs.Answers.{Asks, RunsWhole, refused_text}
+use Rattle.hy_script.specs.Answers.{Asks, RunsWhole}
 use Rattle.hy_script.specs.Databases.{DatabaseState, part_at}
 use Rattle.hy_script.specs.Steps.{RunsAcross, is_crossing}
 
--- what holds where something isn't there, and where it is
-none-there : {Row : Type 0} (found : Option Row) (Lacks : Type 0) (Does : Row → Type 0) → is_some found ≡ false → Lacks
-    → MatchOption found Lacks Does
-none-there None Lacks Does none lacks = lacks
-none-there (Some row) Lacks Does none lacks = absurd (cc)
-
+-- what holds where something is there
 all-there : {Row : Type 0} (found : Option Row) (Lacks : Type 0) (Does : Row → Type 0) → is_some found ≡ true
     → ((row : Row) → Does row) → MatchOption found Lacks Does
 all-there None Lacks Does there does = absurd (cc)
@@ -29,11 +22,6 @@ from-there None Lacks Was Does there was does = absurd (cc)
 from-there (Some row) Lacks Was Does there was does = does row was
 
 module _ (command : Command) (old new : DatabaseState) where
-  -- its home isn't there
-  pub run-nowhere : is_some (part_at old (home_of command)) ≡ false
-      → RunsWhole command old old (refused_text refusals.NoSuchWarehouse)
-  run-nowhere none = none-there (part_at old (home_of command)) _ _ none (refl, refl)
-
   -- it names several warehouses
   pub run-across : is_some (part_at old (home_of command)) ≡ true → is_crossing command ≡ true → (reply : Reply)
       → RunsAcross command old new reply → RunsWhole command old new (reply_text reply)

@@ -1,11 +1,12 @@
 pub mod ResultLaws
 pub mod ListLaws
+pub mod ChangesLaws
 pub mod ServedLaws
+pub mod TerminalLaws
 pub mod CrossedLaws
 pub mod DatabaseLaws
 pub mod SnapshotLaws
 pub mod NameLaws
-pub mod HeldLaws
 pub mod RunLaws
 pub mod WorkedScripts
 pub mod AskedLaws

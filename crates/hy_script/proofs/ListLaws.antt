@@ -1,40 +1,15 @@
 -- Lists: what stands at a place, and what is left where an item comes or goes.
-use Rattle.std.proofs.Common.{◌≡◌, ◌∙◌, ◌+◌, ◌<◌, ℕ, zero, suc, List, [], ◌∷◌, ◌++◌, Option, None, Some, All, IfSome, IsSomeAnd, length, slice_get, slice_index_or, remove, ap, refl, sym, subst, arith, inl, inr}
+use Rattle.std.proofs.Common.{◌≡◌, ◌∙◌, ◌+◌, ◌<◌, ℕ, List, [], ◌∷◌, ◌++◌, Option, None, Some, All, IsSomeAnd, length, slice_get, slice_index_or, remove, ap, refl, sym, subst, arith, inl, inr}
 use Rattle.std.proofs.lemmas.Bool.{cases_lt}
+use Rattle.hy_session.proofs.of_crossing.PlaceLaws.{get-at}
 use Rattle.hy_session.proofs.of_forks.PlaceLaws.{get-last}
 use Rattle.std.proofs.lemmas.List.Edits.{get_or-remove_above, get_or-remove_below, length-remove}
 
--- the item at a place that is there
-pub item_at : {X : Type 0} (all : List X) (place : ℕ) (item : X)
-    → place < length all → item ≡ slice_index_or all place item → slice_get all place ≡ Some item
-item_at [] place item within is = absurd (omega arith)
-item_at (x ∷ xs) zero item within is = ap Some (sym is)
-item_at (x ∷ xs) (suc place) item within is = item_at xs place item (omega arith) is
-
--- what follows of a value that may be there, and of one that is there
-pub if_some : {X : Type 0} {P Q : X → Type 0} (value : Option X) → ((x : X) → P x → Q x) → IfSome value P
-    → IfSome value Q
-if_some None leads holds = tt
-if_some (Some x) leads holds = leads x holds
-
-pub some_and : {X : Type 0} {P Q : X → Type 0} (value : Option X) → ((x : X) → P x → Q x) → IsSomeAnd value P
-    → IsSomeAnd value Q
-some_and None leads holds = absurd holds
-some_and (Some x) leads holds = leads x holds
-
+-- what follows of a value that is there
 pub from_some : {X : Type 0} {P : X → Type 0} {Q : Type 0} (value : Option X) → ((x : X) → P x → Q) → IsSomeAnd value P
     → Q
 from_some None leads holds = absurd holds
 from_some (Some x) leads holds = leads x holds
-
--- what holds of each item at its place holds with one more behind
-pub each_push : {X : Type 0} (P : ℕ → X → Type 0) (all : List X) (last : X)
-    → ((place : ℕ) → IfSome (slice_get all place) (P place)) → P (length all) last
-    → (place : ℕ) → IfSome (slice_get (all ++ last ∷ []) place) (P place)
-each_push P [] last each it zero = it
-each_push P [] last each it (suc place) = tt
-each_push P (x ∷ xs) last each it zero = each zero
-each_push P (x ∷ xs) last each it (suc place) = each_push (λ n. P (suc n)) xs last (λ n. each (suc n)) it place
 
 pub length-push : {X : Type 0} (all : List X) (last : X) → length (all ++ last ∷ []) ≡ length all + 1
 length-push [] last = refl
@@ -45,7 +20,7 @@ pub last-item : {X : Type 0} (all others : List X) (item last : X) (place : ℕ)
     → place + 1 ≡ length all → item ≡ slice_index_or all place item → item ≡ last
 last-item {X = X} all others item last place is counted at =
     let more : length all ≡ length others + 1 = ap length is ∙ length-push others last in
-    let one : slice_get all place ≡ Some item = item_at all place item (omega (arith, counted)) at in
+    let one : slice_get all place ≡ Some item = get-at all place item (omega (arith, counted)) at in
     let other : slice_get all place ≡ Some last =
     ap (λ (list : List X). slice_get list place) is ∙ get-last others last place (omega (arith, more, counted)) in
     same (sym one ∙ other)

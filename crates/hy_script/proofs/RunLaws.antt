@@ -13,26 +13,12 @@ appends-kept (Some bytes) None after text appends keeps = absurd appends
 appends-kept (Some bytes) (Some more) None text appends keeps = absurd keeps
 appends-kept (Some bytes) (Some more) (Some all) text appends keeps = keeps ∙ appends
 
--- all that was printed is handed on
-pub printed-kept : (n : ℕ) (all : List (ℕ × List ℕ)) (first : DatabaseState) (before middle after : Option (List ℕ))
-    (bad : Option ℕ) → ArePrinted n all first before middle bad → Keeps middle after
-    → ArePrinted n all first before after bad
-printed-kept n all first before middle after bad printed keeps =
-    (printed.0, printed.1, appends-kept before middle after printed.0 printed.2 keeps)
-
 module _ (n : ℕ) (all : List (ℕ × List ℕ)) (first : DatabaseState) (before : Option (List ℕ)) where
   -- what the lines that are left print from here stands behind what was printed, and that is what all of them print
   pub record SoFar (left : List (ℕ × List ℕ)) (now : DatabaseState) (after : Option (List ℕ)) : Type 0 where
     pub printed : List ℕ
     pub goes_on : (rest : List ℕ) (bad : Option ℕ) → Prints n left now rest bad → Prints n all first (printed ++ rest) bad
     pub appends : Appends before after printed
-
-  appends-none : (held : Option (List ℕ)) → Appends held held []
-  appends-none None = tt
-  appends-none (Some bytes) = sym (append-nil bytes)
-
-  pub so_far-first : SoFar all first before
-  so_far-first = record { printed = []; goes_on = λ rest bad prints. prints; appends = appends-none before }
 
   pub so_far-more : (line : ℕ × List ℕ) (later : List (ℕ × List ℕ)) (now next : DatabaseState)
       (after more : Option (List ℕ)) → SoFar (line ∷ later) now after → IsLineAnswered n line.1 now next after more

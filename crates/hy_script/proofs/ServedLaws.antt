@@ -1,16 +1,12 @@
 -- Where a client's pass is behind what is done to a partition.
-use Rattle.std.proofs.Common.{◌≡◌, ◌⊎◌, ◌∙◌, ◌+◌, ◌≤◌, Option, None, Some, Result, Ok, Err, IsOkAnd, IsSome, MatchOption, ap, arith, inl, inr, refl}
+use Rattle.std.proofs.Common.{◌≡◌, ◌⊎◌, ◌∙◌, ◌+◌, ◌≤◌, Option, None, Some, IsSome, MatchOption, ap, arith, inl, inr, refl}
 use Rattle.std.proofs.lemmas.Bool.{false≢true}
-use Rattle.hy_schema.specs.declared.refusal.Refusal.{Refusal}
-use Rattle.hy_schema.specs.declared.refusal.Refusal.TheVariants as refusals
-use Rattle.hy_session.specs.of_partition.declared.job.Progress.{Progress}
-use Rattle.hy_session.specs.of_partition.declared.job.Progress.TheVariants as progress
 use Rattle.hy_session.specs.of_partition.Jobs.{DoneState, Log, RunningJob}
 use Rattle.hy_session.specs.of_partition.Partition.{PartitionState}
 use Rattle.hy_session.specs.of_partition.Parts.{KeepsBeside}
-use Rattle.hy_session.specs.of_partition.Steps.{Accepts, Ends, KeepsJob, Refuses, RefusesAt, StepsTo}
+use Rattle.hy_session.specs.of_partition.Steps.{Accepts, Ends, KeepsJob, Refuses, RefusesAt}
 use Rattle.hy_script.specs.declared.terminal.Terminal.{Terminal}
-use Rattle.hy_script.specs.inside.Invariants.{IsServed, KeepsPlace, KeepsServed, StaysServed, held}
+use Rattle.hy_script.specs.inside.Invariants.{IsServed, KeepsServed, held}
 
 pub held-some : {X : Type 0} (value : Option X) → IsSome value → 0 + 0 + held value ≡ 1
 held-some None is = absurd (false≢true is)
@@ -21,9 +17,6 @@ keeps-same old new same = record {
   max_frames = ap (λ (p : PartitionState). p.space.frames.max) same;
   passes = λ few. ap (λ (p : PartitionState). held p.running + held p.finished) same;
 }
-
-pub place-same : (old new : PartitionState) → new ≡ old → KeepsPlace old new
-place-same old new same = rw same (record { terms = refl; part = refl })
 
 pub keeps-then : (old middle new : PartitionState) → KeepsServed old middle → KeepsServed middle new
     → KeepsServed old new
@@ -62,62 +55,29 @@ module _ (old new : PartitionState) (job : RunningJob) (runs : old.running ≡ S
         omega (arith, few, ran, ended, answered);
   }
 
-  pub place-ended : (answer : DoneState) → Ends old new answer → KeepsPlace old new
-  place-ended answer ends = record { terms = ends.rest.terms; part = ends.rest.part }
-
-  keeps-refused : (done : _) → RefusesAt job done old new → KeepsServed old new × KeepsPlace old new
+  keeps-refused : (done : _) → RefusesAt job done old new → KeepsServed old new
   keeps-refused done refused = elim refused.reason [
-    | inl item ↦ (keeps-ended _ item.2, place-ended _ item.2)
+    | inl item ↦ keeps-ended _ item.2
     | inr other ↦ elim other [
-      | inl frame ↦ (keeps-ended _ frame.2, place-ended _ frame.2)
-      | inr memory ↦ (keeps-ended _ memory.1, place-ended _ memory.1)
+      | inl frame ↦ keeps-ended _ frame.2
+      | inr memory ↦ keeps-ended _ memory.1
     ]
   ]
 
-  pub keeps-ends : (before after : Option Log) → Accepts job before after old new ⊎ Refuses job before after old new
-      → KeepsServed old new × KeepsPlace old new
+  keeps-ends : (before after : Option Log) → Accepts job before after old new ⊎ Refuses job before after old new
+      → KeepsServed old new
   keeps-ends before after ends = elim ends [
-    | inl accepts ↦ (keeps-ended _ accepts.does.ends, place-ended _ accepts.does.ends)
+    | inl accepts ↦ keeps-ended _ accepts.does.ends
     | inr refuses ↦ keeps-refused refuses.done refuses.refused
   ]
 
-  pub keeps-step : (before after : Option Log) (to : Progress) → StepsTo job before after old new to
-      → KeepsServed old new × KeepsPlace old new
-  keeps-step before after progress.More steps =
-      let continues = steps.2 in (
-        record {
-          max_frames = continues.rest.max_frames;
-          passes = λ few. rw (continues.running, runs, continues.finished) refl;
-        },
-        record { terms = continues.rest.terms; part = continues.rest.part },
-      )
-  keeps-step before after progress.Finished steps = elim steps [
-    | inl accepted ↦ keeps-ends before after (inl accepted.1)
-    | inr refused ↦ keeps-refused job.slices refused.1
-  ]
-
--- ---- a step, where a job runs or not
-
-module _ (old new : PartitionState) (before after : Log) where
-  stepped : (job : RunningJob) → old.running ≡ Some job → (result : Result Progress Refusal)
-      → IsOkAnd result (StepsTo job (Some before) (Some after) old new) → KeepsServed old new × KeepsPlace old new
-  stepped job runs (Ok to) steps = keeps-step old new job runs (Some before) (Some after) to steps
-  stepped job runs (Err refusal) steps = absurd steps
-
-  pub keeps-stepped : (running : Option RunningJob) → old.running ≡ running → (result : Result Progress Refusal)
-      → MatchOption running ((result ≡ Err refusals.NotRunning) × (new ≡ old) × (after ≡ before))
-      (λ job. IsOkAnd result (StepsTo job (Some before) (Some after) old new))
-      → KeepsServed old new × KeepsPlace old new
-  keeps-stepped None idle result none = (keeps-same old new none.1, place-same old new none.1)
-  keeps-stepped (Some job) runs result steps = stepped job runs result steps
-
-  -- the job that runs, if one does, comes to its end
-  pub keeps-finished : (running : Option RunningJob) → old.running ≡ running
-      → MatchOption running ((new ≡ old) × (after ≡ before))
-      (λ job. Accepts job (Some before) (Some after) old new ⊎ Refuses job (Some before) (Some after) old new)
-      → KeepsServed old new × KeepsPlace old new
-  keeps-finished None idle none = (keeps-same old new none.0, place-same old new none.0)
-  keeps-finished (Some job) runs ends = keeps-ends old new job runs (Some before) (Some after) ends
+-- the job that runs, if one does, comes to its end
+pub keeps-finished : (old new : PartitionState) (before after : Log) (running : Option RunningJob)
+    → old.running ≡ running → MatchOption running ((new ≡ old) × (after ≡ before))
+    (λ job. Accepts job (Some before) (Some after) old new ⊎ Refuses job (Some before) (Some after) old new)
+    → KeepsServed old new
+keeps-finished old new before after None idle none = keeps-same old new none.0
+keeps-finished old new before after (Some job) runs ends = keeps-ends old new job runs (Some before) (Some after) ends
 
 -- ---- the terminal
 
@@ -129,8 +89,3 @@ module _ {K : Type 0} (old new : PartitionState) (terminal : Terminal K) (served
         max_frames = keeps.max_frames ∙ served.max_frames;
         one_pass = omega (arith, keeps.passes few, served.one_pass);
       }
-
-  pub stays-kept : KeepsServed old new → KeepsPlace old new → StaysServed old new terminal
-  stays-kept keeps place =
-      let kept = served-kept keeps in
-      record { terms = place.terms; part = place.part; max_frames = kept.max_frames; one_pass = kept.one_pass }

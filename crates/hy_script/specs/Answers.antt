@@ -1,5 +1,5 @@
 -- The text that answers an event, and what the event does.
-use Rattle.std.specs.Prelude.{◌≡◌, ◌⊎◌, ℕ, true, false, List, ◌++◌, Option, None, Some, MatchOption, IsSomeAnd, Result, Ok, Err, IsOk, codes, decimal, length, slice_get}
+use Rattle.std.specs.Prelude.{◌≡◌, ◌⊎◌, ℕ, true, false, List, ◌++◌, Option, None, Some, MatchOption, IsSomeAnd, Result, Ok, Err, IsOk, codes, decimal, slice_get}
 use Rattle.std.specs.List.{flat_map}
 use Rattle.hy_schema.specs.declared.refusal.Refusal.{Refusal}
 use Rattle.hy_schema.specs.declared.refusal.Refusal.TheVariants as refusals

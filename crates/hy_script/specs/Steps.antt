@@ -1,7 +1,8 @@
 -- What an event does to one warehouse, or to all of them.
-use Rattle.std.specs.Prelude.{◌≡◌, ◌⊎◌, ℕ, Bool, nat_lt, List, ◌+◌, ◌-◌, [], ◌∷◌, ◌++◌, Option, None, Some, length, map, remove, slice_get}
+use Rattle.std.specs.Prelude.{◌≡◌, ◌⊎◌, ℕ, Bool, nat_lt, List, ◌+◌, ◌-◌, [], ◌∷◌, ◌++◌, MatchResult, Option, None, Result, Some, length, map, remove, slice_get}
 use Rattle.hy_worlds.specs.Origins.{Origin}
 use Rattle.hy_schema.specs.declared.refusal.Refusal.{Refusal}
+use Rattle.hy_schema.specs.declared.refusal.Refusal.TheVariants as refusals
 use Rattle.hy_commands.specs.declared.command.Command.{Command}
 use Rattle.hy_commands.specs.declared.reply.Reply.{Reply}
 use Rattle.hy_commands.specs.declared.reply.Reply.TheVariants as replies
@@ -13,9 +14,10 @@ use Rattle.hy_session.specs.of_partition.Jobs.{DoneState, JobState, Log, Running
 use Rattle.hy_session.specs.of_partition.Partition.{PartitionState}
 use Rattle.hy_session.specs.of_partition.Snapshots.{SnapshotState}
 use Rattle.hy_session.specs.of_partition.Steps.{Accepts, IsUnbegun, KeepsJob, Refuses, begin_refusal, with_job}
-use Rattle.hy_session.specs.of_crossing.Crossings.{ArePartitions, Crosses, database_behind}
+use Rattle.hy_session.specs.of_crossing.Crossings.{database_behind}
 use Rattle.hy_session.specs.of_crossing.Lists.{Pairwise}
 use Rattle.hy_session.specs.of_forks.Forks.{ClosesHere, ForksAll, ForksAllFrom, SpellsDatabase, shown}
+use Rattle.hy_session.specs.of_forks.Partitions.{AreWhole, CrossesAndTells}
 use Rattle.hy_script.specs.Databases.{DatabaseState, OpenSnapshot}
 
 -- ---- commands of one warehouse
@@ -26,6 +28,11 @@ pub record IsBegun (command : Command) (old new : PartitionState) : Type 0 where
   pub job : JobState
   pub command_is : job.command ≡ command
   pub after : new ≡ with_job old job
+
+-- or it is refused, and then nothing changes
+abbrev pub IsBegunUnless : Command → Result (Unit {0}) Refusal → PartitionState → PartitionState → Type 0
+IsBegunUnless command result old new =
+    MatchResult result (λ done. IsBegun command old new) (λ why. IsUnbegun old command why × (new ≡ old))
 
 -- a job that runs comes to its end, with the serial list before and after
 abbrev pub Ends : RunningJob → Log → Log → PartitionState → PartitionState → Type 0
@@ -62,11 +69,11 @@ is_crossing command = nat_lt 1 (length (warehouses_of command))
 -- a whole command was run over several warehouses of the load that the partitions are of, for some client
 pub record RunsAcross (command : Command) (old new : DatabaseState) (reply : Reply) : Type 0 where
   pub lists : Lists
-  pub load : ArePartitions lists old.parts
+  pub load : AreWhole lists old.parts
   pub job : JobState
   pub command_is : job.command ≡ command
   pub answer : DoneState
-  pub crosses : Crosses lists job old.log new.log old.parts new.parts answer
+  pub crosses : CrossesAndTells lists job old.log new.log old.parts new.parts answer
   pub replies : answer.reply ≡ reply
   pub snapshots : new.snapshots ≡ old.snapshots
 
@@ -80,7 +87,7 @@ pub record Opens (page_size : ℕ) (name : List ℕ) (old new : DatabaseState) :
   pub parts : List SnapshotState
   pub forks : ForksAll page_size kit old.log known old.parts new.parts parts
   pub lists : Lists
-  pub load : ArePartitions lists old.parts
+  pub load : AreWhole lists old.parts
   pub spells : SpellsDatabase page_size (database_behind lists old.log) parts
   pub snapshots : new.snapshots ≡ old.snapshots ++ record { name = name; parts = parts } ∷ []
 
@@ -117,3 +124,9 @@ pub record IsLimited (more : ℕ) (old new : PartitionState) : Type 0 where
   pub seen : new.seen ≡ old.seen
   pub open_snapshots : new.snapshots ≡ old.snapshots
   pub children : SameForChildren old.space new.space
+
+-- or it is no limit for the frames in use, and then nothing changes
+abbrev pub IsLimitedUnless : ℕ → Result (Unit {0}) Refusal → PartitionState → PartitionState → Type 0
+IsLimitedUnless more result old new =
+    MatchResult result (λ done. IsLimited more old new) (λ why. (why ≡ refusals.OutOfRange)
+    × (¬ IsLimitFor old.space.frames (limit_for old.space.frames more)) × (new ≡ old))

@@ -1,11 +1,12 @@
 //! What an event asks of one warehouse, and the answer.
 
-ghost use Rattle.std.specs.Prelude.{◌≡◌, ◌++◌, IsTrue, OnErr, OnOk, codes, decimal};
+ghost use Rattle.std.specs.Prelude.{◌≡◌, ◌<◌, ◌++◌, IsTrue, OnErr, OnOk, codes, decimal, length};
 ghost use Rattle.std.specs.Io.KnownBytes.{Appends};
+ghost use Rattle.hy_session.specs.of_crossing.Lists.{ChangesAt};
 ghost use Rattle.hy_session.specs.of_partition.Jobs.{Log};
 ghost use Rattle.hy_script.specs.Answers.{AnswersQuery, Grants, begun_text, count_text, progress_text, refused_text, waiting_text};
 ghost use Rattle.hy_script.specs.Printed.{IsGranted, IsWritten};
-ghost use Rattle.hy_script.specs.inside.Invariants.{IsServed, KeepsPlace, KeepsServed, StaysServed};
+ghost use Rattle.hy_script.specs.inside.Invariants.{IsServed, IsServedAt, KeepsServed};
 
 use crate::terminal::Terminal;
 use hy_commands::{Command, Commit, Reply};
@@ -14,7 +15,8 @@ use hy_output::Output;
 use hy_passes::Journal;
 use hy_schema::Refusal;
 use hy_session::Session;
-use hy_session::hy_partition::{Loaded, Partition, Progress};
+use hy_session::hy_forks::OwnPartitions;
+use hy_session::hy_partition::{Loaded, Progress};
 use std::alloc::Global;
 use std::io;
 
@@ -39,29 +41,30 @@ pub enum Request {
     Limit(u64),
 }
 
-/// Does what is asked of a warehouse, by its partition and its terminal, and writes the answer.
+/// Does what is asked of the warehouse at a place, by its partition and its terminal, and writes the answer.
 pub fn grant<const N: usize, K: Loaded, O: Output>(
-    part: &mut Partition<N, K>,
+    partitions: &mut OwnPartitions<N, K>,
+    place: usize,
     terminal: &mut Terminal<K>,
     journal: &mut Journal<Commit, K>,
     request: Request,
     out: &mut O,
 ) -> io::Result<()>
-    requires served { IsServed part.old terminal.old }
-    ensures granted { OnOk result (IsGranted request journal.old.list.log journal.new.list.log
-        part.old part.new (O.contents out.old) (O.contents out.new)) }
+    requires there { place < length partitions.old }
+    requires served { IsServedAt partitions.old place terminal.old }
+    ensures granted { ChangesAt (λ p q. OnOk result (IsGranted request journal.old.list.log journal.new.list.log p q
+        (O.contents out.old) (O.contents out.new)) × IsServed q terminal.new) place partitions.old partitions.new }
     ensures failed { OnErr result (IsTrue (O.has_failed out.new)) }
-    ensures stays { StaysServed part.old part.new terminal.new }
 {
     match request {
-        Request::Run(command) => run(part, terminal, journal, command, out),
-        Request::Begin(command) => begin(part, terminal, command, out),
-        Request::Step => step(part, journal, out),
-        Request::Done => write_waiting(out, terminal.take_reply(part)),
-        Request::Touched => write_count(out, "touched", part.touched()),
-        Request::Free => write_count(out, "free", part.free()),
-        Request::Shared => write_count(out, "shared", part.shared()),
-        Request::Limit(more) => limit(part, terminal, more, out),
+        Request::Run(command) => run(partitions, place, terminal, journal, command, out),
+        Request::Begin(command) => begin(partitions, place, terminal, command, out),
+        Request::Step => step(partitions, place, journal, out),
+        Request::Done => write_waiting(out, terminal.take_reply(partitions, place)),
+        Request::Touched => write_count(out, "touched", partitions.part(place).touched()),
+        Request::Free => write_count(out, "free", partitions.part(place).free()),
+        Request::Shared => write_count(out, "shared", partitions.part(place).shared()),
+        Request::Limit(more) => limit(partitions, place, terminal, more, out),
     }
 }
 
@@ -84,36 +87,39 @@ pub fn write_answer<const N: usize, O: Output>(
 
 /// Runs a command as a whole, and writes its reply.
 fn run<const N: usize, K: Loaded, O: Output>(
-    part: &mut Partition<N, K>,
+    partitions: &mut OwnPartitions<N, K>,
+    place: usize,
     terminal: &mut Terminal<K>,
     journal: &mut Journal<Commit, K>,
     command: Command,
     out: &mut O,
 ) -> io::Result<()>
-    requires served { IsServed part.old terminal.old }
-    ensures granted { OnOk result (IsGranted (Request.Run command) journal.old.list.log journal.new.list.log
-        part.old part.new (O.contents out.old) (O.contents out.new)) }
+    requires there { place < length partitions.old }
+    requires served { IsServedAt partitions.old place terminal.old }
+    ensures granted { ChangesAt (λ p q. OnOk result (IsGranted (Request.Run command) journal.old.list.log
+        journal.new.list.log p q (O.contents out.old) (O.contents out.new)) × IsServed q terminal.new) place
+        partitions.old partitions.new }
     ensures failed { OnErr result (IsTrue (O.has_failed out.new)) }
-    ensures stays { StaysServed part.old part.new terminal.new }
 {
-    let reply = terminal.run(part, journal, command);
+    let reply = terminal.run(partitions, place, journal, command);
     write_reply(out, &reply)
 }
 
 /// Begins a command, and writes that it did or why not.
 fn begin<const N: usize, K: Loaded, O: Output>(
-    part: &mut Partition<N, K>,
+    partitions: &mut OwnPartitions<N, K>,
+    place: usize,
     terminal: &mut Terminal<K>,
     command: Command,
     out: &mut O,
 ) -> io::Result<()>
-    requires served { IsServed part.old terminal.old }
-    ensures granted { (log : Log) → OnOk result (IsGranted (Request.Begin command) log log
-        part.old part.new (O.contents out.old) (O.contents out.new)) }
+    requires there { place < length partitions.old }
+    requires served { IsServedAt partitions.old place terminal.old }
+    ensures granted { (log : Log) → ChangesAt (λ p q. OnOk result (IsGranted (Request.Begin command) log log p q
+        (O.contents out.old) (O.contents out.new)) × IsServed q terminal.new) place partitions.old partitions.new }
     ensures failed { OnErr result (IsTrue (O.has_failed out.new)) }
-    ensures stays { StaysServed part.old part.new terminal.new }
 {
-    match terminal.begin(part, command) {
+    match terminal.begin(partitions, place, command) {
         Ok(()) => writeln!(out, "begun"),
         Err(refusal) => write_refused(out, refusal),
     }
@@ -121,17 +127,17 @@ fn begin<const N: usize, K: Loaded, O: Output>(
 
 /// Does a slice of what runs, and writes whether more are to come.
 fn step<const N: usize, K: Loaded, O: Output>(
-    part: &mut Partition<N, K>,
+    partitions: &mut OwnPartitions<N, K>,
+    place: usize,
     journal: &mut Journal<Commit, K>,
     out: &mut O,
 ) -> io::Result<()>
-    ensures granted { OnOk result (IsGranted Request.Step journal.old.list.log journal.new.list.log
-        part.old part.new (O.contents out.old) (O.contents out.new)) }
+    requires there { place < length partitions.old }
+    ensures granted { ChangesAt (λ p q. OnOk result (IsGranted Request.Step journal.old.list.log journal.new.list.log p q
+        (O.contents out.old) (O.contents out.new)) × KeepsServed p q) place partitions.old partitions.new }
     ensures failed { OnErr result (IsTrue (O.has_failed out.new)) }
-    ensures keeps { KeepsServed part.old part.new }
-    ensures place { KeepsPlace part.old part.new }
 {
-    match part.step(journal) {
+    match partitions.step(place, journal) {
         Ok(progress) => write_progress(out, progress),
         Err(refusal) => write_refused(out, refusal),
     }
@@ -139,18 +145,19 @@ fn step<const N: usize, K: Loaded, O: Output>(
 
 /// Sets the limit on frames, and writes how many more there may be.
 fn limit<const N: usize, K: Loaded, O: Output>(
-    part: &mut Partition<N, K>,
+    partitions: &mut OwnPartitions<N, K>,
+    place: usize,
     terminal: &mut Terminal<K>,
     more: u64,
     out: &mut O,
 ) -> io::Result<()>
-    requires served { IsServed part.old terminal.old }
-    ensures granted { (log : Log) → OnOk result (IsGranted (Request.Limit more) log log
-        part.old part.new (O.contents out.old) (O.contents out.new)) }
+    requires there { place < length partitions.old }
+    requires served { IsServedAt partitions.old place terminal.old }
+    ensures granted { (log : Log) → ChangesAt (λ p q. OnOk result (IsGranted (Request.Limit more) log log p q
+        (O.contents out.old) (O.contents out.new)) × IsServed q terminal.new) place partitions.old partitions.new }
     ensures failed { OnErr result (IsTrue (O.has_failed out.new)) }
-    ensures stays { StaysServed part.old part.new terminal.new }
 {
-    match terminal.limit(part, more) {
+    match terminal.limit(partitions, place, more) {
         Ok(()) => write_count(out, "free", more),
         Err(refusal) => write_refused(out, refusal),
     }

@@ -26,9 +26,8 @@ use hy_output::Output;
 use hy_passes::{Journal, PartitionSeat, Pass};
 use hy_schema::Refusal;
 use hy_session::Session;
-use hy_session::hy_crossing::{cross, partitions_of};
-use hy_session::hy_forks::fork_all;
-use hy_session::hy_partition::{Job, Loaded, Partition, Snapshot};
+use hy_session::hy_forks::OwnPartitions;
+use hy_session::hy_partition::{Job, Loaded, Snapshot};
 use std::alloc::Global;
 use std::io;
 use std::marker::Model;
@@ -37,7 +36,7 @@ use std::marker::Model;
 /// their forks; the journal of the commits, and the pass of the client who takes the snapshots and runs the commands
 /// over several warehouses, which is always here between calls. It is given up by `end`.
 pub struct Database<'a, const N: usize, K: Loaded> {
-    parts: Vec<Partition<N, K>>,
+    partitions: OwnPartitions<N, K>,
     terminals: Vec<Terminal<K>>,
     snapshots: Vec<Named<'a, N>>,
     journal: Journal<Commit, K>,
@@ -52,12 +51,12 @@ impl<'a, const N: usize, K: Loaded> Model for Database<'a, N, K> {
     ghost Value = { DatabaseState };
 
     ghost view = { λ database. record {
-      parts = database.parts.items;
+      parts = database.partitions;
       snapshots = database.snapshots.items;
       log = database.journal.list.log;
     } };
 
-    ghost invariant = { λ database. IsDatabase K.passes K.load database.parts.items database.terminals.items
+    ghost invariant = { λ database. IsDatabase K.passes K.load database.partitions database.terminals.items
         database.snapshots.items database.pass };
 }
 
@@ -86,10 +85,10 @@ impl<'a, const N: usize, K: Loaded> Database<'a, N, K> {
         ensures starts { IfOk result (StartsFrom load.now max_frames max_kept) }
         ensures refused { IfErr result (IsWhyNoneMade N load.now max_frames) }
     {
-        let parts = partitions_of(alloc, load, seats, max_frames, max_kept)?;
-        let terminals = terminals_of(alloc, &mut passes, parts.len(), max_frames)?;
+        let partitions = OwnPartitions::of_load(alloc, load, seats, max_frames, max_kept)?;
+        let terminals = terminals_of(alloc, &mut passes, partitions.len(), max_frames)?;
         Ok(Database {
-            parts,
+            partitions,
             terminals,
             snapshots: Vec::new(alloc),
             journal,
@@ -105,7 +104,8 @@ impl<'a, const N: usize, K: Loaded> Database<'a, N, K> {
     {
         match self.place_of(number) {
             Some(place) => grant(
-                &mut self.parts[place],
+                &mut self.partitions,
+                place,
                 &mut self.terminals[place],
                 &mut self.journal,
                 request,
@@ -121,7 +121,7 @@ impl<'a, const N: usize, K: Loaded> Database<'a, N, K> {
             (λ place. (number ≡ suc place) × (place < length self.now.parts)) }
     {
         let place = number.checked_sub(1)? as usize;
-        if place < self.parts.len() {
+        if place < self.partitions.len() {
             Some(place)
         } else {
             None
@@ -143,7 +143,10 @@ impl<'a, const N: usize, K: Loaded> Database<'a, N, K> {
         let Some(pass) = self.pass.take() else {
             unreachable!();
         };
-        let done = cross(&mut self.parts, &mut self.journal, Job::new(command, pass));
+        self.partitions.sound();
+        let done = self
+            .partitions
+            .cross(&mut self.journal, Job::new(command, pass));
         let (reply, pass, _share) = done.open();
         self.pass = Some(pass);
         reply
@@ -168,8 +171,10 @@ impl<'a, const N: usize, K: Loaded> Database<'a, N, K> {
         let Some(pass) = &mut self.pass else {
             unreachable!();
         };
-        let alloc = *self.parts.allocator();
-        let snapshot = fork_all(alloc, &mut self.parts, &mut self.journal, pass)?;
+        let alloc = *self.snapshots.allocator();
+        self.partitions.sound();
+        let snapshot = self.partitions.fork_all(alloc, &mut self.journal, pass)?;
+        self.partitions.sound();
         let session = Session::new(snapshot);
         self.snapshots.push_reserved(Named::new(name, session));
         Ok(())
@@ -186,12 +191,19 @@ impl<'a, const N: usize, K: Loaded> Database<'a, N, K> {
         ensures log { self.new.log ≡ self.old.log }
     {
         self.snapshots.reserve(1)?;
-        let alloc = *self.parts.allocator();
-        match self.snapshots[place].session().fork(alloc, &mut self.parts) {
-            Ok(session) => self.snapshots.push_reserved(Named::new(name, session)),
-            Err(refusal) => return Err(refusal),
+        let alloc = *self.snapshots.allocator();
+        self.partitions.sound();
+        match self.snapshots[place]
+            .session()
+            .fork(alloc, &mut self.partitions)
+        {
+            Ok(session) => {
+                self.partitions.sound();
+                self.snapshots.push_reserved(Named::new(name, session));
+                Ok(())
+            }
+            Err(refusal) => Err(refusal),
         }
-        Ok(())
     }
 
     /// Closes the snapshot at a place.
@@ -201,7 +213,8 @@ impl<'a, const N: usize, K: Loaded> Database<'a, N, K> {
         ensures count { length self.new.snapshots + 1 ≡ length self.old.snapshots }
     {
         let session = self.snapshots.remove(place).into_session();
-        match session.close_all(&mut self.parts) {
+        self.partitions.sound();
+        match session.close_all(&mut self.partitions) {
             Ok(()) => {}
             Err(_) => unreachable!(),
         }
@@ -219,7 +232,7 @@ impl<'a, const N: usize, K: Loaded> Database<'a, N, K> {
             (λ snapshot. IsWritten (AnswersQuery N text.now snapshot.parts) (O.contents out.old) (O.contents out.new))) }
         ensures failed { OnErr result (IsTrue (O.has_failed out.new)) }
     {
-        let alloc = *self.parts.allocator();
+        let alloc = *self.snapshots.allocator();
         write_answer(alloc, self.snapshots[place].session(), text, out)
     }
 
@@ -230,7 +243,7 @@ impl<'a, const N: usize, K: Loaded> Database<'a, N, K> {
             (λ snapshot. IsWritten (AnswersCheck N snapshot.parts) (O.contents out.old) (O.contents out.new))) }
         ensures failed { OnErr result (IsTrue (O.has_failed out.new)) }
     {
-        let alloc = *self.parts.allocator();
+        let alloc = *self.snapshots.allocator();
         match self.snapshots[place].session().check_conditions(alloc) {
             Ok(None) => out.write_all(b"conditions 1 2 3 4 5 6 7 8 9 10 12 hold\n"),
             Ok(Some(number)) => writeln!(out, "condition {number} broken"),
@@ -258,7 +271,7 @@ impl<'a, const N: usize, K: Loaded> Database<'a, N, K> {
             self.close(last);
         }
         let Database {
-            parts: _,
+            partitions: _,
             terminals: _,
             snapshots,
             journal: _,

@@ -1,16 +1,15 @@
 //! The terminal of a warehouse: where its client's commands come in.
 
-ghost use Rattle.std.specs.Prelude.{◌≡◌, ◌+◌, All, IfErr, IfOk, IsErr, None, OnErr, OnOk, length};
-ghost use Rattle.std.specs.Option.{option_map};
-ghost use Rattle.hy_frames.specs.FrameTable.{IsLimitFor};
-ghost use Rattle.hy_session.specs.of_partition.Steps.{IsUnbegun};
-ghost use Rattle.hy_script.specs.Steps.{IsBegun, IsLimited, Runs, limit_for};
-ghost use Rattle.hy_script.specs.inside.Invariants.{IsReady, IsServed, StaysServed};
+ghost use Rattle.std.specs.Prelude.{◌≡◌, ◌+◌, ◌<◌, All, IfOk, None, OnOk, length};
+ghost use Rattle.hy_session.specs.of_crossing.Lists.{ChangesAt};
+ghost use Rattle.hy_script.specs.Steps.{IsBegunUnless, IsLimitedUnless, Runs, reply_waiting};
+ghost use Rattle.hy_script.specs.inside.Invariants.{IsReady, IsServed, IsServedAt};
 
 use hy_commands::{Command, Commit, Reply};
 use hy_passes::{Journal, Pass};
 use hy_schema::Refusal;
-use hy_session::hy_partition::{Job, Loaded, Partition};
+use hy_session::hy_forks::OwnPartitions;
+use hy_session::hy_partition::{Job, Loaded};
 use std::alloc::{AllocError, Global};
 
 /// What the script knows of a warehouse beside its partition.
@@ -43,22 +42,22 @@ pub(crate) fn terminals_of<K: Loaded>(
 }
 
 impl<K: Loaded> Terminal<K> {
-    /// Begins a command in the partition. What refuses it changes nothing.
+    /// Begins a command in the partition at a place. What refuses it changes nothing.
     pub fn begin<const N: usize>(
         &mut self,
-        part: &mut Partition<N, K>,
+        partitions: &mut OwnPartitions<N, K>,
+        place: usize,
         command: Command,
     ) -> Result<(), Refusal>
-        requires served { IsServed part.old self.old }
-        ensures begun { OnOk result (IsBegun command part.old part.new) }
-        ensures refused { IfErr result (IsUnbegun part.old command) }
-        ensures unchanged { OnErr result (part.new ≡ part.old) }
-        ensures stays { StaysServed part.old part.new self.new }
+        requires there { place < length partitions.old }
+        requires served { IsServedAt partitions.old place self.old }
+        ensures begun { ChangesAt (λ p q. IsBegunUnless command result p q × IsServed q self.new) place
+            partitions.old partitions.new }
     {
         let Some(pass) = self.pass.take() else {
             return Err(Refusal::Busy);
         };
-        match part.begin(Job::new(command, pass)) {
+        match partitions.begin(place, Job::new(command, pass)) {
             Ok(()) => Ok(()),
             Err((job, refusal)) => {
                 let (_reply, pass, _share) = job.refuse(refusal).open();
@@ -68,35 +67,42 @@ impl<K: Loaded> Terminal<K> {
         }
     }
 
-    /// Runs a command of one warehouse as a whole in the partition. Its reply is the refusal where it isn't begun.
+    /// Runs a command of one warehouse as a whole in the partition at a place. Its reply is the refusal where it isn't
+    /// begun.
     pub fn run<const N: usize>(
         &mut self,
-        part: &mut Partition<N, K>,
+        partitions: &mut OwnPartitions<N, K>,
+        place: usize,
         journal: &mut Journal<Commit, K>,
         command: Command,
     ) -> Reply
-        requires served { IsServed part.old self.old }
-        ensures runs { Runs command journal.old.list.log journal.new.list.log part.old part.new result }
-        ensures stays { StaysServed part.old part.new self.new }
+        requires there { place < length partitions.old }
+        requires served { IsServedAt partitions.old place self.old }
+        ensures runs { ChangesAt (λ p q. Runs command journal.old.list.log journal.new.list.log p q result
+            × IsServed q self.new) place partitions.old partitions.new }
     {
-        if let Err(refusal) = self.begin(part, command) {
+        if let Err(refusal) = self.begin(partitions, place, command) {
             return Reply::Refused(refusal);
         }
-        part.finish_running(journal);
-        match self.take_reply(part) {
+        partitions.finish_running(place, journal);
+        match self.take_reply(partitions, place) {
             Some(reply) => reply,
             None => unreachable!(),
         }
     }
 
-    /// The reply to the job that ended in the partition, once.
-    pub fn take_reply<const N: usize>(&mut self, part: &mut Partition<N, K>) -> Option<Reply>
-        requires served { IsServed part.old self.old }
-        ensures taken { result ≡ option_map (λ done. done.reply) part.old.finished }
-        ensures after { part.new ≡ record part.old { finished = None } }
-        ensures stays { StaysServed part.old part.new self.new }
+    /// The reply to the job that ended in the partition at a place, once.
+    pub fn take_reply<const N: usize>(
+        &mut self,
+        partitions: &mut OwnPartitions<N, K>,
+        place: usize,
+    ) -> Option<Reply>
+        requires there { place < length partitions.old }
+        requires served { IsServedAt partitions.old place self.old }
+        ensures taken { ChangesAt (λ p q. (result ≡ reply_waiting p.finished) × (q ≡ record p { finished = None })
+            × IsServed q self.new) place partitions.old partitions.new }
     {
-        match part.take_done() {
+        match partitions.take_done(place) {
             Some(done) => {
                 let (reply, pass, _share) = done.open();
                 self.pass = Some(pass);
@@ -106,25 +112,23 @@ impl<K: Loaded> Terminal<K> {
         }
     }
 
-    /// Lets the partition have so many frames more than it uses. E8 where that is no limit for it.
+    /// Lets the partition at a place have so many frames more than it uses. E8 where that is no limit for it.
     pub fn limit<const N: usize>(
         &mut self,
-        part: &mut Partition<N, K>,
+        partitions: &mut OwnPartitions<N, K>,
+        place: usize,
         more: u64,
     ) -> Result<(), Refusal>
-        requires served { IsServed part.old self.old }
-        ensures limited { OnOk result (IsLimited more part.old part.new) }
-        ensures refused { IfErr result (λ refusal. refusal ≡ Refusal.OutOfRange) }
-        ensures out_of_range { IsErr result → ¬ IsLimitFor part.old.space.frames
-            (limit_for part.old.space.frames more) }
-        ensures unchanged { OnErr result (part.new ≡ part.old) }
-        ensures stays { StaysServed part.old part.new self.new }
+        requires there { place < length partitions.old }
+        requires served { IsServedAt partitions.old place self.old }
+        ensures limited { ChangesAt (λ p q. IsLimitedUnless more result p q × IsServed q self.new) place
+            partitions.old partitions.new }
     {
-        let used = self.max_frames - part.free();
+        let used = self.max_frames - partitions.part(place).free();
         let Some(max) = used.checked_add(more) else {
             return Err(Refusal::OutOfRange);
         };
-        part.set_max(max)?;
+        partitions.set_max(place, max)?;
         self.max_frames = max;
         Ok(())
     }

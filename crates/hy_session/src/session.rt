@@ -3,7 +3,6 @@
 ghost use Rattle.std.specs.Prelude.{◌≡◌, ◌⊎◌, ◌≤◌, ◌==◌, ◌↔◌, Err, false, IfErr, IfOk, IsOk, IsOkAnd, IsTrue, MatchResult, OnErr, OnOk, filter, length, map};
 ghost use Rattle.hy_schema.specs.declared.refusal.Refusal.TheVariants.{BadQuery, NoMemory, NotMine};
 ghost use Rattle.hy_commands.specs.Parts.{Database};
-ghost use Rattle.hy_forks.specs.Crossings.{ArePartitions, HaveNoPart};
 ghost use Rattle.hy_forks.specs.Lists.{Pairwise};
 ghost use Rattle.hy_forks.specs.Forks.{AreOfKit, ClosesHere, ForksAllFrom, IsUnforkedUntold, SpellsDatabase, are_from, shown};
 ghost use Rattle.hy_session.specs.Snapshots.{lists_of_all};
@@ -17,7 +16,7 @@ use crate::rows::{rows_of_all, tables_of_all};
 use crate::scans::{run, run_in, run_par};
 use hy_answers::{Answer, text_of};
 use hy_conditions::first_broken;
-use hy_forks::{Loaded, Partition, Parts, SnapshotAll, close_all, fork_all_from};
+use hy_forks::{Loaded, Partition, Partitions, Parts, SnapshotAll};
 use hy_query::{Query, parse_query};
 use hy_rows::{NewOrder, Tables, Warehouse};
 use hy_schema::Refusal;
@@ -149,47 +148,40 @@ impl<const N: usize> Session<N> {
         Ok(tables_of_all(alloc, &self.all)?)
     }
 
-    /// A session on what this one sees, which lives on when this one is closed, as `fork_all_from` of hy_forks gives it. E11
+    /// A session on what this one sees, which lives on when this one is closed, as `fork_all_from` of `Partitions` gives it. E11
     /// where one of its parts is another warehouse's or one of a kit with another name; E1.
     pub fn fork<K: Loaded, P: Parts<Part = Partition<N, K>>>(
         &self,
         alloc: Global,
-        parts: &mut P,
+        partitions: &mut Partitions<N, K, P>,
     ) -> Result<Session<N>, Refusal>
-        requires parts { ArePartitions K.load (P.states parts.old) }
-        requires whole { HaveNoPart (P.states parts.old) }
-        ensures forks { IfOk result (ForksAllFrom K.passes self.now (P.states parts.old) (P.states parts.new)) }
+        ensures forks { IfOk result (ForksAllFrom K.passes self.now partitions.old partitions.new) }
         ensures shown { IfOk result (λ again. map shown again ≡ map shown self.now) }
         ensures rows { IfOk result (λ again. lists_of_all N again ≡ lists_of_all N self.now) }
         ensures kit { IfOk result (AreOfKit K.passes) }
-        ensures mine { result ≡ Err NotMine ↔ (are_from K.passes self.now (P.states parts.old) ≡ false) }
+        ensures own { IfOk result (λ again. IsTrue (are_from K.passes again partitions.new)) }
+        ensures mine { result ≡ Err NotMine ↔ (are_from K.passes self.now partitions.old ≡ false) }
         ensures refused { IfErr result (λ why. (why ≡ NotMine) ⊎ (why ≡ NoMemory)) }
-        ensures err { OnErr result (Pairwise (λ number. IsUnforkedUntold) 1 (P.states parts.old) (P.states parts.new)) }
-        ensures parts { ArePartitions K.load (P.states parts.new) }
-        ensures whole { HaveNoPart (P.states parts.new) }
+        ensures err { OnErr result (Pairwise (λ number. IsUnforkedUntold) 1 partitions.old partitions.new) }
     {
-        let all = fork_all_from(alloc, parts, &self.all)?;
+        let all = partitions.fork_all_from(alloc, &self.all)?;
         Ok(Session { all })
     }
 
-    /// Gives the snapshot back, as `close_all` of hy_forks does: E11 where one of its parts is another warehouse's or one
+    /// Gives the snapshot back, as `close_all` of `Partitions` does: E11 where one of its parts is another warehouse's or one
     /// of a kit with another name, and then the session comes back, and nothing is closed.
     pub fn close_all<K: Loaded, P: Parts<Part = Partition<N, K>>>(
         self,
-        parts: &mut P,
+        partitions: &mut Partitions<N, K, P>,
     ) -> Result<(), (Session<N>, Refusal)>
-        requires parts { ArePartitions K.load (P.states parts.old) }
-        requires whole { HaveNoPart (P.states parts.old) }
         requires kit { AreOfKit K.passes self }
-        ensures mine { IsOk result ↔ IsTrue (are_from K.passes self.entry (P.states parts.old)) }
-        ensures closes { OnOk result (Pairwise (ClosesHere self.entry) 1 (P.states parts.old) (P.states parts.new)) }
+        ensures mine { IsOk result ↔ IsTrue (are_from K.passes self.entry partitions.old) }
+        ensures closes { OnOk result (Pairwise (ClosesHere self.entry) 1 partitions.old partitions.new) }
         ensures refused { IfErr result (λ refused. (refused.0 ≡ self.entry) × (refused.1 ≡ NotMine)) }
-        ensures err { OnErr result (P.states parts.new ≡ P.states parts.old) }
-        ensures parts { ArePartitions K.load (P.states parts.new) }
-        ensures whole { HaveNoPart (P.states parts.new) }
+        ensures err { OnErr result (partitions.new ≡ partitions.old) }
     {
         let Session { all } = self;
-        match close_all(parts, all) {
+        match partitions.close_all(all) {
             Ok(()) => Ok(()),
             Err((all, refusal)) => Err((Session { all }, refusal)),
         }

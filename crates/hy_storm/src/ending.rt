@@ -5,7 +5,7 @@ ghost use Rattle.hy_schema.specs.Conditions.{first_broken};
 ghost use Rattle.hy_ledger.specs.Books.{no_totals, totals_of, with_book};
 ghost use Rattle.hy_session.specs.of_partition.Accounts.{IsBookOf};
 ghost use Rattle.hy_session.specs.of_partition.Jobs.{Log};
-ghost use Rattle.hy_session.specs.of_crossing.Crossings.{ArePartitions, HaveNoPart, database_behind};
+ghost use Rattle.hy_session.specs.of_crossing.Crossings.{ArePartitions, database_behind};
 ghost use Rattle.hy_database.specs.Database.{all_rows};
 ghost use Rattle.hy_session.specs.of_forks.Forks.{AreOfKit, are_from};
 ghost use Rattle.hy_session.specs.Reports.{broken_condition};
@@ -18,7 +18,7 @@ use hy_ledger::Balance;
 use hy_passes::{Journal, Pass};
 use hy_schema::Refusal;
 use hy_session::Session;
-use hy_session::hy_forks::{find_history, fork_all};
+use hy_session::hy_forks::OwnPartitions;
 use hy_session::hy_partition::{Loaded, Partition};
 use std::alloc::Global;
 
@@ -46,25 +46,24 @@ pub struct Figures {
 /// The sums at the end, over all partitions: what the terminals have beside the books of all warehouses. E2; E1.
 pub fn figures_of<K: Loaded>(
     alloc: Global,
-    mut parts: Vec<Partition<PAGE_BYTES, K>>,
+    mut partitions: OwnPartitions<PAGE_BYTES, K>,
     mut journal: Journal<Commit, K>,
     mut pass: Pass<Commit, K>,
     gathered: Gathered<K>,
 ) -> Result<Figures, Refusal>
     requires partitions { K.passes.partitions ≡ warehouses_of_load K.load }
-    requires some { 1 ≤ length parts.items }
-    requires parts { ArePartitions K.load parts.items }
-    requires whole { HaveNoPart parts.items }
     ensures figures { IfOk result (AreFiguresBehind K.load journal.list.log) }
     ensures purses { IfOk result (λ figures. totals_of gathered.purse.shares
         ≡ record { commits = figures.commits; cents = figures.cents }) }
     ensures refusal { IfOk result (λ figures. figures.refusal ≡ None → gathered.unlogged ≡ None) }
 {
-    find_history(&mut parts, &mut journal);
+    let broken = broken_at_the_end(alloc, &mut partitions, &mut journal, &mut pass)?;
+    partitions.find_history(&mut journal);
+    partitions.sound();
+    let mut parts = partitions.into_parts();
     let mut balance = Balance::new(gathered.purse);
     audit_all(&mut parts, &mut balance);
     balance.settle();
-    let broken = broken_at_the_end(alloc, &mut parts, &mut journal, &mut pass)?;
     let (purses, books) = (balance.purses(), balance.books());
     Ok(Figures {
         commits: purses.commits,
@@ -112,19 +111,17 @@ fn audit<K: Loaded>(part: &mut Partition<PAGE_BYTES, K>, balance: &mut Balance<K
 /// The first consistency condition that the database at the end breaks: there is none.
 fn broken_at_the_end<K: Loaded>(
     alloc: Global,
-    parts: &mut Vec<Partition<PAGE_BYTES, K>>,
+    partitions: &mut OwnPartitions<PAGE_BYTES, K>,
     journal: &mut Journal<Commit, K>,
     pass: &mut Pass<Commit, K>,
 ) -> Result<Option<u8>, Refusal>
-    requires some { 1 ≤ length parts.old.items }
-    requires parts { ArePartitions K.load parts.old.items }
-    requires whole { HaveNoPart parts.old.items }
     ensures none { IfOk result (λ broken. broken ≡ None) }
     ensures consistent { IfOk result (λ _. first_broken (all_rows (database_behind K.load journal.old.list.log)) ≡ None) }
+    ensures log { journal.new.list.log ≡ journal.old.list.log }
 {
-    let session = session_of(alloc, parts, journal, pass)?;
+    let session = session_of(alloc, partitions, journal, pass)?;
     let broken = session.check_conditions(alloc);
-    match session.close_all(parts) {
+    match session.close_all(partitions) {
         Ok(()) => {}
         Err(_) => unreachable!(),
     }
@@ -134,21 +131,18 @@ fn broken_at_the_end<K: Loaded>(
 /// A session over the database behind the serial list, whose rows meet the consistency conditions.
 fn session_of<K: Loaded>(
     alloc: Global,
-    parts: &mut Vec<Partition<PAGE_BYTES, K>>,
+    partitions: &mut OwnPartitions<PAGE_BYTES, K>,
     journal: &mut Journal<Commit, K>,
     pass: &mut Pass<Commit, K>,
 ) -> Result<Session<PAGE_BYTES>, Refusal>
-    requires some { 1 ≤ length parts.old.items }
-    requires parts { ArePartitions K.load parts.old.items }
-    requires whole { HaveNoPart parts.old.items }
     ensures consistent { IfOk result (λ session. broken_condition 4096 session ≡ None) }
     ensures behind { IfOk result (λ _. first_broken (all_rows (database_behind K.load journal.old.list.log)) ≡ None) }
     ensures kit { IfOk result (AreOfKit K.passes) }
-    ensures mine { IfOk result (λ session. IsTrue (are_from K.passes session parts.new.items)) }
-    ensures parts { ArePartitions K.load parts.new.items }
-    ensures whole { HaveNoPart parts.new.items }
+    ensures mine { IfOk result (λ session. IsTrue (are_from K.passes session partitions.new)) }
+    ensures log { journal.new.list.log ≡ journal.old.list.log }
 {
-    let all = fork_all(alloc, parts, journal, pass)?;
+    partitions.sound();
+    let all = partitions.fork_all(alloc, journal, pass)?;
     let session = Session::new(all);
     session.shows();
     Ok(session)

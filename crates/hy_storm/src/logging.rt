@@ -1,8 +1,7 @@
 //! The log of a storm.
 
-ghost use Rattle.std.specs.Prelude.{◌≡◌, ◌≤◌, [], false, IfSome, IsSome, None, OnOk, length};
+ghost use Rattle.std.specs.Prelude.{◌≡◌, [], false, IfSome, IsSome, None, OnOk};
 ghost use Rattle.hy_redo.specs.Disk.{BeginsBehind};
-ghost use Rattle.hy_session.specs.of_crossing.Crossings.{ArePartitions, HaveNoPart};
 ghost use Rattle.hy_storm.specs.Storms.{HasAll, warehouses_of_load};
 
 use crate::PAGE_BYTES;
@@ -12,8 +11,8 @@ use hy_engine::{DrainLog, Engine, Gate};
 use hy_passes::{Cursor, Journal};
 use hy_redo::{Log, LogOut};
 use hy_schema::Refusal;
-use hy_session::hy_forks::logs_begin;
-use hy_session::hy_partition::{Loaded, Partition};
+use hy_session::hy_forks::{OwnPartitions, logs_begin};
+use hy_session::hy_partition::Loaded;
 use std::alloc::Global;
 use std::sync::{Mutex, Wait};
 
@@ -76,21 +75,15 @@ pub fn taken_out<W: LogOut, K: Loaded>(log: Option<DrainLog<W, K>>) -> Option<Lo
 pub fn end_log<W: LogOut, K: Loaded>(
     alloc: Global,
     log: Option<DrainLog<W, K>>,
-    parts: &mut Vec<Partition<PAGE_BYTES, K>>,
+    partitions: &mut OwnPartitions<PAGE_BYTES, K>,
     journal: &mut Journal<Commit, K>,
 ) -> (Option<Log<W>>, Option<Refusal>)
-    requires some { 1 ≤ length parts.old.items }
-    requires parts { ArePartitions K.load parts.old.items }
-    requires whole { HaveNoPart parts.old.items }
     ensures back { IsSome log → IsSome result.0 }
     ensures all { result.1 ≡ None → IfSome result.0 (HasAll K.load journal.old.list.log) }
     ensures same_log { journal.new.list.log ≡ journal.old.list.log }
-    ensures some { 1 ≤ length parts.new.items }
-    ensures parts { ArePartitions K.load parts.new.items }
-    ensures whole { HaveNoPart parts.new.items }
 {
     match log {
-        Some(log) => end_followed(alloc, log, parts, journal),
+        Some(log) => end_followed(alloc, log, partitions, journal),
         None => (None, None),
     }
 }
@@ -99,21 +92,15 @@ pub fn end_log<W: LogOut, K: Loaded>(
 fn end_followed<W: LogOut, K: Loaded>(
     alloc: Global,
     log: DrainLog<W, K>,
-    parts: &mut Vec<Partition<PAGE_BYTES, K>>,
+    partitions: &mut OwnPartitions<PAGE_BYTES, K>,
     journal: &mut Journal<Commit, K>,
 ) -> (Option<Log<W>>, Option<Refusal>)
-    requires some { 1 ≤ length parts.old.items }
-    requires parts { ArePartitions K.load parts.old.items }
-    requires whole { HaveNoPart parts.old.items }
     ensures back { IsSome result.0 }
     ensures all { result.1 ≡ None → IfSome result.0 (HasAll K.load journal.old.list.log) }
     ensures same_log { journal.new.list.log ≡ journal.old.list.log }
-    ensures some { 1 ≤ length parts.new.items }
-    ensures parts { ArePartitions K.load parts.new.items }
-    ensures whole { HaveNoPart parts.new.items }
 {
     let mut log = log;
-    let unlogged = drain_last(alloc, &mut log, parts, journal).err();
+    let unlogged = drain_last(alloc, &mut log, partitions, journal).err();
     log.follows();
     (Some(log.into_log()), unlogged)
 }
@@ -122,21 +109,15 @@ fn end_followed<W: LogOut, K: Loaded>(
 fn drain_last<W: LogOut, K: Loaded>(
     alloc: Global,
     log: &mut DrainLog<W, K>,
-    parts: &mut Vec<Partition<PAGE_BYTES, K>>,
+    partitions: &mut OwnPartitions<PAGE_BYTES, K>,
     journal: &mut Journal<Commit, K>,
 ) -> Result<(), Refusal>
-    requires some { 1 ≤ length parts.old.items }
-    requires parts { ArePartitions K.load parts.old.items }
-    requires whole { HaveNoPart parts.old.items }
     ensures well { OnOk result (log.new.log.has_failed ≡ false) }
     ensures due { OnOk result (log.new.due ≡ None) }
     ensures seen { OnOk result (log.new.seen ≡ journal.old.list.log) }
     ensures same_log { journal.new.list.log ≡ journal.old.list.log }
-    ensures some { 1 ≤ length parts.new.items }
-    ensures parts { ArePartitions K.load parts.new.items }
-    ensures whole { HaveNoPart parts.new.items }
 {
     log.write()?;
-    log.drain(alloc, parts, journal)?;
+    log.drain(alloc, partitions, journal)?;
     log.write()
 }

@@ -16,7 +16,8 @@ use hy_loads::Load;
 use hy_passes::{Cursor, Journal, Kit, Pass, make};
 use hy_redo::{Log, LogOut};
 use hy_schema::Refusal;
-use hy_session::hy_crossing::{are_partitions, partitions_of};
+use hy_session::hy_crossing::partitions_of;
+use hy_session::hy_forks::Partitions;
 use hy_session::hy_partition::{Loaded, Partition};
 use std::alloc::Global;
 use std::marker::Brand;
@@ -203,7 +204,7 @@ fn run_on<
 /// comes back.
 fn reckon<K: Loaded, W: LogOut>(
     alloc: Global,
-    mut parts: Vec<Partition<PAGE_BYTES, K>>,
+    parts: Vec<Partition<PAGE_BYTES, K>>,
     mut journal: Journal<Commit, K>,
     pass: Pass<Commit, K>,
     mut gathered: Gathered<K>,
@@ -213,10 +214,10 @@ fn reckon<K: Loaded, W: LogOut>(
     ensures logged { IfOk result.0 (λ figures. AreLogged K.load figures result.1) }
     ensures back { IsSome log → IsSome result.1 }
 {
-    if !are_partitions(&mut parts) {
+    let Ok(mut partitions) = Partitions::found(parts) else {
         return (Err(Refusal::NoSuchWarehouse), taken_out(log));
-    }
-    let (log, unlogged) = end_log(alloc, log, &mut parts, &mut journal);
+    };
+    let (log, unlogged) = end_log(alloc, log, &mut partitions, &mut journal);
     gathered.unlogged = gathered.unlogged.or(unlogged);
-    (figures_of(alloc, parts, journal, pass, gathered), log)
+    (figures_of(alloc, partitions, journal, pass, gathered), log)
 }

@@ -103,11 +103,12 @@ fn close<'a, K: Loaded, G: Gate + Drop, R: Wait>(
     requires kit { AreOfKit K.passes session }
     requires mine { AreMine K.passes K.load session }
 {
-    let Ok(mut held) = engine.hold(rt, room) else {
+    let Ok(mut partitions) = engine.hold(rt, room) else {
         wait_for_ever(rt);
         unreachable!()
     };
-    match session.close_all(&mut held) {
+    partitions.sound();
+    match session.close_all(&mut partitions) {
         Ok(()) => {}
         Err(_) => unreachable!(),
     }

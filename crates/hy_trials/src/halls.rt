@@ -3,15 +3,12 @@
 ghost use Rattle.std.specs.Prelude.{◌≡◌, [], ◌≤◌, None, length};
 ghost use Rattle.hy_recovery.specs.Recovering.{Counts};
 ghost use Rattle.std.proofs.Props.{props};
-ghost use Rattle.hy_partition.specs.Partition.{terms_of};
-ghost use Rattle.hy_crossing.specs.Crossings.{ArePartitions, HaveNoPart};
 ghost use Rattle.hy_forks.specs.Forks.{AreOfKit};
 ghost use Rattle.hy_forks.specs.Logged.{SaySame};
 
 use hy_batches::Batches;
 use hy_commands::{Command, Commit, Reply};
-use hy_crossing::{cross, partitions_of};
-use hy_forks::{Batch, SnapshotAll, close_all, drain, end_of, find_history, fork_all};
+use hy_forks::{Batch, OwnPartitions, SnapshotAll};
 use hy_loads::Load;
 use hy_partition::{Job, Loaded, Partition};
 use hy_passes::{Cursor, Journal, Kit, Pass};
@@ -36,66 +33,6 @@ pub enum Request {
     Take,
     /// So many frames may be in use.
     Frames(u64),
-}
-
-/// Asks it of a partition. What is taken is the reply that waits.
-fn grant<K: Loaded>(
-    rt: &impl Abort,
-    part: &mut Partition<4096, K>,
-    journal: &mut Journal<Commit, K>,
-    clients: &mut Vec<Pass<Commit, K>>,
-    asked: Request,
-) -> Result<Option<Reply>, Refusal>
-    ensures terms { terms_of part.new ≡ terms_of part.old }
-    ensures part { part.new.part ≡ part.old.part }
-{
-    match asked {
-        Request::Begin(command) => begin(rt, part, clients, command)?,
-        Request::Step => {
-            part.step(journal)?;
-        }
-        Request::Finish => part.finish_running(journal),
-        Request::Take => return Ok(take(rt, part, clients)),
-        Request::Frames(max) => part.set_max(max)?,
-    }
-    Ok(None)
-}
-
-/// Begins a command for the client.
-fn begin<K: Loaded>(
-    rt: &impl Abort,
-    part: &mut Partition<4096, K>,
-    clients: &mut Vec<Pass<Commit, K>>,
-    command: Command,
-) -> Result<(), Refusal>
-    ensures terms { terms_of part.new ≡ terms_of part.old }
-    ensures part { part.new.part ≡ part.old.part }
-{
-    let Some(pass) = clients.pop() else {
-        panic!(rt; "a client")
-    };
-    match part.begin(Job::new(command, pass)) {
-        Ok(()) => Ok(()),
-        Err((job, refusal)) => {
-            let (_command, pass) = job.open();
-            clients.push(pass).expect(rt, "a place");
-            Err(refusal)
-        }
-    }
-}
-
-/// Takes the reply that waits, if one does.
-fn take<K: Loaded>(
-    rt: &impl Abort,
-    part: &mut Partition<4096, K>,
-    clients: &mut Vec<Pass<Commit, K>>,
-) -> Option<Reply>
-    ensures terms { terms_of part.new ≡ terms_of part.old }
-    ensures part { part.new.part ≡ part.old.part }
-{
-    let (reply, pass, _share) = part.take_done()?.open();
-    clients.push(pass).expect(rt, "a place");
-    Some(reply)
 }
 
 /// A snapshot of all warehouses of this world.
@@ -127,12 +64,10 @@ impl<K: Loaded> OpenSession<K> {
 /// place up to which their commits were drained.
 #[derive(Drop)]
 pub struct Hall<K: Loaded> {
-    parts: Vec<Partition<4096, K>>,
+    partitions: OwnPartitions<4096, K>,
     journal: Journal<Commit, K>,
     clients: Vec<Pass<Commit, K>>,
     cursor: Option<Cursor<Commit, K>>,
-    ghost partitions: { ArePartitions K.load parts.items } by { Prim.hlevel props },
-    ghost whole: { HaveNoPart parts.items } by { Prim.hlevel props },
 }
 
 impl<K: Loaded> Hall<K> {
@@ -149,12 +84,12 @@ impl<K: Loaded> Hall<K> {
             panic!(rt; "a client")
         };
         let cursor = Cursor::new(rt.alloc(), place, &mut journal).expect(rt, "a place");
-        let parts = partitions_of(rt.alloc(), load, seats, MAX_FRAMES, kept).expect(
+        let partitions = OwnPartitions::of_load(rt.alloc(), load, seats, MAX_FRAMES, kept).expect(
             rt,
             "partitions",
         );
         Hall {
-            parts,
+            partitions,
             journal,
             clients,
             cursor: Some(cursor),
@@ -181,7 +116,7 @@ impl<K: Loaded> Hall<K> {
         let (Some(place), Some(pass)) = (clients.pop(), clients.pop()) else {
             panic!(rt; "two clients")
         };
-        let (mut parts, mut journal, pass) = recover(
+        let (mut partitions, mut journal, pass) = recover(
             rt.alloc(),
             load,
             batches,
@@ -193,28 +128,27 @@ impl<K: Loaded> Hall<K> {
         )
         .expect(rt, "partitions");
         clients.push(pass).expect(rt, "a place");
-        let cursor = end_of(rt.alloc(), &mut parts, &mut journal, place).expect(rt, "a place");
-        (Hall::with(parts, journal, clients), cursor)
+        let cursor = partitions
+            .end_of(rt.alloc(), &mut journal, place)
+            .expect(rt, "a place");
+        (Hall::with(partitions, journal, clients), cursor)
     }
 
     /// These partitions, with their journal and their clients.
     pub fn with(
-        parts: Vec<Partition<4096, K>>,
+        partitions: OwnPartitions<4096, K>,
         journal: Journal<Commit, K>,
         clients: Vec<Pass<Commit, K>>,
-    ) -> Hall<K>
-        requires partitions { ArePartitions K.load parts.items }
-        requires whole { HaveNoPart parts.items }
-    {
+    ) -> Hall<K> {
         Hall {
-            parts,
+            partitions,
             journal,
             clients,
             cursor: None,
         }
     }
 
-    /// Asks something of the partition of a warehouse.
+    /// Asks something of the partition of a warehouse. What is taken is the reply that waits.
     pub fn ask(
         &mut self,
         rt: &impl Abort,
@@ -222,9 +156,41 @@ impl<K: Loaded> Hall<K> {
         asked: Request,
     ) -> Result<Option<Reply>, Refusal> {
         let place = (warehouse as usize).wrapping_sub(1);
-        assert!(rt; place < self.parts.len());
-        let part = &mut self.parts[place];
-        grant(rt, part, &mut self.journal, &mut self.clients, asked)
+        assert!(rt; place < self.partitions.len());
+        match asked {
+            Request::Begin(command) => self.begin(rt, place, command)?,
+            Request::Step => {
+                self.partitions.step(place, &mut self.journal)?;
+            }
+            Request::Finish => self.partitions.finish_running(place, &mut self.journal),
+            Request::Take => return Ok(self.take(rt, place)),
+            Request::Frames(max) => self.partitions.set_max(place, max)?,
+        }
+        Ok(None)
+    }
+
+    /// Begins a command for the client.
+    fn begin(&mut self, rt: &impl Abort, place: usize, command: Command) -> Result<(), Refusal> {
+        assert!(rt; place < self.partitions.len());
+        let Some(pass) = self.clients.pop() else {
+            panic!(rt; "a client")
+        };
+        match self.partitions.begin(place, Job::new(command, pass)) {
+            Ok(()) => Ok(()),
+            Err((job, refusal)) => {
+                let (_command, pass) = job.open();
+                self.clients.push(pass).expect(rt, "a place");
+                Err(refusal)
+            }
+        }
+    }
+
+    /// Takes the reply that waits, if one does.
+    fn take(&mut self, rt: &impl Abort, place: usize) -> Option<Reply> {
+        assert!(rt; place < self.partitions.len());
+        let (reply, pass, _share) = self.partitions.take_done(place)?.open();
+        self.clients.push(pass).expect(rt, "a place");
+        Some(reply)
     }
 
     /// Runs a command, of one warehouse or of several. A refusal is the reply.
@@ -249,7 +215,9 @@ impl<K: Loaded> Hall<K> {
             panic!(rt; "a client")
         };
         assert!(rt; command.is_crossing());
-        let done = cross(&mut self.parts, &mut self.journal, Job::new(command, pass));
+        let done = self
+            .partitions
+            .cross(&mut self.journal, Job::new(command, pass));
         let (reply, pass, share) = done.open();
         assert!(rt; share.is_none() == matches!(reply, Reply::Refused(_)));
         self.clients.push(pass).expect(rt, "a place");
@@ -261,7 +229,7 @@ impl<K: Loaded> Hall<K> {
         let Some(client) = self.clients.last_mut() else {
             panic!(rt; "a client")
         };
-        let all = fork_all(alloc, &mut self.parts, &mut self.journal, client)?;
+        let all = self.partitions.fork_all(alloc, &mut self.journal, client)?;
         Ok(TakenAll {
             all,
             of: PhantomData,
@@ -271,7 +239,7 @@ impl<K: Loaded> Hall<K> {
     /// Closes a snapshot of all warehouses.
     pub fn close(&mut self, rt: &impl Abort, taken: TakenAll<K>) {
         let TakenAll { all, of: _ } = taken;
-        match close_all(&mut self.parts, all) {
+        match self.partitions.close_all(all) {
             Ok(()) => {}
             Err(_) => panic!(rt; "a snapshot of other partitions"),
         }
@@ -288,7 +256,7 @@ impl<K: Loaded> Hall<K> {
         alloc: Global,
         opened: &OpenSession<K>,
     ) -> Result<OpenSession<K>, Refusal> {
-        let session = opened.session.fork(alloc, &mut self.parts)?;
+        let session = opened.session.fork(alloc, &mut self.partitions)?;
         Ok(OpenSession {
             session,
             of: PhantomData,
@@ -298,22 +266,23 @@ impl<K: Loaded> Hall<K> {
     /// Closes a session.
     pub fn close_session(&mut self, rt: &impl Abort, opened: OpenSession<K>) {
         let OpenSession { session, of: _ } = opened;
-        match session.close_all(&mut self.parts) {
+        match session.close_all(&mut self.partitions) {
             Ok(()) => {}
             Err(_) => panic!(rt; "a session over other partitions"),
         }
     }
 
-    /// The commits since the last drain, of a warehouse at least.
+    /// The commits since the last drain.
     pub fn drain<R: Abort + AllocGlobal>(&mut self, rt: &R) -> Batch {
         let Some(cursor) = &mut self.cursor else {
             panic!(rt; "a place")
         };
-        assert!(rt; !self.parts.is_empty());
-        drain(rt.alloc(), &mut self.parts, &mut self.journal, cursor).expect(rt, "a batch")
+        self.partitions
+            .drain(rt.alloc(), &mut self.journal, cursor)
+            .expect(rt, "a batch")
     }
 
-    /// Hands a log the commits since its last drain, of a warehouse at least, and writes them, which may be refused.
+    /// Hands a log the commits since its last drain, and writes them, which may be refused.
     pub fn drain_to<W: LogOut, R: Abort + AllocGlobal>(
         &mut self,
         rt: &R,
@@ -322,16 +291,15 @@ impl<K: Loaded> Hall<K> {
         requires due { drains.old.due ≡ None }
         ensures due { drains.new.due ≡ None }
     {
-        assert!(rt; !self.parts.is_empty());
         drains
-            .drain(rt.alloc(), &mut self.parts, &mut self.journal)
+            .drain(rt.alloc(), &mut self.partitions, &mut self.journal)
             .expect(rt, "a batch");
         drains.write()
     }
 
     /// Finds that the lists are those of one history.
     pub fn agree(&mut self) {
-        find_history(&mut self.parts, &mut self.journal);
+        self.partitions.find_history(&mut self.journal);
     }
 
     /// What the partition of a warehouse has kept.
@@ -341,9 +309,9 @@ impl<K: Loaded> Hall<K> {
 
     /// The partition of a warehouse.
     pub fn part(&self, rt: &impl Abort, warehouse: u64) -> &Partition<4096, K> {
-        self.parts
-            .get((warehouse as usize).wrapping_sub(1))
-            .expect(rt, "a partition")
+        let place = (warehouse as usize).wrapping_sub(1);
+        assert!(rt; place < self.partitions.len());
+        self.partitions.part(place)
     }
 
     /// How many commits the serial list has, and which number the next one of several warehouses gets.

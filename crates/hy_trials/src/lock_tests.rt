@@ -5,8 +5,8 @@ ghost use Rattle.std.specs.Prelude.{◌≡◌, [], length};
 use crate::commands::payment_by;
 use crate::halls::TakenAll;
 use hy_commands::{Commit, Reply};
-use hy_crossing::{are_partitions, cross, partitions_of};
-use hy_forks::{close_all, drain, find_history, fork_all};
+use hy_crossing::partitions_of;
+use hy_forks::Partitions;
 use hy_loads::Load;
 use hy_partition::{Job, Loaded, Partition};
 use hy_passes::{Cursor, Journal, Kit, Pass, make};
@@ -18,6 +18,8 @@ use std::sync::{Mutex, MutexGuard, Wait};
 type Lock<K> = Mutex<Partition<4096, K>>;
 
 type Held<'a, K> = MutexGuard<'a, Partition<4096, K>>;
+
+type HeldPartitions<'a, K> = Partitions<4096, K, Vec<Held<'a, K>>>;
 
 /// A lock for each partition.
 fn locks_of<K: Loaded, R: Abort + AllocGlobal>(
@@ -43,6 +45,11 @@ fn all_held<'a, K: Loaded, R: Wait + Abort + AllocGlobal>(
     held
 }
 
+/// The warehouses whose locks are held, if they are those of the load.
+fn found<'a, K: Loaded>(held: Vec<Held<'a, K>>) -> Option<HeldPartitions<'a, K>> {
+    Partitions::found(held).ok()
+}
+
 /// Pays across two warehouses, takes a snapshot of all and gives it back, and drains; each time with all locks.
 fn pay_and_look<K: Loaded, R: Wait + Abort + AllocGlobal>(
     rt: &R,
@@ -51,12 +58,11 @@ fn pay_and_look<K: Loaded, R: Wait + Abort + AllocGlobal>(
     pass: Pass<Commit, K>,
     mut cursor: Cursor<Commit, K>,
 ) {
-    let mut held = all_held(rt, locks);
-    assert!(rt; are_partitions(&mut held));
+    let mut partitions = found(all_held(rt, locks)).expect(rt, "the partitions of the load");
     let mut journal = journal.lock(rt);
     let command = payment_by(2);
     assert!(rt; command.is_crossing());
-    let done = cross(&mut held, &mut journal, Job::new(command, pass));
+    let done = partitions.cross(&mut journal, Job::new(command, pass));
     let (reply, mut pass, _share) = done.open();
     assert!(rt;
         matches!(
@@ -67,7 +73,9 @@ fn pay_and_look<K: Loaded, R: Wait + Abort + AllocGlobal>(
             }
         )
     );
-    let all = fork_all(rt.alloc(), &mut held, &mut journal, &mut pass).expect(rt, "a snapshot");
+    let all = partitions
+        .fork_all(rt.alloc(), &mut journal, &mut pass)
+        .expect(rt, "a snapshot");
     let taken = TakenAll::<K> {
         all,
         of: PhantomData,
@@ -77,25 +85,23 @@ fn pay_and_look<K: Loaded, R: Wait + Abort + AllocGlobal>(
         assert!(rt; taken.all.part(place).commits() == kept);
     }
     let TakenAll { all, of: _ } = taken;
-    match close_all(&mut held, all) {
+    match partitions.close_all(all) {
         Ok(()) => {}
         Err(_) => panic!(rt; "a snapshot of other partitions"),
     }
-    let batch = drain(rt.alloc(), &mut held, &mut journal, &mut cursor).expect(rt, "a batch");
+    let batch = partitions
+        .drain(rt.alloc(), &mut journal, &mut cursor)
+        .expect(rt, "a batch");
     assert!(rt; batch.len() == 3 && batch.list(0).len() == 1 && batch.list(2).is_empty());
-    find_history(&mut held, &mut journal);
+    partitions.find_history(&mut journal);
 }
 
 /// Locks of some of the partitions aren't those of all.
 fn are_told_apart<K: Loaded, R: Wait + Abort + AllocGlobal>(rt: &R, locks: &[Lock<K>]) {
     assert!(rt; locks.len() == 3);
-    let mut none = all_held(rt, &locks[..0]);
-    assert!(rt; !are_partitions(&mut none));
-    let mut first = all_held(rt, &locks[..2]);
-    assert!(rt; !are_partitions(&mut first));
-    drop(first);
-    let mut last = all_held(rt, &locks[1..]);
-    assert!(rt; !are_partitions(&mut last));
+    assert!(rt; found(all_held(rt, &locks[..0])).is_none());
+    assert!(rt; found(all_held(rt, &locks[..2])).is_none());
+    assert!(rt; found(all_held(rt, &locks[1..])).is_none());
 }
 
 /// Nor are they in another order.
@@ -103,10 +109,8 @@ fn are_in_order<K: Loaded, R: Wait + Abort + AllocGlobal>(rt: &R, locks: &[Lock<
     let mut turned = all_held(rt, locks);
     assert!(rt; turned.len() == 3);
     turned.swap(0, 1);
-    assert!(rt; !are_partitions(&mut turned));
-    assert!(rt; turned.len() == 3);
-    turned.swap(0, 1);
-    assert!(rt; are_partitions(&mut turned));
+    assert!(rt; found(turned).is_none());
+    assert!(rt; found(all_held(rt, locks)).is_some());
 }
 
 /// The same in the world of the load and the kit.

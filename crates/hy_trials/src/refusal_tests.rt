@@ -405,9 +405,9 @@ fn recover_marked<K: Loaded, R: Abort + AllocGlobal>(
     );
     mark(rt, ENDS);
     match recovered {
-        Ok((parts, journal, pass)) => {
+        Ok((partitions, journal, pass)) => {
             clients.push(pass).expect(rt, "a place");
-            let mut hall = Hall::with(parts, journal, clients);
+            let mut hall = Hall::with(partitions, journal, clients);
             Some(Seen::of(rt, &mut hall))
         }
         Err(why) => {

@@ -1,4 +1,4 @@
-use Rattle.std.proofs.Common.{◌≡◌, ◌∙◌, ◌≤◌, ℕ, subst, sym}
+use Rattle.std.proofs.Common.{◌∙◌, ◌≤◌, ℕ, subst, sym}
 use Rattle.hy_rows.specs.Limits.{max_warehouses}
 use Rattle.hy_engine.proofs.RoomLaws.{same-rooms}
 use Rattle.hy_engine.proofs.engine.engine_in.Goals as goal

@@ -1,4 +1,4 @@
-use Rattle.std.proofs.Common.{rules, ◌≡◌, ℕ, List, subst, sym}
+use Rattle.std.proofs.Common.{rules, ℕ, List, subst, sym}
 use Rattle.hy_engine.specs.Engines.{HavePlaces}
 use Rattle.hy_engine.proofs.RoomLaws.{places-more}
 use Rattle.hy_engine.proofs.engine.lines.Goals as goal

@@ -1,4 +1,4 @@
-use Rattle.std.proofs.Common.{rules, ◌≡◌, ◌∙◌, List, [], Err, IfOk, true, ap, arith, length, subst, sym}
+use Rattle.std.proofs.Common.{rules, ◌≡◌, ◌∙◌, List, Err, IfOk, true, ap, arith, length, subst, sym}
 use Rattle.std.specs.Prelude.{vec_len}
 use Rattle.std.proofs.lemmas.Bool.{false≢true}
 use Rattle.hy_rows.specs.Tables.{Lists}
@@ -9,12 +9,10 @@ use Rattle.hy_query.specs.Meaning.{answer_of}
 use Rattle.hy_recovery.specs.of_partition.Jobs.{Log}
 use Rattle.hy_recovery.specs.of_partition.Snapshots.{SnapshotState}
 use Rattle.hy_recovery.proofs.of_partition.SeatLaws.{length-numbered}
-use Rattle.hy_recovery.specs.of_crossing.Crossings.{ArePartitions, database_behind}
+use Rattle.hy_recovery.specs.of_crossing.Crossings.{database_behind}
 use Rattle.hy_recovery.specs.of_forks.Forks.{SpellsDatabase, are_from}
 use Rattle.hy_storm.specs.of_session.Snapshots.{lists_of_all}
 use Rattle.hy_storm.specs.of_session.Texts.{answer_text}
-use Rattle.hy_script.specs.Databases.{OpenSnapshot}
-use Rattle.hy_script.proofs.SnapshotLaws.{are_from-own, forked-own}
 use Rattle.hy_program.specs.Query.{by_warehouse}
 use Rattle.hy_program.proofs.QueryLaws.{refused-by, some-warehouses}
 use Rattle.hy_program.proofs.query.answer_in.Goals as goal
@@ -32,22 +30,15 @@ take_last-pass-requires g c =
 pub returns-in_err-fork_all-clause-refused : goal.returns-in_err-fork_all-clause-refused
 returns-in_err-fork_all-clause-refused g c =
     let is : c.from_residual-in_err-fork_all.result ≡ Err c.in_err-fork_all.field-0.0 = search rules in
-    refused-by c.args.load.now 100_000 1_000_000 c.in_ok-parts.parts.items c.from_residual-in_err-fork_all.result
-    c.in_err-fork_all.field-0.0 c.in_ok-parts.ensures.begin c.in_err-fork_all.ensures.refused is
+    refused-by c.args.load.now 100_000 1_000_000 c.in_ok-partitions.partitions c.from_residual-in_err-fork_all.result
+    c.in_err-fork_all.field-0.0 c.in_ok-partitions.ensures.begin c.in_err-fork_all.ensures.refused is
 
 -- the snapshots are those of these partitions
 pub unreachable-requires : goal.unreachable-requires
 unreachable-requires g c =
-    let lists = c.args.load.now in
-    let news = c.fork_all.new.parts.items in
-    let taken : OpenSnapshot = record { name = []; parts = c.in_ok-fork_all.field-0 } in
-    let now : ArePartitions lists news =
-    subst (λ (all : Lists). ArePartitions all news) (sym c.requires.load) c.in_ok-fork_all.ensures.parts in
-    let own = forked-own 4_096 g.K.World.passes c.in_ok-_passes.journal.list.log c.take_last-pass.result.seen
-    c.in_ok-parts.parts.items news taken.parts c.in_ok-fork_all.ensures.forks lists [] c.in_ok-parts.ensures.parts now in
-    let from = are_from-own g.K.World.passes lists news taken now own in
-    false≢true (c.in-Err.ensures.mine.1 (subst (λ (it : List SnapshotState). are_from g.K.World.passes it news ≡ true)
-    (sym c.new-session.ensures) from))
+    false≢true (c.in-Err.ensures.mine.1
+    (subst (λ (it : List SnapshotState). are_from g.K.World.passes it c.fork_all.new.self ≡ true) (sym c.new-session.ensures)
+    c.in_ok-fork_all.ensures.mine))
 
 -- nothing is in the serial list yet, so that they spell the load
 pub returns-clause-answer : goal.returns-clause-answer

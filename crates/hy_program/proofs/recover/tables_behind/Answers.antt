@@ -8,7 +8,6 @@ use Rattle.hy_recovery.specs.of_partition.Snapshots.{SnapshotState}
 use Rattle.hy_recovery.proofs.of_partition.SeatLaws.{length-numbered}
 use Rattle.hy_recovery.specs.of_crossing.Crossings.{database_behind}
 use Rattle.hy_database.specs.Database.{all_rows}
-use Rattle.hy_recovery.proofs.of_forks.ForkedLaws.{are_from-forks}
 use Rattle.hy_recovery.specs.of_forks.Forks.{SpellsDatabase, are_from}
 use Rattle.hy_storm.specs.of_session.Snapshots.{lists_of_all}
 use Rattle.hy_program.proofs.RecoverLaws.{history_of, replayed_by, some-behind}
@@ -26,25 +25,21 @@ take_last-pass-requires g c =
 -- the snapshots are those of these partitions
 pub unreachable-requires : goal.unreachable-requires
 unreachable-requires g c =
-    let kit = g.K.World.passes in
-    let taken = c.in_ok-fork_all.field-0 in
-    let news = c.fork_all.new.parts.items in
-    let from = are_from-forks 4_096 kit c.in_ok-parts.journal.list.log c.in_ok-parts.pass.seen taken c.in_ok-parts.parts.items news
-    c.in_ok-fork_all.ensures.forks in
-    false≢true (c.in-Err.ensures.mine.1 (subst (λ (it : List SnapshotState). are_from kit it news ≡ true)
-    (sym c.new-session.ensures) from))
+    false≢true (c.in-Err.ensures.mine.1
+    (subst (λ (it : List SnapshotState). are_from g.K.World.passes it c.fork_all.new.self ≡ true) (sym c.new-session.ensures)
+    c.in_ok-fork_all.ensures.mine))
 
 -- they spell the database behind the serial list
 pub returns-clause-rows : goal.returns-clause-rows
 returns-clause-rows g c =
     let lists = c.args.load.now in
     let batches = c.args.batches.now in
-    let log = c.in_ok-parts.journal.list.log in
+    let log = c.in_ok-partitions.journal.list.log in
     let taken = c.in_ok-fork_all.field-0 in
     let count : g.K.World.passes.partitions ≡ length lists.tables.warehouses =
     ap (λ kit. kit.partitions) (sym c.requires.kit) ∙ c.requires.partitions in
-    let history = history_of lists 100_000 1_000_000 g.K.World.passes.partitions batches log c.in_ok-parts.parts.items count
-    c.in_ok-parts.ensures.recovered c.in_ok-parts.ensures.history in
+    let history = history_of lists 100_000 1_000_000 g.K.World.passes.partitions batches log c.in_ok-partitions.partitions count
+    c.in_ok-partitions.ensures.recovered c.in_ok-partitions.ensures.history in
     let load : SpellsDatabase 4_096 (database_behind lists log) taken =
     subst (λ (all : Lists). SpellsDatabase 4_096 (database_behind all log) taken) (sym c.requires.load)
     c.in_ok-fork_all.ensures.database in
@@ -53,4 +48,4 @@ returns-clause-rows g c =
     let rows : (lists_of_all 4_096 c.new-session.result).tables ≡ all_rows (database_behind lists log) =
     ap (λ (all : Lists). all.tables) (c.shows.ensures (database_behind lists log) (some-behind lists log c.sound.ensures) spells) in
     replayed_by lists batches log (lists_of_all 4_096 c.new-session.result).tables history rows
-    c.in_ok-parts.ensures.consistent c.tables-tables.result c.tables-tables.ensures.tables
+    c.in_ok-partitions.ensures.consistent c.tables-tables.result c.tables-tables.ensures.tables

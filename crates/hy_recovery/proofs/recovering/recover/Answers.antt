@@ -10,6 +10,8 @@ use Rattle.hy_forks.specs.of_crossing.Crossings.{ArePartitions}
 use Rattle.hy_forks.specs.of_crossing.Making.{AllBegin}
 use Rattle.hy_forks.proofs.of_crossing.InformLaws.{pairs-count}
 use Rattle.hy_forks.specs.Drains.{TellsHere}
+use Rattle.hy_forks.specs.Lists.{Pairwise}
+use Rattle.hy_forks.specs.Partitions.{AreWhole}
 use Rattle.hy_sound.proofs.ListLaws.{item-there}
 use Rattle.hy_recovery.specs.Recovering.{GoesOn, StopsAtCommit}
 use Rattle.hy_recovery.specs.inside.Ways.{AreOnWay, AreThere, IsShortage, untouched}
@@ -60,30 +62,33 @@ loop-place-preserved g c =
       client = c.in_ok-pass.ensures.client ∙ c.loop-place.invariant.client;
     }
 
-pub find_history-requires-clause-parts : goal.find_history-requires-clause-parts
-find_history-requires-clause-parts g c =
+pub new-partitions-requires : goal.new-partitions-requires
+new-partitions-requires g c =
+    let load = c.args.load.now in
     let run = c.loop-place.invariant.run in
-    subst (λ (lists : Lists). ArePartitions lists c.loop-place.parts.items) c.requires.load
-    (ended-partitions c.args.load.now
-    (aim_of c.args.batches.now c.args.max_frames c.args.max_kept c.loop-place.place run.last) c.loop-place.journal.list.log
-    c.loop-place.parts.items run.there)
-
-pub find_history-requires-clause-whole : goal.find_history-requires-clause-whole
-find_history-requires-clause-whole g c =
-    let run = c.loop-place.invariant.run in
-    ended-whole c.args.load.now
-    (aim_of c.args.batches.now c.args.max_frames c.args.max_kept c.loop-place.place run.last) c.loop-place.journal.list.log
-    c.loop-place.parts.items run.there
+    let aim = aim_of c.args.batches.now c.args.max_frames c.args.max_kept c.loop-place.place run.last in
+    let log = c.loop-place.journal.list.log in
+    let parts = c.loop-place.parts.items in
+    let are = ended-partitions load aim log parts run.there in
+    let whole : AreWhole g.K.Loaded.load parts = record {
+      some = omega (arith, are.count, c.sound-2.ensures.warehouses.whole);
+      partitions = subst (λ (lists : Lists). ArePartitions lists parts) c.requires.load are;
+      whole = ended-whole load aim log parts run.there;
+    } in
+    (omega arith, whole)
 
 pub returns-clause-recovered : goal.returns-clause-recovered
 returns-clause-recovered g c =
     let parts = c.loop-place.parts.items in
-    let told = c.find_history.new.parts.items in
+    let told = c.find_history.new.self in
     let end : length c.args.batches.now ≤ c.loop-place.place =
     omega (arith, c.loop-place-test.false, c.count-place-end.ensures) in
+    let tells : Pairwise (TellsHere c.loop-place.journal.list.log) 1 parts told =
+    subst (λ (rows : List PartitionState). Pairwise (TellsHere c.loop-place.journal.list.log) 1 rows told)
+    c.new-partitions.ensures c.find_history.ensures.told in
     recovered c.args.load.now c.args.batches.now c.args.max_frames c.args.max_kept c.loop-place.place
-    c.loop-place.journal.list.log parts c.loop-place.invariant.run end told c.find_history.ensures.told
-    (pairs-count (TellsHere c.loop-place.journal.list.log) 1 parts told c.find_history.ensures.told)
+    c.loop-place.journal.list.log parts c.loop-place.invariant.run end told tells
+    (pairs-count (TellsHere c.loop-place.journal.list.log) 1 parts told tells)
 
 pub loop-place-init : goal.loop-place-init
 loop-place-init g c =
@@ -110,7 +115,7 @@ loop-place-init g c =
 
 pub returns-clause-replayed : goal.returns-clause-replayed
 returns-clause-replayed g c = all-replayed c.args.load.now c.args.max_frames c.args.max_kept c.args.batches.now
-    c.find_history.new.parts.items (returns-clause-recovered g c)
+    c.find_history.new.self (returns-clause-recovered g c)
 
 pub returns-clause-goes_on : goal.returns-clause-goes_on
 returns-clause-goes_on g c =

@@ -1,7 +1,6 @@
 -- What was run over several warehouses, or by the home, was run behind the look whether the home is there.
-use Rattle.std.proofs.Common.{◌≡◌, ◌∙◌, ap, subst, sym, true}
+use Rattle.std.proofs.Common.{◌∙◌, ap, subst, sym}
 use Rattle.std.specs.Prelude.{is_some}
-use Rattle.hy_commands.specs.Commands.{home_of}
 use Rattle.hy_events.specs.Replies.{reply_text}
 use Rattle.hy_script.specs.declared.answer.Request.TheVariants as requests
 use Rattle.hy_script.specs.Answers.{Asks}

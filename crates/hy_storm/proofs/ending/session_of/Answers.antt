@@ -8,7 +8,6 @@ use Rattle.hy_session.specs.of_forks.Forks.{SpellsDatabase, are_from}
 use Rattle.hy_session.specs.Databases.{lists_of}
 use Rattle.hy_session.specs.Reports.{broken_condition}
 use Rattle.hy_session.specs.Snapshots.{lists_of_all}
-use Rattle.hy_session.proofs.of_forks.ForkedLaws.{are_from-forks}
 use Rattle.hy_storm.proofs.ending.session_of.Goals as goal
 
 pub returns-clause-consistent : goal.returns-clause-consistent
@@ -17,9 +16,9 @@ returns-clause-consistent g c =
     let lists = g.K.Loaded.load in
     let log = c.args.journal.now.list.log in
     let taken = c.in_ok-all.all in
-    let count : length (database_behind lists log).warehouses ≡ length c.args.parts.now.items =
-    count-after lists (commits_in log) ∙ sym c.requires.parts.count in
-    let some : 1 ≤ length (database_behind lists log).warehouses = omega (arith, count, c.requires.some) in
+    let count : length (database_behind lists log).warehouses ≡ length c.args.partitions.now =
+    count-after lists (commits_in log) ∙ sym c.sound.ensures.partitions.count in
+    let some : 1 ≤ length (database_behind lists log).warehouses = omega (arith, count, c.sound.ensures.some) in
     let spells : SpellsDatabase 4096 (database_behind lists log) c.new-session.result =
     subst (λ (it : List SnapshotState). SpellsDatabase 4096 (database_behind lists log) it) (sym c.new-session.ensures) c.in_ok-all.ensures.database in
     let rows : lists_of_all 4096 c.new-session.result ≡ lists_of (database_behind lists log) =
@@ -28,7 +27,5 @@ returns-clause-consistent g c =
 
 pub returns-clause-mine : goal.returns-clause-mine
 returns-clause-mine g c =
-    let kit = g.K.World.passes in
-    let news = c.fork_all.new.parts.items in
-    subst (λ (it : List SnapshotState). are_from kit it news ≡ true) (sym c.new-session.ensures)
-    (are_from-forks 4096 kit c.args.journal.now.list.log c.args.pass.now.seen c.in_ok-all.all c.args.parts.now.items news c.in_ok-all.ensures.forks)
+    subst (λ (it : List SnapshotState). are_from g.K.World.passes it c.fork_all.new.self ≡ true) (sym c.new-session.ensures)
+    c.in_ok-all.ensures.mine

@@ -3,7 +3,7 @@ use Rattle.std.proofs.Common.{◌≡◌, Result, Ok, Err, ap, sym, subst}
 use Rattle.std.specs.Prelude.{IsErrAnd}
 use Rattle.hy_schema.specs.declared.refusal.Refusal.{Refusal}
 use Rattle.hy_redo_drains.specs.Following.{DrainState, WritesDue}
-use Rattle.hy_engine.specs.Engines.{DrainsInto, drained, undrained}
+use Rattle.hy_engine.specs.Engines.{drained, undrained}
 use Rattle.hy_engine.proofs.engine.Engine.drain_into.Goals as goal
 
 -- the error that an answer has

@@ -1,51 +1,46 @@
-use Rattle.std.proofs.Common.{◌<◌, arith, length, lit<, refl, slice_set, subst, sym}
+use Rattle.std.proofs.Common.{◌<◌, List, arith, length, lit<, OnOk, refl, slice_set, subst, sym}
+use Rattle.hy_session.specs.of_partition.Partition.{PartitionState}
 use Rattle.hy_script.specs.Databases.{DatabaseState}
 use Rattle.hy_script.specs.Printed.{IsAsked}
-use Rattle.hy_script.proofs.DatabaseLaws.{asked, no_part-set, partitions-set, served-at, served-count, served-set}
-use Rattle.hy_script.proofs.ResultLaws.{on_ok}
+use Rattle.hy_script.specs.inside.Invariants.{AreServed, IsServed}
+use Rattle.hy_script.proofs.DatabaseLaws.{asked, served-at, served-count, served-set}
 use Rattle.hy_script.proofs.database.Database.ask.Goals as goal
 
-pub index_mut-requires-in-Some : goal.index_mut-requires-in-Some
-index_mut-requires-in-Some g c =
+pub index_mut-requires : goal.index_mut-requires
+index_mut-requires g c =
     let place = c.in-Some.place in
-    let parts = c.self.inside.parts.items in
+    let parts = c.self.inside.partitions in
     let within : place < length parts =
     subst (λ (it : DatabaseState). place < length it.parts) (sym c.self.view_is) c.in-Some.ensures.1 in
-    omega (
-      arith,
-      within,
-      served-count parts c.self.inside.terminals.items c.self.invariant.served,
-      c.self.inside.terminals.len,
-    )
+    omega (arith, within, served-count parts c.self.inside.terminals.items c.self.invariant.served)
 
 pub grant-requires : goal.grant-requires
 grant-requires g c =
     let place = c.in-Some.place in
-    let parts = c.self.inside.parts.items in
+    let parts = c.self.inside.partitions in
     let within : place < length parts =
     subst (λ (it : DatabaseState). place < length it.parts) (sym c.self.view_is) c.in-Some.ensures.1 in (
       lit< tt,
-      served-at parts c.self.inside.terminals.items place c.index_mut.result.now c.index_mut-in-Some.result.now
-          c.self.invariant.served within c.index_mut.ensures.value c.index_mut-in-Some.ensures.value,
+      (
+        lit< tt,
+        (
+          within,
+          served-at parts c.self.inside.terminals.items place c.index_mut.result.now c.self.invariant.served within
+              c.index_mut.ensures.value,
+        ),
+      ),
     )
 
 pub invariant_of-self : goal.invariant_of-self
 invariant_of-self g c =
     let place = c.in-Some.place in
-    let parts = c.self.inside.parts.items in
     let terminals = c.self.inside.terminals.items in
-    let old = c.index_mut.result.now in
-    let new = c.grant.new.part in
     let terminal = c.grant.new.terminal in
-    let within : place < length parts =
-    subst (λ (it : DatabaseState). place < length it.parts) (sym c.self.view_is) c.in-Some.ensures.1 in
-    let stays = c.grant.ensures.stays in
-    let is = c.index_mut.ensures.value in
+    let changes = c.grant.ensures.granted in
     record {
-      load = partitions-set g.K.Loaded.load parts place old new terminal within is stays c.self.invariant.load;
-      whole = no_part-set g.K.Loaded.load parts place old new terminal within is stays c.self.invariant.whole;
-      served = served-set parts terminals place new terminal c.self.invariant.served
-          (record { max_frames = stays.max_frames; one_pass = stays.one_pass });
+      served = subst (λ (parts : List PartitionState). AreServed parts (slice_set terminals place terminal))
+          (sym changes.3) (served-set c.self.inside.partitions terminals place changes.1 terminal
+          c.self.invariant.served changes.4.1);
       taken = c.self.invariant.taken;
       pass_is = c.self.invariant.pass_is;
     }
@@ -56,18 +51,18 @@ returns-in-Some-clause-asked g c =
     let before = g.O.Output.contents c.args.out.now in
     let after = g.O.Output.contents c.grant.new.out in
     let old : DatabaseState = record {
-      parts = c.self.inside.parts.items;
+      parts = c.self.inside.partitions;
       snapshots = c.self.inside.snapshots.items;
       log = c.self.inside.journal.list.log;
     } in
     let new : DatabaseState = record {
-      parts = slice_set c.self.inside.parts.items place c.grant.new.part;
+      parts = c.grant.new.partitions;
       snapshots = c.self.inside.snapshots.items;
       log = c.grant.new.journal.list.log;
     } in
-    let within : place < length c.self.inside.parts.items =
+    let within : place < length c.self.inside.partitions =
     subst (λ (it : DatabaseState). place < length it.parts) (sym c.self.view_is) c.in-Some.ensures.1 in
-    on_ok c.grant.result c.grant.ensures.granted (λ granted.
-    subst (λ (now : DatabaseState). IsAsked c.args.number c.args.request now new before after) c.self.view_is
-    (asked c.args.number place c.args.request old new c.index_mut.result.now c.grant.new.part before after
-    c.in-Some.ensures.0 within c.index_mut.ensures.value refl granted))
+    let said = asked c.grant.result c.args.number place c.args.request old new before after
+    (λ p q. IsServed q c.grant.new.terminal) c.in-Some.ensures.0 within refl c.grant.ensures.granted in
+    subst (λ (now : DatabaseState). OnOk c.grant.result (IsAsked c.args.number c.args.request now new before after))
+    c.self.view_is said

@@ -5,11 +5,9 @@ use Rattle.hy_script.proofs.database.Database.cross.Goals as goal
 
 pub invariant_of-self : goal.invariant_of-self
 invariant_of-self g c =
-    let olds = c.self.inside.parts.items in
-    let news = c.cross-done.new.parts.items in
+    let olds = c.self.inside.partitions in
+    let news = c.cross-done.new.self in
     record {
-      load = c.cross-done.ensures.parts;
-      whole = c.cross-done.ensures.whole;
       served = served-pairs 1 olds news c.self.inside.terminals.items
           (keeps-crossed g.K.Loaded.load c.new.result c.self.inside.journal.list.log c.cross-done.new.journal.list.log
           olds news c.cross-done.result c.cross-done.ensures.crosses) c.self.invariant.served;

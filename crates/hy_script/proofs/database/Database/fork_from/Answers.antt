@@ -1,32 +1,30 @@
-use Rattle.std.proofs.Common.{◌≡◌, ◌∙◌, ◌<◌, ◌++◌, ◌∷◌, [], List, Err, true, length, map, slice_index_or, ap, refl, subst, sym}
+use Rattle.std.proofs.Common.{◌≡◌, ◌∙◌, ◌<◌, ◌++◌, ◌∷◌, [], List, Err, true, length, map, slice_index_or, ap, subst, sym}
 use Rattle.std.proofs.lemmas.List.Elements.{All-push}
 use Rattle.hy_session.specs.of_partition.Snapshots.{SnapshotState}
 use Rattle.hy_session.specs.of_crossing.Lists.{Pairwise}
 use Rattle.hy_session.specs.of_forks.Forks.{ForksAllFrom, IsUnforkedUntold, are_from, shown}
+use Rattle.hy_session.proofs.of_crossing.PlaceLaws.{get-at}
 use Rattle.hy_session.proofs.of_forks.AgainLaws.{all-untold-same}
 use Rattle.hy_script.specs.Databases.{DatabaseState, OpenSnapshot}
 use Rattle.hy_script.specs.Steps.{OpensFrom}
-use Rattle.hy_script.specs.inside.Invariants.{IsOfAll}
+use Rattle.hy_script.specs.inside.Invariants.{IsTaken}
 use Rattle.hy_script.proofs.DatabaseLaws.{served-pairs}
-use Rattle.hy_script.proofs.ListLaws.{item_at}
 use Rattle.hy_script.proofs.ResultLaws.{on_err}
-use Rattle.hy_script.proofs.SnapshotLaws.{are_from-own, forked_from-own, keeps-forked_from, keeps-untold, own-at, own-memory}
+use Rattle.hy_script.proofs.SnapshotLaws.{just-taken, keeps-forked_from, keeps-untold, own-memory, taken-at}
 use Rattle.hy_script.proofs.database.Database.fork_from.Goals as goal
 
 pub returns-in_err-reserve-clause-stays : goal.returns-in_err-reserve-clause-stays
 returns-in_err-reserve-clause-stays g c =
-    let parts = c.self.inside.parts.items in
+    let parts = c.self.inside.partitions in
     on_err c.from_residual.result
     (subst (λ (now : DatabaseState). Pairwise (λ number. IsUnforkedUntold) 1 now.parts parts) c.self.view_is
     (all-untold-same parts))
 
 pub invariant_of-self-in-Err : goal.invariant_of-self-in-Err
 invariant_of-self-in-Err g c =
-    let olds = c.self.inside.parts.items in
-    let news = c.fork.new.parts.items in
+    let olds = c.self.inside.partitions in
+    let news = c.fork.new.partitions in
     record {
-      load = c.fork.ensures.parts;
-      whole = c.fork.ensures.whole;
       served = served-pairs 1 olds news c.self.inside.terminals.items
           (keeps-untold olds news c.in-Err.ensures.err) c.self.invariant.served;
       taken = rw c.reserve.ensures.items (c.self.invariant.taken);
@@ -37,18 +35,16 @@ invariant_of-self-in-Err g c =
 pub returns-in-Err-clause-refused : goal.returns-in-Err-clause-refused
 returns-in-Err-clause-refused g c =
     let kit = g.K.World.passes in
-    let lists = g.K.Loaded.load in
-    let olds = c.self.inside.parts.items in
+    let olds = c.self.inside.partitions in
     let held = c.self.inside.snapshots.items in
     let within : c.args.place < length held =
     subst (λ (now : DatabaseState). c.args.place < length now.snapshots) (sym c.self.view_is) c.requires in
     let is = c.index.ensures ∙ ap (λ (all : List OpenSnapshot). slice_index_or all c.args.place c.index.result.now)
     c.reserve.ensures.items in
-    let own = own-at kit (length lists.tables.warehouses) held c.args.place c.index.result.now within is
-    c.self.invariant.taken in
+    let taken = taken-at kit g.K.Loaded.load held c.args.place c.index.result.now within is c.self.invariant.taken in
     let from : are_from kit c.session.result.now olds ≡ true =
     subst (λ (it : List SnapshotState). are_from kit it olds ≡ true) (sym c.session.ensures)
-    (are_from-own kit lists olds c.index.result.now c.self.invariant.load own) in
+    (taken.mine olds c.sound.ensures.partitions) in
     own-memory {T = List SnapshotState} (Err c.in-Err.refusal) (are_from kit c.session.result.now olds) from
     c.in-Err.ensures.mine c.in-Err.ensures.refused
 
@@ -56,28 +52,25 @@ pub invariant_of-self-in-Ok : goal.invariant_of-self-in-Ok
 invariant_of-self-in-Ok g c =
     let kit = g.K.World.passes in
     let lists = g.K.Loaded.load in
-    let olds = c.self.inside.parts.items in
-    let news = c.fork.new.parts.items in
+    let olds = c.self.inside.partitions in
+    let news = c.fork.new.partitions in
     let session = c.in-Ok.session in
-    let forks = c.in-Ok.ensures.forks in
-    let own = forked_from-own kit c.session.result.now olds news session forks lists c.args.name c.self.invariant.load
-    c.fork.ensures.parts in
+    let taken = just-taken kit lists news c.args.name session c.sound-in-Ok.ensures.partitions c.in-Ok.ensures.kit
+    c.in-Ok.ensures.own in
     record {
-      load = c.fork.ensures.parts;
-      whole = c.fork.ensures.whole;
       served = served-pairs 1 olds news c.self.inside.terminals.items
-          (keeps-forked_from kit c.session.result.now olds news session forks) c.self.invariant.served;
+          (keeps-forked_from kit c.session.result.now olds news session c.in-Ok.ensures.forks) c.self.invariant.served;
       taken = rw (c.push_reserved.ensures.items, c.new.ensures, c.reserve.ensures.items)
-          (All-push (IsOfAll kit (length lists.tables.warehouses)) c.self.inside.snapshots.items
-          (record { name = c.args.name; parts = session }) c.self.invariant.taken own);
+          (All-push (IsTaken kit lists) c.self.inside.snapshots.items (record { name = c.args.name; parts = session })
+          c.self.invariant.taken taken);
       pass_is = c.self.invariant.pass_is;
     }
 
-pub returns-clause-opens : goal.returns-clause-opens
-returns-clause-opens g c =
+pub returns-in-Ok-clause-opens : goal.returns-in-Ok-clause-opens
+returns-in-Ok-clause-opens g c =
     let kit = g.K.World.passes in
-    let olds = c.self.inside.parts.items in
-    let news = c.fork.new.parts.items in
+    let olds = c.self.inside.partitions in
+    let news = c.fork.new.partitions in
     let held = c.self.inside.snapshots.items in
     let session = c.in-Ok.session in
     let opened : OpenSnapshot = record { name = c.args.name; parts = session } in
@@ -95,7 +88,7 @@ returns-clause-opens g c =
     subst (λ (now : DatabaseState). OpensFrom c.args.place c.args.name now new) c.self.view_is (record {
       kit = kit;
       from = c.index.result.now;
-      there = item_at held c.args.place c.index.result.now within is;
+      there = get-at held c.args.place c.index.result.now within is;
       parts = session;
       forks = subst (λ (it : List SnapshotState). ForksAllFrom kit it olds news session) c.session.ensures
           c.in-Ok.ensures.forks;

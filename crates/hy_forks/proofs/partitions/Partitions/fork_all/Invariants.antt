@@ -3,15 +3,15 @@ use Rattle.hy_crossing.specs.Lists.{Pairwise}
 use Rattle.hy_crossing.specs.Pairs.{Before}
 use Rattle.hy_forks.specs.inside.Places.{ForksExactlyHere}
 use Rattle.hy_forks.proofs.KnownLaws.{IsTold}
-use Rattle.hy_forks.proofs.forks.fork_all.Given as goal
+use Rattle.hy_forks.proofs.partitions.Partitions.fork_all.Given as goal
 
 -- the partitions before the place were forked, and their snapshots stand in order; the client was told, if one was
 abbrev pub invariant-loop-place : goal.invariant-loop-place
 invariant-loop-place g l =
     Pairwise (Before (l.place + 1) (ForksExactlyHere g.row.N g.K.World.passes l.fn.journal.list.log l.fn.pass.seen
-    l.snapshots.items)) 1 (g.P.Parts.states l.fn.parts) (g.P.Parts.states l.parts)
+    l.snapshots.items)) 1 l.fn.self (g.P.Parts.states l.parts)
     × (length l.snapshots.items ≡ l.place)
-    × (length (g.P.Parts.states l.fn.parts) ≤ vec_capacity l.snapshots)
+    × (length l.fn.self ≤ vec_capacity l.snapshots)
     × (l.journal.list.log ≡ l.fn.journal.list.log)
     × IsTold l.fn.journal.list.log l.fn.pass l.pass
-    × (l.place-end ≡ length (g.P.Parts.states l.fn.parts))
+    × (l.place-end ≡ length l.fn.self)

@@ -7,7 +7,7 @@ use Rattle.hy_forks.specs.Drains.{TellsHere}
 use Rattle.hy_forks.proofs.HistoryLaws.{one-history}
 use Rattle.hy_forks.proofs.RelationLaws.{pairs-length}
 use Rattle.hy_forks.proofs.TellLaws.{told-kept, told-partitions, told-whole}
-use Rattle.hy_forks.proofs.history.find_history.Goals as goal
+use Rattle.hy_forks.proofs.history.tell_all.Goals as goal
 
 pub loop-place-preserved : goal.loop-place-preserved
 loop-place-preserved g c =

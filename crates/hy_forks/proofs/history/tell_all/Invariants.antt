@@ -1,7 +1,7 @@
 use Rattle.std.proofs.Common.{◌≡◌, length}
 use Rattle.hy_crossing.specs.Lists.{IsDoneUpTo}
 use Rattle.hy_forks.specs.Drains.{TellsHere}
-use Rattle.hy_forks.proofs.history.find_history.Given as goal
+use Rattle.hy_forks.proofs.history.tell_all.Given as goal
 
 -- the partitions before the place were told
 abbrev pub invariant-loop-place : goal.invariant-loop-place
