@@ -105,7 +105,7 @@ fn order<K: Loaded>(
 ) -> Result<Pass<Commit, K>, Refusal> {
     for number in 0..orders {
         let command = order_of(alloc, number)?;
-        pass = shop.run((number % 2) as usize, command, pass)?;
+        pass = shop.run(command, pass)?;
     }
     Ok(pass)
 }
@@ -147,7 +147,7 @@ fn deliver<K: Loaded>(
     deliveries: u64,
 ) -> Result<Pass<Commit, K>, Refusal> {
     for number in 0..deliveries {
-        pass = shop.run((number % 2) as usize, delivery_of(number), pass)?;
+        pass = shop.run(delivery_of(number), pass)?;
     }
     Ok(pass)
 }

@@ -63,7 +63,7 @@ impl<K: Loaded> Shop<K> {
 
     /// One of them.
     fn pay_once(&mut self, pass: Pass<Commit, K>) -> Result<Pass<Commit, K>, Refusal> {
-        self.run(0, payment(), pass)
+        self.run(payment(), pass)
     }
 
     /// How many commits there were since the last drain.
@@ -77,21 +77,16 @@ impl<K: Loaded> Shop<K> {
         Ok(batch.list(0).len() as u64)
     }
 
-    /// Runs a command of one warehouse, that at a place, to its end. Its client comes back.
+    /// Runs a command as a whole. Its client comes back.
     pub fn run(
         &mut self,
-        place: usize,
         command: Command,
         pass: Pass<Commit, K>,
     ) -> Result<Pass<Commit, K>, Refusal> {
-        if place >= self.partitions.len() {
-            return Err(Refusal::NoSuchWarehouse);
-        }
-        if let Err((_job, refusal)) = self.partitions.begin(place, Job::new(command, pass)) {
-            return Err(refusal);
-        }
-        self.partitions.finish_running(place, &mut self.journal);
-        client_of(self.partitions.take_done(place))
+        let done = self
+            .partitions
+            .run(&mut self.journal, Job::new(command, pass));
+        client_of(Some(done))
     }
 
     /// A session over all warehouses as they are now.

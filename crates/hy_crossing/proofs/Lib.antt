@@ -17,7 +17,9 @@ pub mod InformLaws
 pub mod NumberedLaws
 pub mod AcceptLaws
 pub mod CrossLaws
-pub mod GuardLaws
+pub mod HeldLaws
 pub mod WholeLaws
 pub mod SeatLaws
 pub mod LookingLaws
+pub mod CountLaws
+pub mod UnsettledLaws

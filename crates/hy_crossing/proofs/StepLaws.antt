@@ -1,5 +1,5 @@
 -- One part more that is done, or that isn't, so that those before it are undone.
-use Rattle.std.proofs.Common.{◌≡◌, ◌≢◌, ◌⊎◌, ℕ, zero, suc, ◌+◌, ◌-◌, ◌<◌, ◌≤◌, ◌==◌, true, false, List, [], ◌∷◌, length, Option, None, inl, inr, refl, sym, ap, ◌∙◌, subst, arith}
+use Rattle.std.proofs.Common.{◌≡◌, ◌≢◌, ◌⊎◌, ℕ, zero, suc, ◌+◌, ◌-◌, ◌<◌, ◌≤◌, ◌==◌, true, false, List, [], ◌∷◌, length, Option, None, Some, inl, inr, refl, sym, ap, ◌∙◌, subst, arith}
 use Rattle.std.specs.Prelude.{IfSome, slice_get, slice_index_or, slice_set}
 use Rattle.std.specs.Option.{option_or}
 use Rattle.std.proofs.lemmas.Bool.{eqb-false, eqb-true, true≢false}
@@ -17,6 +17,7 @@ use Rattle.hy_partition.specs.Steps.{KeepsNothing}
 use Rattle.hy_crossing.specs.Crossings.{AreQuiet, ArePartitions, CanDoIfNamed, CanDoParts, DoesHere, DoesIfNamed, FailsHere, IsAsBefore, IsPartition, IsQuietIfNamed, IsWhyNotDone, LeavesIfNamed, RepliesFrom, SomeLacksFrame, UndoesIfNamed, is_named}
 use Rattle.hy_crossing.specs.Lists.{ChangesAt, IsDoneUpTo, Pairwise}
 use Rattle.hy_crossing.specs.Pairs.{At, Before}
+use Rattle.hy_crossing.specs.Unsettled.{AreHeldBefore}
 use Rattle.hy_crossing.proofs.PairLaws.{pairs-done, pairs-hold, pairs-replaced, pairs-then}
 use Rattle.hy_crossing.proofs.PlaceLaws.{held-at, holds-at}
 use Rattle.hy_crossing.proofs.ReplyLaws.{no-reply, replies-here, reply-home}
@@ -93,6 +94,26 @@ half-running edition command why place number old new half = elim half [
     | inr later ↦ ap (λ (p : PartitionState). p.running) later.1
   ]
 ]
+
+-- the part is done in each warehouse before the place that the command names
+half-held : (edition : Edition) (command : Command) (why : Refusal) (place number : ℕ) (old new : PartitionState)
+    → IsHalfDone edition command why place number old new → number < place + 1 → is_named command number ≡ true
+    → new.part ≡ Some (record { edition = edition; command = command })
+half-held edition command why place number old new half early named = elim half [
+  | inl first ↦ elim first.1.1 [
+    | inl does ↦ does.1.part
+    | inr unnamed ↦ absurd (true≢false (sym named ∙ unnamed.0))
+  ]
+  | inr others ↦ elim others [
+    | inl at ↦ absurd (omega (arith, early, at.0))
+    | inr later ↦ absurd (omega (arith, early, later.0))
+  ]
+]
+
+some-given : {Row : Type 0} (found : Option Row) (Given : Type 0) (Holds : Row → Type 0) → Given
+    → IfSome found (λ row. Given → Holds row) → IfSome found Holds
+some-given None Given Holds given holds = tt
+some-given (Some row) Given Holds given holds = holds given
 
 does-undone : (edition : Edition) (command : Command) (number : ℕ) (old middle new : PartitionState)
     → DoesIfNamed edition command number old middle → UndoesIfNamed command number middle new
@@ -184,6 +205,23 @@ module _ (edition : Edition) (command : Command) (place : ℕ) (olds middles : L
         olds news halves (λ p.
         let first : suc p ≡ 1 + p = omega arith in
         subst (λ n. IfSome (slice_get olds p) (CanDoIfNamed command n)) first (can p)) other)
+
+    pub held-halves : CanDoParts command olds
+        → AreHeldBefore command place (record { edition = edition; command = command }) news
+    held-halves can other before =
+        let next : 1 + other ≡ suc other = omega arith in
+        some-given (slice_get news other) (suc other < place + 1)
+        (λ (p : PartitionState). is_named command (suc other) ≡ true
+        → p.part ≡ Some (record { edition = edition; command = command })) (omega (arith, before))
+        (subst (λ n. IfSome (slice_get news other) (IsHeldEarly n)) next
+        (pairs-hold (IsHalfDone edition command why place) (CanDoIfNamed command) IsHeldEarly
+        (λ number old new half can. half-held edition command why place number old new half) 1 olds news halves (λ p.
+        let first : suc p ≡ 1 + p = omega arith in
+        subst (λ n. IfSome (slice_get olds p) (CanDoIfNamed command n)) first (can p)) other))
+      where
+        IsHeldEarly : ℕ → PartitionState → Type 0
+        IsHeldEarly number p = number < place + 1 → is_named command number ≡ true
+            → p.part ≡ Some (record { edition = edition; command = command })
 
     module _ (last : List PartitionState) (undone : IsDoneUpTo (UndoesIfNamed command) place news last) where
       pub left-all : Pairwise (LeavesIfNamed command) 1 olds last

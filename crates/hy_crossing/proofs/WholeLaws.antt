@@ -1,6 +1,6 @@
 -- A whole command over several warehouses: accepted, or refused.
 use Rattle.std.proofs.Common.{◌≡◌, ◌⊎◌, ◌==◌, ℕ, suc, true, nat_lt, List, [], ◌∷◌, ◌++◌, length, Option, None, Some, inl, inr, refl, sym, ap, ◌∙◌, subst}
-use Rattle.std.specs.Prelude.{slice_get}
+use Rattle.std.specs.Prelude.{IfSome, slice_get}
 use Rattle.std.specs.List.{list_all, list_any}
 use mathlib.Core.List.{IsPrefix}
 use Rattle.hy_ledger.specs.declared.view.ShareState.{ShareState}
@@ -19,8 +19,10 @@ use Rattle.hy_database.specs.Database.{act_on_all, kept_in}
 use Rattle.hy_passes.specs.Worlds.{PassState}
 use Rattle.hy_partition.specs.Jobs.{DoneState, JobState, Log, refused_answer, share_of, told}
 use Rattle.hy_partition.specs.Partition.{PartitionState}
+use Rattle.hy_partition.specs.Unsettled.{UnsettledState}
 use Rattle.hy_crossing.specs.Crossings.{AcceptsAll, AllMayRun, AreDone, AreInformed, AreKnown, ArePartitions, CanDoParts, DoesIfNamed, HaveNoPart, IsPayerIn, IsWhyNotDone, KeepsIfNamed, KeepsPartIfNamed, LeavesIfNamed, MayRunIfNamed, RefusesAll, RepliesFrom, crossing_entry, database_behind, entry_of, loaded_refusal, next_number}
 use Rattle.hy_crossing.specs.Lists.{Pairwise}
+use Rattle.hy_crossing.specs.Unsettled.{AreAllDone}
 use Rattle.hy_crossing.proofs.AcceptLaws.{all-here, can-do, kept-is, same-crossing_refusal}
 use Rattle.hy_crossing.proofs.CrossLaws.{are-done, keeps-all, keeps-keeps, leaves-command, leaves-keeps, leaves-same, partitions-after, partitions-done, reply-is, whole-after}
 use Rattle.hy_crossing.proofs.InformLaws.{some-then, still-partitions, still-whole}
@@ -125,7 +127,7 @@ module _ (lists : Lists) (job : JobState) (log : Log) (parts : List PartitionSta
     kept : numbered ≡ kept_in (database_behind lists log) job.command
     kept = is ∙ kept-is lists log job.command parts informed accepts number payer
 
-    pub accepts-all : (edition : Edition) (middles news : List PartitionState) (after : Log) (reply : Reply)
+    accepts-with : (edition : Edition) (middles news : List PartitionState) (after : Log) (reply : Reply)
         (answer : DoneState) (pass : PassState Commit) → edition ≡ job.edition → pass ≡ job.pass
         → Pairwise (DoesIfNamed edition numbered) 1 parts middles
         → Pairwise (KeepsPartIfNamed edition numbered (next_number log) after) 1 middles news
@@ -133,7 +135,7 @@ module _ (lists : Lists) (job : JobState) (log : Log) (parts : List PartitionSta
         → after ≡ log ++ crossing_entry edition numbered (length pass.seen) log ∷ []
         → answer ≡ record { reply = reply; pass = told pass after; share = share_of (home_of numbered) numbered }
         → AcceptsAll lists job log after parts news answer
-    accepts-all edition middles news after reply answer pass edition_is pass_is does keeps replies begins log_is answer_is = record {
+    accepts-with edition middles news after reply answer pass edition_is pass_is does keeps replies begins log_is answer_is = record {
       accepted = same-crossing_refusal lists log job.command parts ∙ accepts;
       client_told = subst (λ (p : PassState Commit). IsPrefix p.seen log) pass_is begins;
       log_is =
@@ -159,3 +161,18 @@ module _ (lists : Lists) (job : JobState) (log : Log) (parts : List PartitionSta
       where
         made : Reply → PassState Commit → Option ShareState → DoneState
         made r p s = record { reply = r; pass = told p after; share = s }
+
+    pub accepts-all : (edition : Edition) (middles news : List PartitionState) (after : Log) (unsettled : UnsettledState)
+        (answer : DoneState) (pass : PassState Commit) → edition ≡ job.edition → pass ≡ job.pass
+        → Pairwise (DoesIfNamed edition numbered) 1 parts middles
+        → Pairwise (KeepsPartIfNamed edition numbered (next_number log) after) 1 middles news
+        → AreAllDone edition numbered parts unsettled → IsPrefix pass.seen log
+        → after ≡ log ++ crossing_entry edition numbered (length pass.seen) log ∷ []
+        → IfSome unsettled.reply (λ reply.
+        answer ≡ record { reply = reply; pass = told pass after; share = share_of (home_of numbered) numbered })
+        → AcceptsAll lists job log after parts news answer
+    accepts-all edition middles news after unsettled answer pass edition_is pass_is does keeps all begins log_is answer_is =
+        accepts-with edition middles news after all.reply answer pass edition_is pass_is does keeps all.replies begins log_is
+        (subst (λ (o : Option Reply). IfSome o (λ reply.
+        answer ≡ record { reply = reply; pass = told pass after; share = share_of (home_of numbered) numbered }))
+        (ap (λ (u : UnsettledState). u.reply) all.counted) answer_is)

@@ -55,7 +55,7 @@ fn do_all<const N: usize, K: Loaded, P: Parts<Part = Partition<N, K>>>(
     let (command, pass) = job.open();
     let numbered = command.with_number(number);
     match do_parts(parts, edition, &numbered) {
-        Ok(reply) => keep_all(parts, journal, edition, numbered, pass, reply),
+        Ok(unsettled) => keep_all(parts, unsettled, journal, edition, numbered, pass),
         Err(refusal) => Job::new(numbered, pass).refuse(refusal),
     }
 }

@@ -1,6 +1,6 @@
 //! A command whose parts are done enters the serial list.
 
-ghost use Rattle.std.specs.Prelude.{◌≡◌, ◌∷◌, ◌++◌, [], length, nat_lt, true};
+ghost use Rattle.std.specs.Prelude.{◌≡◌, ◌∷◌, ◌++◌, [], IfSome, IsSome, length, nat_lt, true};
 ghost use Rattle.std.specs.List.{list_all};
 ghost use mathlib.Core.List.{IsPrefix};
 ghost use Rattle.hy_rows.specs.Ranges.{is_between};
@@ -8,11 +8,12 @@ ghost use Rattle.hy_commands.specs.Commands.{home_of, warehouses_of};
 ghost use Rattle.hy_partition.specs.Jobs.{share_of, told};
 ghost use Rattle.hy_crossing.specs.Crossings.{AreDone, AreKnown, ArePartitions, KeepsPartIfNamed, crossing_entry, next_number};
 ghost use Rattle.hy_crossing.specs.Lists.{Pairwise};
+ghost use Rattle.hy_crossing.specs.Unsettled.{AreCounted};
 
 use crate::keeping::keep_parts;
 use crate::parts::Parts;
-use hy_commands::{Command, Commit, Edition, Reply};
-use hy_partition::{Done, Loaded, Partition};
+use hy_commands::{Command, Commit, Edition};
+use hy_partition::{Done, Loaded, Partition, UnsettledParts};
 use hy_passes::{Entry, Journal, Pass};
 
 /// What is known of the partitions of the warehouses that a command names. Changes nothing.
@@ -33,29 +34,31 @@ pub(crate) fn know_named<const N: usize, K: Loaded, P: Parts<Part = Partition<N,
 }
 
 /// Lets a command whose parts are done enter the serial list, with the next number among those of several warehouses, and
-/// keeps its parts. The client is told the whole list. Takes no memory.
+/// keeps its parts. The client is told the whole list, and gets their reply. Takes no memory.
 pub fn keep_all<const N: usize, K: Loaded, P: Parts<Part = Partition<N, K>>>(
     parts: &mut P,
+    mut unsettled: UnsettledParts<K>,
     journal: &mut Journal<Commit, K>,
     edition: Edition,
     command: Command,
     mut pass: Pass<Commit, K>,
-    reply: Reply,
 ) -> Done<K>
     requires parts { ArePartitions K.load (P.states parts.old) }
     requires there { list_all (is_between 1 (length (P.states parts.old))) (warehouses_of command) ≡ true }
     requires several { nat_lt 1 (length (warehouses_of command)) ≡ true }
     requires done { AreDone edition command journal.old.list.log (P.states parts.old) }
+    requires counted { AreCounted edition command (length (P.states parts.old)) unsettled }
+    requires replied { IsSome unsettled.reply }
     ensures log { journal.new.list.log
         ≡ journal.old.list.log ++ crossing_entry edition command (length pass.seen) journal.old.list.log ∷ [] }
     ensures kept { Pairwise (KeepsPartIfNamed edition command (next_number journal.old.list.log) journal.new.list.log) 1
         (P.states parts.old) (P.states parts.new) }
     ensures client { IsPrefix pass.seen journal.old.list.log }
-    ensures answer { result ≡ record {
+    ensures answer { IfSome unsettled.reply (λ reply. result ≡ record {
       reply = reply;
       pass = told pass journal.new.list.log;
       share = share_of (home_of command) command;
-    } }
+    }) }
 {
     know_named(parts, &command);
     let stamp = pass.known();
@@ -66,13 +69,14 @@ pub fn keep_all<const N: usize, K: Loaded, P: Parts<Part = Partition<N, K>>>(
         stamp,
     };
     journal.list.append(&entry);
-    let share = keep_parts(
+    keep_parts(
         parts,
+        &mut unsettled,
         &mut journal.list,
         edition,
         entry.commit.command(),
         crossing,
     );
     journal.list.tell_client(&mut pass);
-    Done::new(reply, pass, share)
+    unsettled.answer(pass)
 }

@@ -1,5 +1,6 @@
 //! All partitions of a load, of which one at a time is lent.
 
+use crate::held::Held;
 use hy_partition::{Loaded, Partition};
 use std::sync::MutexGuard;
 
@@ -52,22 +53,22 @@ impl<const N: usize, K: Loaded> Parts for Vec<Partition<N, K>> {
 }
 
 // Partitions behind locks, all of which are held.
-impl<'a, const N: usize, K: Loaded> Parts for Vec<MutexGuard<'a, Partition<N, K>>> {
+impl<'a, const N: usize, K: Loaded> Parts for Held<MutexGuard<'a, Partition<N, K>>> {
     ghost use Rattle.hy_crossing.specs.inside.Guards.{values-put, values_of, with_value_at};
 
     type Part = Partition<N, K>;
 
-    ghost states = { λ parts. values_of parts.items };
+    ghost states = { λ parts. values_of parts };
 
     ghost put = { λ parts place p. with_value_at parts place p };
 
     ghost states_put = { λ parts place p within. values-put parts place p within };
 
     fn len(&self) -> usize {
-        Vec::len(self)
+        Held::len(self)
     }
 
     fn part(&mut self, place: usize) -> &mut Partition<N, K> {
-        &mut self[place]
+        &mut **self.value_mut(place)
     }
 }

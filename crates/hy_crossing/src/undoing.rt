@@ -1,26 +1,34 @@
 //! The parts of a command are undone.
 
-ghost use Rattle.std.specs.Prelude.{◌≤◌, length};
+ghost use Rattle.std.specs.Prelude.{◌≡◌, ◌⊎◌, ◌≤◌, None, length};
+ghost use Rattle.hy_partition.specs.Unsettled.{part_of};
 ghost use Rattle.hy_crossing.specs.Crossings.{AreQuiet, UndoesIfNamed};
 ghost use Rattle.hy_crossing.specs.Lists.{IsDoneUpTo};
+ghost use Rattle.hy_crossing.specs.Unsettled.{AreHeldBefore, named_before};
 
 use crate::parts::Parts;
 use hy_commands::Command;
-use hy_partition::{Loaded, Partition};
+use hy_partition::{Loaded, Partition, UnsettledParts};
 
-/// Undoes the parts of a command in the warehouses before a place. Takes no memory and no frame.
+/// Undoes the parts of a command in the warehouses before a place, which are all that are done. Takes no memory and no frame.
 pub fn undo_parts<const N: usize, K: Loaded, P: Parts<Part = Partition<N, K>>>(
     parts: &mut P,
+    mut unsettled: UnsettledParts<K>,
     command: &Command,
     end: usize,
 )
     requires end { end ≤ length (P.states parts.old) }
     requires quiet { AreQuiet command.now (P.states parts.old) }
+    requires held { AreHeldBefore command.now end (part_of unsettled) (P.states parts.old) }
+    requires counted { unsettled.count ≡ named_before command.now end }
+    requires replied { (unsettled.reply ≡ None) ⊎ (1 ≤ unsettled.count) }
+    requires unshared { unsettled.share ≡ None }
     ensures { IsDoneUpTo (UndoesIfNamed command.now) end (P.states parts.old) (P.states parts.new) }
 {
     for place in 0..end {
         if command.names(place as u64 + 1) {
-            parts.part(place).undo_part();
+            parts.part(place).undo_part(&mut unsettled);
         }
     }
+    unsettled.close();
 }

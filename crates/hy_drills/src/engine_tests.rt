@@ -106,8 +106,7 @@ fn sees_payment<K: Loaded, R: Wait + Abort + AllocGlobal>(
         .expect(rt, "a snapshot");
     assert!(rt; all.len() == 2);
     assert!(rt; all.part(0).commits() == 1 && all.part(1).commits() == 0);
-    let room = engine.room(rt.alloc()).expect(rt, "room");
-    match engine.close_all(rt, room, all) {
+    match engine.close_all(rt, all) {
         Ok(()) => {}
         Err(_) => panic!(rt; "a snapshot of others"),
     }

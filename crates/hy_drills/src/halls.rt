@@ -89,7 +89,7 @@ pub fn hand_in<K: Loaded, R: Wait + Abort + AllocGlobal>(
     command: Command,
     pass: Pass<Commit, K>,
 ) {
-    match engine.submit(rt, rt.alloc(), Job::new(command, pass)) {
+    match engine.submit(rt, Job::new(command, pass)) {
         Ok(()) => {}
         Err(_) => panic!(rt; "a place in the queue"),
     }
@@ -104,7 +104,7 @@ pub fn comes_back<K: Loaded, R: Wait + Abort + AllocGlobal>(
     wanted: Refusal,
 ) -> Pass<Commit, K> {
     let client = pass.client();
-    match engine.submit(rt, rt.alloc(), Job::new(command, pass)) {
+    match engine.submit(rt, Job::new(command, pass)) {
         Ok(()) => panic!(rt; "a job that comes back"),
         Err((job, refusal)) => {
             let (_command, pass) = job.open();

@@ -40,8 +40,7 @@ fn forked<K: Loaded, R: Wait + Abort + AllocGlobal>(
     engine: &TestEngine<K>,
     first: &Opened<K>,
 ) -> Opened<K> {
-    let room = engine.room(rt.alloc()).expect(rt, "room");
-    let mut held = engine.hold(rt, room).expect(rt, "all partitions");
+    let mut held = engine.hold(rt).expect(rt, "all partitions");
     match first.session.fork(rt.alloc(), &mut held) {
         Ok(again) => session_with(again),
         Err(_) => panic!(rt; "another session"),
@@ -59,8 +58,7 @@ fn look_and_close<K: Loaded, R: Wait + Abort + AllocGlobal>(
     };
     let broken = session.check_conditions(rt.alloc());
     let report = session.report(rt.alloc());
-    let room = engine.room(rt.alloc()).expect(rt, "room");
-    let mut held = engine.hold(rt, room).expect(rt, "all partitions");
+    let mut held = engine.hold(rt).expect(rt, "all partitions");
     match session.close_all(&mut held) {
         Ok(()) => {}
         Err(_) => panic!(rt; "a session over others"),

@@ -46,13 +46,11 @@ fn comes_back<K: Loaded, L: Loaded, R: Wait + Abort + AllocGlobal>(
         .fork_all(rt, rt.alloc(), &mut pass)
         .expect(rt, "a snapshot");
     assert!(rt; has_another_name(others, &all));
-    let room = other.room(rt.alloc()).expect(rt, "room");
-    let Err((all, refusal)) = other.close_all(rt, room, all) else {
+    let Err((all, refusal)) = other.close_all(rt, all) else {
         panic!(rt; "another engine's snapshot was closed")
     };
     assert!(rt; refusal == Refusal::NotMine && all.len() == 2);
-    let room = own.room(rt.alloc()).expect(rt, "room");
-    match own.close_all(rt, room, all) {
+    match own.close_all(rt, all) {
         Ok(()) => {}
         Err(_) => panic!(rt; "its own snapshot"),
     }

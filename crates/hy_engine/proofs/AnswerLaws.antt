@@ -7,10 +7,10 @@ use Rattle.hy_commands.specs.declared.command.Command.{Command}
 use Rattle.hy_commands.specs.Commands.{home_of}
 use Rattle.hy_queues.specs.Queues.{FrontState, IsWhyUnput}
 use Rattle.hy_commands.specs.declared.edition.Edition.TheVariants as editions
-use Rattle.hy_redo_drains.specs.of_partition.Jobs.{DoneState, JobState, Log, refused_answer}
+use Rattle.hy_redo_drains.specs.of_partition.Jobs.{DoneState, JobState, Log}
 use Rattle.hy_redo_drains.specs.of_partition.Partition.{PartitionState}
 use Rattle.hy_redo_drains.specs.of_forks.Partitions.{AreWhole, CrossesAndTells}
-use Rattle.hy_engine.specs.Engines.{AnswersJob, EngineState, IsAnswer, IsHome, IsWhyBack, at_home, closed, homeless, in_all, names_several, undone, waits}
+use Rattle.hy_engine.specs.Engines.{AnswersJob, EngineState, IsAnswer, IsHome, IsWhyBack, at_home, closed, homeless, in_all, names_several, waits}
 
 module _ (lists : Lists) (job : JobState) (answer : DoneState) (edition : job.edition ≡ editions.Second) where
   -- in a partition
@@ -22,10 +22,6 @@ module _ (lists : Lists) (job : JobState) (answer : DoneState) (edition : job.ed
       → CrossesAndTells lists job before after old new answer → ∥ IsAnswer lists answer ∥₁
   answered-in-all before after old new are crosses =
       ∣ record { job = job; edition = edition; done = in_all before after old new are crosses } ∣₁
-
-  -- where there is no room for their locks
-  pub answered-without-room : answer ≡ refused_answer job.pass refusals.NoMemory → ∥ IsAnswer lists answer ∥₁
-  answered-without-room is = ∣ record { job = job; edition = edition; done = undone is } ∣₁
 
 module _ (lists : Lists) (engine : EngineState) (command : Command) where
   -- a job whose home isn't there

@@ -9,6 +9,7 @@ use Rattle.hy_redo_drains.specs.of_partition.Partition.{PartitionState}
 use Rattle.hy_redo_drains.specs.of_partition.Steps.{Accepts, RefusesAt, StepsTo}
 use Rattle.hy_redo_drains.specs.of_partition.declared.job.Progress.{Progress}
 use Rattle.hy_redo_drains.specs.of_partition.declared.job.Progress.TheVariants as progress
+use Rattle.hy_redo_drains.proofs.of_forks.ServingLaws.{ended-answers}
 use Rattle.hy_redo_drains.proofs.of_partition.FinishLaws.{HasEnded, Reached, reached-end, reached-step}
 use Rattle.hy_engine.specs.Engines.{AnswersRunning}
 use Rattle.hy_engine.specs.inside.Early.{AreEarly, EndsRun}
@@ -136,20 +137,11 @@ ended_last before after old now new outcome early last step =
     at None is same = tt
     at (Some job) is how = record { before = before; after = after; how = how }
 
--- a job that was refused has an answer
-refused_answers : (job : RunningJob) (done : ℕ) (old new : PartitionState) → RefusesAt job done old new → IsSome new.finished
-refused_answers job done old new refuses = elim refuses.reason [
-  | inl item ↦ subst IsSome (sym item.2.finished) refl
-  | inr other ↦ elim other [ inl frame ↦ subst IsSome (sym frame.2.finished) refl | inr memory ↦ subst IsSome (sym memory.1.finished) refl ]
-]
-
 -- the job that ended has an answer
 pub has_answer : (running : Option RunningJob) (old now : PartitionState) → IsSome running → IfSome running (λ job. EndsRun job old now) → IsSome now.finished
 has_answer None old now some ends = absurd (false≢true some)
-has_answer (Some job) old now some ends = elim ends.how [
-  | inl accepts ↦ subst IsSome (sym accepts.does.ends.finished) refl
-  | inr refuses ↦ refused_answers job refuses.done old now refuses.refused
-]
+has_answer (Some job) old now some ends =
+    ended-answers job (Some ends.before) (Some ends.after) old now ends.how
 
 -- its answer was taken
 pub answered : (running : Option RunningJob) (old ended new : PartitionState) (answer : DoneState) → IsSome running

@@ -69,9 +69,8 @@ abbrev pub AreOthers : Lists → EngineState → Type 0
 AreOthers lists engine =
     (parts : List PartitionState) × (length parts ≡ engine.warehouses) × (AreWhole lists parts → ⊥)
 
--- a job was done in a partition, or in the partitions of a load, all of them locked; or there was no room for their locks
+-- a job was done in a partition, or in the partitions of a load, all of them locked
 pub data IsDone (lists : Lists) (job : JobState) (answer : DoneState) : Type 0 where
-  undone : answer ≡ refused_answer job.pass refusals.NoMemory → IsDone lists job answer
   at_home : (old new : PartitionState) → AnswersJob job old new answer → IsDone lists job answer
   in_all : (before after : Log) (old new : List PartitionState) → AreWhole lists old
       → CrossesAndTells lists job before after old new answer → IsDone lists job answer
@@ -116,7 +115,6 @@ AreMine kit lists snapshots =
 -- why there is none: the partitions aren't those of the load; or they are, and one of them lacks frames, or memory is refused
 pub data IsWhyUnseen (lists : Lists) (engine : EngineState) (why : Refusal) : Type 0 where
   others : why ≡ refusals.NoSuchWarehouse → AreOthers lists engine → IsWhyUnseen lists engine why
-  no_room : why ≡ refusals.NoMemory → IsWhyUnseen lists engine why
   unforked : (parts : List PartitionState) → ArePartitions lists parts → IsWhyUnforked parts why
       → IsWhyUnseen lists engine why
 

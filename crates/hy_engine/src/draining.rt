@@ -58,7 +58,7 @@ impl<const N: usize, K: Loaded, G: Gate + Drop> Engine<N, K, G> {
         ensures err { OnErr result (log.new ≡ log.old) }
         ensures refused { IfErr result (IsWhyUndrained K.load self.now) }
     {
-        let mut partitions = self.hold(rt, self.room(alloc)?)?;
+        let mut partitions = self.hold(rt)?;
         let mut journal = lock_soon(rt, &self.journal);
         partitions.sound();
         log.drain(alloc, &mut partitions, &mut journal)

@@ -17,7 +17,7 @@ mod working;
 
 pub use engine::{Engine, MAX_CAPACITY};
 pub use gate::{Gate, Open};
-pub use holding::Held;
+pub use holding::HeldPartitions;
 pub use hy_redo_drains::DrainLog;
 
 // what stands below, for the crates above

@@ -4,7 +4,7 @@ ghost use Rattle.std.specs.Prelude.{◌≡◌, ◌⊎◌, ◌↔◌, ◌<◌, �
 ghost use Rattle.hy_schema.specs.declared.refusal.Refusal.{Refusal};
 ghost use Rattle.hy_commands.specs.declared.edition.Edition.TheVariants as editions;
 ghost use Rattle.hy_commands.specs.Commands.{home_of, warehouses_of};
-ghost use Rattle.hy_redo_drains.specs.of_partition.Jobs.{JobState, refused_answer};
+ghost use Rattle.hy_redo_drains.specs.of_partition.Jobs.{JobState};
 ghost use Rattle.hy_redo_drains.specs.of_forks.Histories.{IsOneHistory};
 ghost use Rattle.hy_redo_drains.specs.of_forks.Partitions.{CrossesAndTells};
 ghost use Rattle.hy_queues.specs.Queues.{FrontState, IsWhyUnput};
@@ -21,7 +21,6 @@ use hy_passes::Journal;
 use hy_queues::Line;
 use hy_redo_drains::hy_partition::{Done, Job, Loaded};
 use hy_schema::Refusal;
-use std::alloc::Global;
 use std::sync::Wait;
 
 impl<const N: usize, K: Loaded, G: Gate + Drop> Engine<N, K, G> {
@@ -30,12 +29,7 @@ impl<const N: usize, K: Loaded, G: Gate + Drop> Engine<N, K, G> {
     /// where a queue of the engine was closed; with E4, only where its home isn't there, or where it names several warehouses
     /// and the partitions aren't those of the load; or with E17, only where all places of its home's queue were taken at one
     /// moment.
-    pub fn submit<R: Wait>(
-        &self,
-        rt: &R,
-        alloc: Global,
-        job: Job<K>,
-    ) -> Result<(), (Job<K>, Refusal)>
+    pub fn submit<R: Wait>(&self, rt: &R, job: Job<K>) -> Result<(), (Job<K>, Refusal)>
         requires { job.edition ≡ editions.Second }
         ensures home { OnOk result (IsHome self.now (home_of job.command)) }
         ensures back { IfErr result (λ refused. refused.0 ≡ job) }
@@ -52,7 +46,7 @@ impl<const N: usize, K: Loaded, G: Gate + Drop> Engine<N, K, G> {
         if line.is_closed(rt) {
             return Err((job, Refusal::Closed));
         }
-        let answer = self.cross(rt, alloc, job)?;
+        let answer = self.cross(rt, job)?;
         self.hand_over(rt, answer);
         Ok(())
     }
@@ -77,22 +71,14 @@ impl<const N: usize, K: Loaded, G: Gate + Drop> Engine<N, K, G> {
 
     /// Does a job of several warehouses, with the locks of all. It comes back with E4 where the partitions aren't those of
     /// the load. Such jobs take turns, so that no two of them wait for locks at a time, and workers go on between.
-    fn cross<R: Wait>(
-        &self,
-        rt: &R,
-        alloc: Global,
-        job: Job<K>,
-    ) -> Result<Answer<K>, (Job<K>, Refusal)>
+    fn cross<R: Wait>(&self, rt: &R, job: Job<K>) -> Result<Answer<K>, (Job<K>, Refusal)>
         requires several { nat_lt 1 (length (warehouses_of job.command)) ≡ true }
         requires new { job.edition ≡ editions.Second }
         ensures back { IfErr result (λ refused. refused.0 ≡ job) }
         ensures refused { IfErr result (λ refused. (refused.1 ≡ Refusal.NoSuchWarehouse) × AreOthers K.load self.now) }
     {
-        let Ok(room) = self.room(alloc) else {
-            return Ok(refuse_for_memory(job));
-        };
         let _turn = self.turn.lock(rt);
-        match self.hold(rt, room) {
+        match self.hold(rt) {
             Ok(mut partitions) => {
                 let mut journal = lock_soon(rt, &self.journal);
                 Ok(cross_held(&mut partitions, &mut journal, job))
@@ -136,14 +122,6 @@ fn cross_held<const N: usize, K: Loaded>(
 {
     partitions.sound();
     Answer::new(partitions.cross(journal, job))
-}
-
-/// The answer to a job for which there is no room.
-pub(crate) fn refuse_for_memory<K: Loaded>(job: Job<K>) -> Answer<K>
-    requires { job.edition ≡ editions.Second }
-    ensures { result ≡ refused_answer job.pass Refusal.NoMemory }
-{
-    Answer::new(job.refuse(Refusal::NoMemory))
 }
 
 /// Puts a job into a warehouse's queue. It comes back with E16 or E17.

@@ -40,7 +40,7 @@ pub fn run_terminal<K: Loaded, R: Wait>(
     let mut history = History::new(alloc);
     for turn in 1..=commands {
         let command = asker.command(alloc, turn).ok()?;
-        pass = run_command(rt, alloc, engine, clock, &mut history, command, pass).ok()?;
+        pass = run_command(rt, engine, clock, &mut history, command, pass).ok()?;
         look(passes, clock, &mut history, asker.looks(), &mut pass).ok()?;
     }
     Some(history)
@@ -49,7 +49,6 @@ pub fn run_terminal<K: Loaded, R: Wait>(
 /// Hands a command in, and waits for its answer. One that isn't taken is refused.
 fn run_command<K: Loaded, R: Wait>(
     rt: &R,
-    alloc: Global,
     engine: &TheEngine<K>,
     clock: &AtomicU64,
     history: &mut History,
@@ -59,7 +58,7 @@ fn run_command<K: Loaded, R: Wait>(
     pass.sound();
     let client = pass.client();
     history.note(Event::Asks(Moment::of(clock, &pass), command.copy()?))?;
-    let (reply, pass, share) = match engine.submit(rt, alloc, Job::new(command, pass)) {
+    let (reply, pass, share) = match engine.submit(rt, Job::new(command, pass)) {
         Ok(()) => engine.answer(rt, client).open(),
         Err((job, refusal)) => (Reply::Refused(refusal), job.open().1, None),
     };

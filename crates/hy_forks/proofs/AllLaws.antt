@@ -25,7 +25,7 @@ use Rattle.hy_forks.specs.Forks.{AreOfKit, ForksAll, ForksHere, IsUnforked, IsWh
 use Rattle.hy_forks.specs.inside.Places.{AreOf, ClosesExactlyHere, ForksExactly, ForksExactlyHere, IsOf, RefusesFork}
 use Rattle.hy_forks.proofs.DatabaseLaws.{rows-behind}
 use Rattle.hy_forks.proofs.ForkLaws.{unforked-closed, unforked-same, unforked-stays}
-use Rattle.hy_forks.proofs.KnownLaws.{forks-known}
+use Rattle.hy_crossing.proofs.of_partition.ForkLaws.{forks-known}
 use Rattle.hy_forks.proofs.TakenLaws.{of-taken, taken-more, taken-undone}
 use Rattle.hy_forks.proofs.RelationLaws.{before-all, before-still, changes-get, pairs-get, pairs-length, pairs-map, pairs-same}
 use Rattle.hy_forks.proofs.PartsLaws.{KeepsPlace, numbered-hold, partition-at, still-partitions, still-whole}
@@ -64,14 +64,13 @@ module _ (n : ℕ) (kit : Origin) (log known : Log) (snapshots : List SnapshotSt
     pairs-length (Before (place + 1) (ForksExactlyHere n kit log known snapshots)) 1 olds middles forked,
   )
 
-  module _ (seen : Log) (begins : IsPrefix known seen) (snapshot : SnapshotState) (news : List PartitionState)
-      (changes : ChangesAt (ForksExactly n kit log seen snapshot) place middles news) where
+  module _ (snapshot : SnapshotState) (news : List PartitionState)
+      (changes : ChangesAt (ForksExactly n kit log known snapshot) place middles news) where
     pub forks-more : Pairwise (Before (place + 1 + 1) (ForksExactlyHere n kit log known (snapshots ++ snapshot ∷ []))) 1
         olds news
     forks-more =
         taken-more (λ number. ForksExactly n kit log known) snapshots place counted olds middles forked within
-        (ForksExactly n kit log seen snapshot) snapshot
-        (λ old new forks. forks-known n kit log known seen snapshot old new begins forks) news changes
+        (ForksExactly n kit log known snapshot) snapshot (λ old new forks. forks) news changes
 
   module _ (why : Refusal) (thirds : List PartitionState)
       (refused : ChangesAt (RefusesFork why) place middles thirds) where
@@ -126,12 +125,15 @@ module _ (n : ℕ) (kit : Origin) (log known : Log) (snapshots : List SnapshotSt
   each-exactly =
       before-all (ForksExactlyHere n kit log known snapshots) (place + 1) 1 olds news forked (omega (arith, ends))
 
-  pub forks-all : ForksAll n kit log known olds news snapshots
-  forks-all = record {
+  -- also for a client who has seen another beginning of the serial list
+  pub forks-all : (seen : Log) → IsPrefix seen log → ForksAll n kit log seen olds news snapshots
+  forks-all seen begins = record {
     count = counted;
-    each = pairs-map (ForksExactlyHere n kit log known snapshots) (ForksHere n kit log known snapshots)
+    each = pairs-map (ForksExactlyHere n kit log known snapshots) (ForksHere n kit log seen snapshots)
         (λ number old new here. some-map (λ snapshot. ForksExactly n kit log known snapshot old new) _
-        (slice_get snapshots (number - 1)) (λ snapshot forked. forked.forks) here) 1 olds news each-exactly;
+        (slice_get snapshots (number - 1))
+        (λ snapshot forked. forks-known n kit log known seen old new snapshot begins forked.forks) here) 1 olds news
+        each-exactly;
   }
 
   -- the partition that a snapshot is of

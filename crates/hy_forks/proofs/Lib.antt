@@ -5,7 +5,6 @@ pub use Rattle.hy_crossing.proofs.of_tpcc as of_tpcc
 pub mod RelationLaws
 pub mod PlaceLaws
 pub mod ForkLaws
-pub mod KnownLaws
 pub mod PartsLaws
 pub mod HistoryLaws
 pub mod DatabaseLaws

@@ -1,6 +1,6 @@
 //! Forks of all warehouses at one moment.
 
-ghost use Rattle.std.specs.Prelude.{◌≡◌, ◌⊎◌, ◌↔◌, ◌<◌, Err, IsTrue, None, IfErr, IfOk, IsOk, OnErr, OnOk, length};
+ghost use Rattle.std.specs.Prelude.{◌≡◌, ◌↔◌, ◌<◌, [], Err, IsTrue, None, IfErr, IfOk, IsOk, OnErr, OnOk, length};
 ghost use mathlib.Core.List.{IsPrefix};
 ghost use Rattle.hy_schema.specs.Conditions.{first_broken};
 ghost use Rattle.hy_schema.specs.declared.refusal.Refusal.{Refusal};
@@ -39,33 +39,29 @@ fn is_some_lacking<const N: usize, K: Loaded, P: Parts<Part = Partition<N, K>>>(
     false
 }
 
-/// A snapshot of the partition at a place.
+/// A snapshot of the partition at a place, of which no client is told so far.
 fn fork_here<const N: usize, K: Loaded, P: Parts<Part = Partition<N, K>>>(
     parts: &mut P,
     journal: &mut Journal<Commit, K>,
-    pass: &mut Pass<Commit, K>,
     place: usize,
 ) -> Result<Snapshot<N>, Refusal>
     requires there { place < length (P.states parts.old) }
     ensures forks { IfOk result (λ snapshot. ChangesAt
-        (ForksExactly N K.passes journal.old.list.log pass.old.seen snapshot) place (P.states parts.old)
-        (P.states parts.new)) }
-    ensures told { OnOk result (pass.new ≡ told pass.old journal.old.list.log) }
+        (ForksExactly N K.passes journal.old.list.log [] snapshot) place (P.states parts.old) (P.states parts.new)) }
     ensures log { journal.new.list.log ≡ journal.old.list.log }
     ensures refused { IfErr result
         (λ why. ChangesAt (RefusesFork why) place (P.states parts.old) (P.states parts.new)) }
-    ensures untold { OnErr result (pass.new ≡ pass.old) }
 {
     let part = parts.part(place);
     part.headline();
-    part.fork(journal, pass)
+    part.fork_untold(journal)
 }
 
 impl<const N: usize, K: Loaded, P: Parts<Part = Partition<N, K>>> Partitions<N, K, P> {
     /// A snapshot of the whole database behind the serial list: each warehouse is forked, in rising order, with what runs
     /// undone in the snapshot. Partitions and client are told the whole list. Refused with E2 exactly where one of them has
-    /// fewer frames free than its job has touched pages, else with E1; then what was forked is closed again, and nothing is
-    /// forked.
+    /// fewer frames free than its job has touched pages, else with E1; then what was forked is closed again, nothing is forked,
+    /// and the client isn't told.
     pub fn fork_all(
         &mut self,
         alloc: Global,
@@ -80,12 +76,12 @@ impl<const N: usize, K: Loaded, P: Parts<Part = Partition<N, K>>> Partitions<N, 
         ensures kit { IfOk result (AreOfKit K.passes) }
         ensures mine { IfOk result (λ all. IsTrue (are_from K.passes all self.new)) }
         ensures told { OnOk result (pass.new ≡ told pass.old journal.old.list.log) }
+        ensures begins { OnOk result (IsPrefix pass.old.seen journal.old.list.log) }
         ensures log { journal.new.list.log ≡ journal.old.list.log }
         ensures lacking { SomeLacks self.old → result ≡ Err Refusal.NoFrame }
         ensures refused { IfErr result (IsWhyUnforked self.old) }
         ensures err { OnErr result (Pairwise (λ number. IsUnforked journal.old.list.log) 1 self.old self.new) }
-        ensures untold { OnErr result ((pass.new ≡ pass.old)
-            ⊎ ((pass.new ≡ told pass.old journal.old.list.log) × IsPrefix pass.old.seen journal.old.list.log)) }
+        ensures untold { OnErr result (pass.new ≡ pass.old) }
     {
         let parts = &mut self.parts;
         if is_some_lacking(parts) {
@@ -95,7 +91,7 @@ impl<const N: usize, K: Loaded, P: Parts<Part = Partition<N, K>>> Partitions<N, 
         know_load(parts);
         know_list(journal);
         for place in 0..parts.len() {
-            match fork_here(parts, journal, pass, place) {
+            match fork_here(parts, journal, place) {
                 Ok(snapshot) => snapshots.push_reserved(snapshot),
                 Err(refusal) => {
                     close_each(parts, snapshots);
@@ -103,7 +99,6 @@ impl<const N: usize, K: Loaded, P: Parts<Part = Partition<N, K>>> Partitions<N, 
                 }
             }
         }
-        // Each fork has told the client, where a warehouse is there.
         journal.tell_client(pass);
         Ok(SnapshotAll::new(snapshots))
     }

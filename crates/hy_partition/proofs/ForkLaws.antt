@@ -46,6 +46,39 @@ projection-begins warehouse known log begins = (
       (map (λ (e : Entry Commit). e.commit) begins.0)),
 )
 
+-- nothing begins each list
+pub begins_from_nothing : (log : Log) → IsPrefix [] log
+begins_from_nothing log = (log, refl)
+
+-- the same snapshot for a client who has seen another beginning of the serial list
+pub forks-known : (n : ℕ) (kit : Origin) (log seen known : Log) (old new : PartitionState) (snapshot : SnapshotState)
+    → IsPrefix known log → Forks n kit log seen old new snapshot → Forks n kit log known old new snapshot
+forks-known n kit log seen known old new snapshot begins forks =
+    let shorter = projection-begins old.warehouse known log begins in
+    record {
+      load = forks.load;
+      warehouse = forks.warehouse;
+      name = forks.name;
+      desk = forks.desk;
+      child = forks.child;
+      fresh = forks.fresh;
+      commits = forks.commits;
+      kept = forks.kept;
+      bytes = forks.bytes;
+      spells = forks.spells;
+      open_bytes = forks.open_bytes;
+      open_commits = forks.open_commits;
+      free = forks.free;
+      max_frames = forks.max_frames;
+      told = forks.told;
+      client_told = begins;
+      seen = forks.seen;
+      all = forks.all;
+      no_older = omega (arith, begins_shorter _ _ shorter, ap length forks.all, forks.commits);
+      job = forks.job;
+      others = forks.others;
+    }
+
 -- what holds of a space in which pages may be lent now
 unchanged_bytes : (old new : SpaceState) → IsUnchanged old new → owner_bytes new ≡ owner_bytes old
 unchanged_bytes old new same = ap (table_bytes new.frames) same.owner ∙ same_bytes old.frames new.frames old.owner (λ f more. same.pages f)

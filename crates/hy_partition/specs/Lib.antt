@@ -11,6 +11,7 @@ pub mod Accounts
 pub mod Headline
 pub mod Steps
 pub mod Parts
+pub mod Unsettled
 pub mod Schedules
 pub mod WorkedRows
 pub mod WorkedRefusals

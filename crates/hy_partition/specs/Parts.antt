@@ -26,6 +26,10 @@ use Rattle.hy_partition.specs.Steps.{KeepsNothing}
 abbrev pub rows_with_part : PartitionState → Edition → Command → Tables
 rows_with_part p edition command = part p.load.items p.warehouse edition command (rows_now p)
 
+-- the reply of the part of a command by an edition: the warehouse whose customer the command names has one
+abbrev pub reply_now : PartitionState → Edition → Command → Option Reply
+reply_now p edition command = reply_of_part (layout_of p) edition command (rows_now p)
+
 -- what no part changes: the load, the warehouse, the limits, the job that runs, the answer that wasn't taken, and
 -- every snapshot with its bytes
 pub record KeepsBeside (old new : PartitionState) : Type 0 where

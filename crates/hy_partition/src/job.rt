@@ -139,7 +139,7 @@ impl<K: World> Model for Done<K> {
 
 impl<K: World> Done<K> {
     /// The answer to a job that ended.
-    pub fn new(reply: Reply, pass: Pass<Commit, K>, share: Option<Share<K>>) -> Done<K>
+    pub(crate) fn new(reply: Reply, pass: Pass<Commit, K>, share: Option<Share<K>>) -> Done<K>
         ensures { result ≡ record { reply = reply; pass = pass; share = share } }
     {
         Done { reply, pass, share }

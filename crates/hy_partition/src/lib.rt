@@ -7,6 +7,7 @@ mod part;
 mod partition;
 mod schedules;
 mod snapshot;
+mod unsettled;
 mod world;
 
 pub use hy_tpcc::has_districts;
@@ -14,6 +15,7 @@ pub use job::{Done, Job, Progress};
 pub use partition::Partition;
 pub use schedules::{calls_are_events, every_schedule};
 pub use snapshot::Snapshot;
+pub use unsettled::UnsettledParts;
 pub use world::Loaded;
 
 // what stands below, for the crates above

@@ -1,6 +1,6 @@
 //! The partition of one warehouse.
 
-ghost use Rattle.std.specs.Prelude.{◌≡◌, ◌≢◌, ℕ, ◌+◌, ◌++◌, ◌∷◌, ◌<◌, ◌≤◌, ◌==◌, not, filter, true, false, vec_capacity, slice_index_or, ◌↔◌, ◌⊎◌, IsTrue, IsSome, IsSomeAnd, IfSome, List, [], length, take, Option, Some, None, Ok, Err, IfOk, IfErr, IsOk, IsOkAnd, OnOk, OnErr, MatchOption, MatchResult};
+ghost use Rattle.std.specs.Prelude.{◌≡◌, ◌≢◌, ℕ, ◌+◌, ◌^◌, ◌++◌, ◌∷◌, ◌<◌, ◌≤◌, ◌==◌, not, filter, true, false, vec_capacity, slice_index_or, ◌↔◌, ◌⊎◌, IsTrue, IsSome, IsSomeAnd, IfSome, List, [], length, take, Option, Some, None, Ok, Err, IfOk, IfErr, IsOk, IsOkAnd, OnOk, OnErr, MatchOption, MatchResult};
 ghost use Rattle.std.specs.List.{list_all};
 ghost use mathlib.Core.List.{IsPrefix};
 ghost use Rattle.hy_worlds.specs.Origins.{desk_of, replayed_of};
@@ -28,18 +28,20 @@ ghost use Rattle.hy_partition.specs.inside.Room.{IsUndone, LacksRoom, room_refus
 ghost use Rattle.hy_partition.specs.Jobs.{Log, is_last, told};
 ghost use Rattle.hy_undo.specs.Touched.{touched};
 ghost use Rattle.hy_undo.specs.PrivatePages.{GivesUpPages, IsUndoLog};
-ghost use Rattle.hy_partition.specs.Parts.{DoesPart, HasNoPart, IsWhyUndone, KeepsPart, rows_with_part};
+ghost use Rattle.hy_partition.specs.Parts.{DoesPart, HasNoPart, IsWhyUndone, KeepsPart, reply_now, rows_with_part, share_of_part};
+ghost use Rattle.hy_partition.specs.Unsettled.{part_of, with_part_done, with_part_kept, with_part_undone};
 ghost use Rattle.hy_partition.specs.Steps.{begin_refusal, is_from, is_full, with_job, Accepts, Begins, Closes, Forks, IsUnbegun, KeepsJob, Refuses, ForksFrom, StaysUnforked, StepsTo};
 
 use crate::answer::{accept, enter_part};
 use crate::job::{Done, Job, Progress, Running};
 use crate::part::Part;
 use crate::snapshot::{SharedPages, Snapshot};
+use crate::unsettled::UnsettledParts;
 use crate::world::Loaded;
 use hy_commands::{Command, Commit, Edition, Reply};
 use hy_fill::filled_store;
 use hy_layout::Layout;
-use hy_ledger::{Balance, Book, Share};
+use hy_ledger::{Balance, Book};
 use hy_loads::Load;
 use hy_passes::{Journal, KeptList, PartitionSeat, Pass, SerialList};
 use hy_schema::Refusal;
@@ -299,6 +301,26 @@ impl<const N: usize, K: Loaded> Partition<N, K> {
         ensures err { OnErr result (StaysUnforked self.old self.new) }
         ensures untold { OnErr result (pass.new ≡ pass.old) }
     {
+        match self.fork_untold(journal) {
+            Ok(snapshot) => {
+                journal.tell_client(pass);
+                Ok(snapshot)
+            }
+            Err(refusal) => Err(refusal),
+        }
+    }
+
+    /// The same snapshot, of which no client is told so far: it is as for one who had seen nothing. Who forks several
+    /// partitions tells the client once all of them are forked.
+    pub fn fork_untold(&mut self, journal: &mut Journal<Commit, K>) -> Result<Snapshot<N>, Refusal>
+        ensures forks { IfOk result (Forks N K.passes journal.old.list.log [] self.old self.new) }
+        ensures log { journal.new.list.log ≡ journal.old.list.log }
+        ensures no_frame { result ≡ Err Refusal.NoFrame
+            ↔ (free_of self.old.space.frames < touched self.old.undo) }
+        ensures refused { IfErr result
+            (λ refusal. (refusal ≡ Refusal.NoFrame) ⊎ (refusal ≡ Refusal.NoMemory)) }
+        ensures err { OnErr result (StaysUnforked self.old self.new) }
+    {
         self.space.sound();
         if self.space.free() < self.undo.touched() {
             return Err(Refusal::NoFrame);
@@ -320,7 +342,6 @@ impl<const N: usize, K: Loaded> Partition<N, K> {
             return Err(Refusal::NoMemory);
         };
         self.kept.tell(journal);
-        journal.tell_client(pass);
         let commits = self.kept.list().len() as u64;
         open_snapshot(&mut self.snapshots, child, commits);
         let ticket = self.desk.give(child);
@@ -420,16 +441,27 @@ impl<const N: usize, K: Loaded> Partition<N, K> {
     }
 
     /// Does the part of a command over several warehouses, which the database doesn't refuse, by an edition, the first one
-    /// only while a log is replayed, and makes room for its commit. The warehouse whose customer the command names answers
-    /// the reply. A refusal undoes what was done: E2 where no frame is free, or E1.
-    pub fn do_part(&mut self, edition: Edition, command: Command) -> Result<Option<Reply>, Refusal>
+    /// only while a log is replayed, and makes room for its commit. It is counted among those that are to be kept or undone,
+    /// and the warehouse whose customer the command names notes the reply there. A refusal undoes what was done: E2 where no
+    /// frame is free, or E1.
+    pub fn do_part(
+        &mut self,
+        unsettled: &mut UnsettledParts<K>,
+        edition: Edition,
+        command: Command,
+    ) -> Result<(), Refusal>
         requires idle { (self.old.running ≡ None) × (self.old.part ≡ None) }
         requires has_part { HasPart (layout_of self.old) command }
         requires few { length self.old.kept < self.old.max_kept }
         requires edition { may_run (replays self.old) edition ≡ true }
-        ensures done { IfOk result (DoesPart edition command self.old self.new) }
+        requires same { part_of unsettled.old ≡ record { edition = edition; command = command } }
+        requires countable { unsettled.old.count + 1 < 2 ^ 64 }
+        ensures done { OnOk result (DoesPart edition command self.old self.new (reply_now self.old edition command)) }
+        ensures counted { OnOk result
+            (unsettled.new ≡ with_part_done unsettled.old (reply_now self.old edition command)) }
         ensures pages { OnOk result (Spells N (owner_bytes self.new.space) (rows_with_part self.old edition command)) }
         ensures undone { OnErr result (HasNoPart self.old self.new) }
+        ensures uncounted { OnErr result (unsettled.new ≡ unsettled.old) }
         ensures refused { IfErr result (IsWhyUndone self.old.space self.new.space) }
     {
         put(&mut self.part, Part::new(edition, command));
@@ -443,7 +475,10 @@ impl<const N: usize, K: Loaded> Partition<N, K> {
             &mut self.undo,
             part,
         ) {
-            Ok(reply) => Ok(reply),
+            Ok(reply) => {
+                unsettled.note_done(reply);
+                Ok(())
+            }
             Err(refusal) => {
                 clear(&mut self.part);
                 Err(refusal)
@@ -451,23 +486,36 @@ impl<const N: usize, K: Loaded> Partition<N, K> {
         }
     }
 
-    /// Undoes the part that is done, if one is. Takes no memory and no frame.
-    pub fn undo_part(&mut self)
+    /// Undoes the part that is done, which is one of those that are counted. Takes no memory and no frame.
+    pub fn undo_part(&mut self, unsettled: &mut UnsettledParts<K>)
         requires idle { self.old.running ≡ None }
+        requires part { self.old.part ≡ Some (part_of unsettled.old) }
+        requires counted { 1 ≤ unsettled.old.count }
         ensures undone { HasNoPart self.old self.new }
         ensures gives_up { GivesUpPages self.old.space self.new.space }
+        ensures settled { unsettled.new ≡ with_part_undone unsettled.old }
     {
         clear(&mut self.part);
         self.undo.roll_back(&mut self.space);
+        unsettled.note_undone();
     }
 
-    /// Keeps the part that is done, whose command has just entered the serial list under its number among those of
-    /// several warehouses. Its home gives the share. Takes no memory.
-    pub fn keep_part(&mut self, list: &mut SerialList<Commit, K>, number: u64) -> Option<Share<K>>
-        requires part { IsSomeAnd self.old.part (λ part. projection_of self.old.warehouse list.old.log
-            ≡ self.old.kept ++ commits.Cross part.edition number part.command ∷ []) }
-        ensures kept { IfSome self.old.part
-            (λ part. KeepsPart part.edition part.command number list.old.log self.old self.new result) }
+    /// Keeps the part that is done, which is one of those that are counted and whose command has just entered the serial list
+    /// under its number among those of several warehouses. Its home gives the share. Takes no memory.
+    pub fn keep_part(
+        &mut self,
+        unsettled: &mut UnsettledParts<K>,
+        list: &mut SerialList<Commit, K>,
+        number: u64,
+    )
+        requires part { self.old.part ≡ Some (part_of unsettled.old) }
+        requires counted { 1 ≤ unsettled.old.count }
+        requires entered { projection_of self.old.warehouse list.old.log ≡ self.old.kept
+            ++ commits.Cross unsettled.old.edition number unsettled.old.command ∷ [] }
+        ensures kept { KeepsPart unsettled.old.edition unsettled.old.command number list.old.log self.old self.new
+            (share_of_part self.old.warehouse unsettled.old.command) }
+        ensures settled { unsettled.new
+            ≡ with_part_kept unsettled.old (share_of_part self.old.warehouse unsettled.old.command) }
         ensures log { list.new.log ≡ list.old.log }
         ensures behind { list.new.behind ≡ filter (λ w. not (w == self.old.warehouse)) list.old.behind }
     {
@@ -479,7 +527,7 @@ impl<const N: usize, K: Loaded> Partition<N, K> {
         self.kept
             .enter(list, Commit::Cross(edition, number, command));
         self.undo.commit(&self.space);
-        share
+        unsettled.note_kept(share);
     }
 
     /// Whether the next slice is the job's last. False where nothing runs.

@@ -23,15 +23,7 @@ fn pay_again<K: Loaded>(
     journal: &mut Journal<Commit, K>,
     pass: Pass<Commit, K>,
 ) {
-    assert!(rt; 0 < partitions.len());
-    match partitions.begin(0, Job::new(payment(1, 1, 1, 100), pass)) {
-        Ok(()) => {}
-        Err(_) => panic!(rt; "the payment begins"),
-    }
-    partitions.finish_running(0, journal);
-    let Some(done) = partitions.take_done(0) else {
-        panic!(rt; "an answer")
-    };
+    let done = partitions.run(journal, Job::new(payment(1, 1, 1, 100), pass));
     let (reply, _pass, _share) = done.open();
     match reply {
         Reply::Payment { .. } => {}

@@ -128,9 +128,9 @@ pub fn calls_of_all_are_events()
 /// its pass has seen (`KnowsClients`). So it is with the passes of a kit beside new partitions, and so it can be beside
 /// those of a database at rest. A client hands its pass in with a job, and has the one that the answer gives back: told the
 /// whole serial list where the job was accepted, though it may only read, and as it was where it was refused. A fork tells
-/// its client, and so does a look at the whole list; a fork of all that was refused behind telling it is such a look. Clients
-/// that look by passes in their hands while a command over several warehouses is done have seen what the serial list had by
-/// then, and one look more. In which order passes are held doesn't matter, and one that is thrown away isn't missed.
+/// its client, and so does a look at the whole list. Clients that look by passes in their hands while a command over several
+/// warehouses is done have seen what the serial list had by then, and one look more. In which order passes are held doesn't
+/// matter, and one that is thrown away isn't missed.
 pub fn calls_of_all_tell_clients()
     ensures new { (n : ℕ) (lists : Lists) (frames commits clients : ℕ) (parts : List PartitionState)
         → length parts ≡ length lists.tables.warehouses
@@ -204,11 +204,6 @@ pub fn calls_of_all_tell_clients()
     ensures refused_fork_all { (n : ℕ) (log : Log) (parts news : List PartitionState) (held : List (PassState Commit))
         (whole : Whole) → IsWholeOf n log parts whole → KnowsClients whole.known (passes_in parts ++ held)
         → Pairwise (λ number. IsUnforked log) 1 parts news → IsWholeKnowing n log news held whole }
-    ensures refused_told { (n : ℕ) (log : Log) (pass : PassState Commit) (parts news : List PartitionState)
-        (held : List (PassState Commit)) (whole : Whole) → IsWholeOf n log parts whole
-        → KnowsClients whole.known (passes_in parts ++ pass ∷ held)
-        → Pairwise (λ number. IsUnforked log) 1 parts news
-        → LeadsKnowing n (looks pass.client) whole log news (told pass log ∷ held) }
     ensures close_all { (n : ℕ) (log : Log) (parts news : List PartitionState) (held : List (PassState Commit))
         (whole : Whole) (snapshots : List SnapshotState) → IsWholeOf n log parts whole
         → KnowsClients whole.known (passes_in parts ++ held) → Pairwise (ClosesHere snapshots) 1 parts news

@@ -1,6 +1,5 @@
 //! What an analyst does.
 
-ghost use Rattle.std.specs.Prelude.{◌≡◌, ◌≤◌, [], vec_capacity};
 ghost use Rattle.hy_session.specs.of_forks.Forks.{AreOfKit};
 ghost use Rattle.hy_engine.specs.Engines.{AreMine};
 
@@ -8,7 +7,7 @@ use crate::PAGE_BYTES;
 use crate::kept::Kept;
 use crate::logging::{Logged, drain_to};
 use hy_commands::Commit;
-use hy_engine::{Engine, Gate, Held};
+use hy_engine::{Engine, Gate};
 use hy_passes::Pass;
 use hy_redo::LogOut;
 use hy_schema::Refusal;
@@ -77,11 +76,10 @@ fn run_round<K: Loaded, G: Gate + Drop, W: LogOut, R: Wait>(
     pass: &mut Pass<Commit, K>,
     end: &mut SessionEnd,
 ) -> Result<(), Refusal> {
-    let room = engine.room(alloc)?;
     let session = Session::new(engine.fork_all(rt, alloc, pass)?);
     let broken = session.check_conditions(alloc);
     let report = session.report(alloc);
-    close(rt, engine, room, session);
+    close(rt, engine, session);
     end.unlogged = end.unlogged.or(drain_to(rt, alloc, engine, log));
     report?;
     if broken?.is_none() {
@@ -90,20 +88,17 @@ fn run_round<K: Loaded, G: Gate + Drop, W: LogOut, R: Wait>(
     Ok(())
 }
 
-/// Closes a session, with room for all locks. Where the partitions weren't those of the load any more, which no thread
-/// can bring about, it would wait for ever.
-fn close<'a, K: Loaded, G: Gate + Drop, R: Wait>(
+/// Closes a session. Where the partitions weren't those of the load any more, which no thread can bring about, it would wait
+/// for ever.
+fn close<K: Loaded, G: Gate + Drop, R: Wait>(
     rt: &R,
-    engine: &'a Engine<PAGE_BYTES, K, Kept<G>>,
-    room: Held<'a, PAGE_BYTES, K>,
+    engine: &Engine<PAGE_BYTES, K, Kept<G>>,
     session: Session<PAGE_BYTES>,
 )
-    requires empty { room.items ≡ [] }
-    requires room { engine.now.warehouses ≤ vec_capacity room }
     requires kit { AreOfKit K.passes session }
     requires mine { AreMine K.passes K.load session }
 {
-    let Ok(mut partitions) = engine.hold(rt, room) else {
+    let Ok(mut partitions) = engine.hold(rt) else {
         wait_for_ever(rt);
         unreachable!()
     };

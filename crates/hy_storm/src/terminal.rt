@@ -61,7 +61,7 @@ pub fn run_terminal<K: Loaded, G: Gate + Drop, R: Wait>(
         let Ok(command) = command_of(alloc, shape, number, turn) else {
             return ended(purse, Some(Refusal::NoMemory));
         };
-        match run_command(rt, alloc, engine, command, pass) {
+        match run_command(rt, engine, command, pass) {
             Ok((share, back)) => {
                 pass = back;
                 put_away(&mut purse, share);
@@ -89,14 +89,13 @@ fn ended<K: Loaded>(purse: Purse<K>, refusal: Option<Refusal>) -> TerminalEnd<K>
 /// Hands a command in, and waits for its answer: the share that it gave, and the pass.
 fn run_command<K: Loaded, G: Gate + Drop, R: Wait>(
     rt: &R,
-    alloc: Global,
     engine: &Engine<PAGE_BYTES, K, Kept<G>>,
     command: Command,
     pass: Pass<Commit, K>,
 ) -> Result<(Option<Share<K>>, Pass<Commit, K>), Refusal> {
     pass.sound();
     let client = pass.client();
-    if let Err((_job, refusal)) = engine.submit(rt, alloc, Job::new(command, pass)) {
+    if let Err((_job, refusal)) = engine.submit(rt, Job::new(command, pass)) {
         return Err(refusal);
     }
     let (reply, pass, share) = engine.answer(rt, client).open();

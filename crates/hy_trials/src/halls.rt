@@ -195,31 +195,15 @@ impl<K: Loaded> Hall<K> {
 
     /// Runs a command, of one warehouse or of several. A refusal is the reply.
     pub fn run(&mut self, rt: &impl Abort, command: Command) -> Reply {
-        if command.is_crossing() {
-            return self.cross(rt, command);
-        }
-        let home = command.home();
-        if let Err(refusal) = self.ask(rt, home, Request::Begin(command)) {
-            return Reply::Refused(refusal);
-        }
-        assert!(rt; self.ask(rt, home, Request::Finish).is_ok());
-        match self.ask(rt, home, Request::Take) {
-            Ok(Some(reply)) => reply,
-            _ => panic!(rt; "a reply"),
-        }
-    }
-
-    /// Runs a command over several warehouses.
-    fn cross(&mut self, rt: &impl Abort, command: Command) -> Reply {
+        let crosses = command.is_crossing();
         let Some(pass) = self.clients.pop() else {
             panic!(rt; "a client")
         };
-        assert!(rt; command.is_crossing());
         let done = self
             .partitions
-            .cross(&mut self.journal, Job::new(command, pass));
+            .run(&mut self.journal, Job::new(command, pass));
         let (reply, pass, share) = done.open();
-        assert!(rt; share.is_none() == matches!(reply, Reply::Refused(_)));
+        assert!(rt; !crosses || share.is_none() == matches!(reply, Reply::Refused(_)));
         self.clients.push(pass).expect(rt, "a place");
         reply
     }

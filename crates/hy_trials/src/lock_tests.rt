@@ -5,7 +5,7 @@ ghost use Rattle.std.specs.Prelude.{◌≡◌, [], length};
 use crate::commands::payment_by;
 use crate::halls::TakenAll;
 use hy_commands::{Commit, Reply};
-use hy_crossing::partitions_of;
+use hy_crossing::{Held, partitions_of};
 use hy_forks::Partitions;
 use hy_loads::Load;
 use hy_partition::{Job, Loaded, Partition};
@@ -17,9 +17,9 @@ use std::sync::{Mutex, MutexGuard, Wait};
 
 type Lock<K> = Mutex<Partition<4096, K>>;
 
-type Held<'a, K> = MutexGuard<'a, Partition<4096, K>>;
+type HeldLocks<'a, K> = Held<MutexGuard<'a, Partition<4096, K>>>;
 
-type HeldPartitions<'a, K> = Partitions<4096, K, Vec<Held<'a, K>>>;
+type HeldPartitions<'a, K> = Partitions<4096, K, HeldLocks<'a, K>>;
 
 /// A lock for each partition.
 fn locks_of<K: Loaded, R: Abort + AllocGlobal>(
@@ -34,19 +34,29 @@ fn locks_of<K: Loaded, R: Abort + AllocGlobal>(
 }
 
 /// All locks, taken in rising order of warehouse.
-fn all_held<'a, K: Loaded, R: Wait + Abort + AllocGlobal>(
-    rt: &R,
-    locks: &'a [Lock<K>],
-) -> Vec<Held<'a, K>> {
-    let mut held = Vec::new(rt.alloc());
+fn all_held<'a, K: Loaded, R: Wait + Abort>(rt: &R, locks: &'a [Lock<K>]) -> HeldLocks<'a, K> {
+    let mut held = Held::new();
     for lock in locks {
-        held.push(lock.lock(rt)).expect(rt, "a place");
+        assert!(rt; held.len() < 16);
+        held.push(lock.lock(rt));
     }
     held
 }
 
+/// The locks of the first two warehouses, taken in falling order.
+fn held_in_falling_order<'a, K: Loaded, R: Wait + Abort>(
+    rt: &R,
+    locks: &'a [Lock<K>],
+) -> HeldLocks<'a, K> {
+    assert!(rt; locks.len() >= 2);
+    let mut held = Held::new();
+    held.push(locks[1].lock(rt));
+    held.push(locks[0].lock(rt));
+    held
+}
+
 /// The warehouses whose locks are held, if they are those of the load.
-fn found<'a, K: Loaded>(held: Vec<Held<'a, K>>) -> Option<HeldPartitions<'a, K>> {
+fn found<'a, K: Loaded>(held: HeldLocks<'a, K>) -> Option<HeldPartitions<'a, K>> {
     Partitions::found(held).ok()
 }
 
@@ -97,7 +107,7 @@ fn pay_and_look<K: Loaded, R: Wait + Abort + AllocGlobal>(
 }
 
 /// Locks of some of the partitions aren't those of all.
-fn are_told_apart<K: Loaded, R: Wait + Abort + AllocGlobal>(rt: &R, locks: &[Lock<K>]) {
+fn are_told_apart<K: Loaded, R: Wait + Abort>(rt: &R, locks: &[Lock<K>]) {
     assert!(rt; locks.len() == 3);
     assert!(rt; found(all_held(rt, &locks[..0])).is_none());
     assert!(rt; found(all_held(rt, &locks[..2])).is_none());
@@ -105,10 +115,10 @@ fn are_told_apart<K: Loaded, R: Wait + Abort + AllocGlobal>(rt: &R, locks: &[Loc
 }
 
 /// Nor are they in another order.
-fn are_in_order<K: Loaded, R: Wait + Abort + AllocGlobal>(rt: &R, locks: &[Lock<K>]) {
-    let mut turned = all_held(rt, locks);
-    assert!(rt; turned.len() == 3);
-    turned.swap(0, 1);
+fn are_in_order<K: Loaded, R: Wait + Abort>(rt: &R, locks: &[Lock<K>]) {
+    let mut turned = held_in_falling_order(rt, locks);
+    assert!(rt; locks.len() == 3 && turned.len() == 2);
+    turned.push(locks[2].lock(rt));
     assert!(rt; found(turned).is_none());
     assert!(rt; found(all_held(rt, locks)).is_some());
 }

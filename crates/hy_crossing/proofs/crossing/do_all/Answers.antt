@@ -1,4 +1,4 @@
-use Rattle.std.proofs.Common.{◌≡◌, true, List, Some, length, sym, ap, ◌∙◌, subst, inl, inr}
+use Rattle.std.proofs.Common.{◌≡◌, true, List, length, sym, ap, ◌∙◌, subst, inl, inr}
 use Rattle.std.specs.List.{list_all}
 use Rattle.hy_rows.specs.Ranges.{IsBetween, is_between}
 use Rattle.hy_commands.specs.declared.command.Command.{Command}
@@ -7,9 +7,11 @@ use Rattle.hy_commands.specs.Commands.{warehouses_of}
 use Rattle.hy_commands.specs.Parts.{customer_home_of, with_number}
 use Rattle.hy_partition.specs.Jobs.{JobState, refused_answer}
 use Rattle.hy_partition.specs.Partition.{PartitionState}
-use Rattle.hy_crossing.specs.Crossings.{AllMayRun, AreKnown, CanDoParts, DoesIfNamed, IsWhyNotDone, LeavesIfNamed, RepliesFrom}
+use Rattle.hy_crossing.specs.Crossings.{AllMayRun, AreKnown, CanDoParts, DoesIfNamed, IsWhyNotDone, LeavesIfNamed}
 use Rattle.hy_crossing.specs.Lists.{Pairwise}
+use Rattle.hy_crossing.specs.Unsettled.{AreAllDone}
 use Rattle.hy_crossing.proofs.InformLaws.{pairs-count}
+use Rattle.hy_crossing.proofs.UnsettledLaws.{all-counted, all-replied}
 use Rattle.hy_crossing.proofs.WholeLaws.{accepts-all, can-all, done-all, may-all, named-all, no-part-whole, partitions-here, partitions-whole, refuses-late, several-all, there-all}
 use Rattle.hy_crossing.proofs.crossing.do_all.Goals as goal
 
@@ -122,6 +124,28 @@ keep_all-requires-clause-done g c =
     done-all g.K.Loaded.load c.args.job log rows c.requires.informed c.requires.accepted g.K.World.passes.partitions known
     c.args.number c.requires.payer numbered is c.edition-edition.result (g.P.Parts.states c.do_parts.new.parts) does c.requires.several
 
+pub keep_all-requires-clause-counted : goal.keep_all-requires-clause-counted
+keep_all-requires-clause-counted g c =
+    let rows = g.P.Parts.states c.args.parts.now in
+    let numbered = c.with_number-numbered.result in
+    let all : AreAllDone c.edition-edition.result numbered rows c.in-Ok.unsettled =
+    subst (λ (olds : List PartitionState). AreAllDone c.edition-edition.result numbered olds c.in-Ok.unsettled)
+    c.know_named.ensures.same c.in-Ok.ensures.all in
+    let does : Pairwise (DoesIfNamed c.edition-edition.result numbered) 1 rows (g.P.Parts.states c.do_parts.new.parts) =
+    subst (λ (olds : List PartitionState). Pairwise (DoesIfNamed c.edition-edition.result numbered) 1 olds (g.P.Parts.states c.do_parts.new.parts))
+    c.know_named.ensures.same c.in-Ok.ensures.done in
+    all-counted c.edition-edition.result numbered rows (g.P.Parts.states c.do_parts.new.parts) c.in-Ok.unsettled all
+    (pairs-count (DoesIfNamed c.edition-edition.result numbered) 1 rows (g.P.Parts.states c.do_parts.new.parts) does)
+
+pub keep_all-requires-clause-replied : goal.keep_all-requires-clause-replied
+keep_all-requires-clause-replied g c =
+    let rows = g.P.Parts.states c.args.parts.now in
+    let numbered = c.with_number-numbered.result in
+    let all : AreAllDone c.edition-edition.result numbered rows c.in-Ok.unsettled =
+    subst (λ (olds : List PartitionState). AreAllDone c.edition-edition.result numbered olds c.in-Ok.unsettled)
+    c.know_named.ensures.same c.in-Ok.ensures.all in
+    all-replied c.edition-edition.result numbered rows c.in-Ok.unsettled all
+
 pub returns-in-Ok-clause-does : goal.returns-in-Ok-clause-does
 returns-in-Ok-clause-does g c =
     let rows = g.P.Parts.states c.args.parts.now in
@@ -137,10 +161,10 @@ returns-in-Ok-clause-does g c =
     c.know_named.ensures.same c.in-Ok.ensures.done in
     inl (accepts-all g.K.Loaded.load c.args.job log rows c.requires.informed c.requires.accepted g.K.World.passes.partitions known
     c.args.number c.requires.payer numbered is c.edition-edition.result (g.P.Parts.states c.do_parts.new.parts)
-    (g.P.Parts.states c.keep_all.new.parts) c.keep_all.new.journal.list.log c.in-Ok.reply c.keep_all.result
+    (g.P.Parts.states c.keep_all.new.parts) c.keep_all.new.journal.list.log c.in-Ok.unsettled c.keep_all.result
     c.open-command.result.1 c.edition-edition.ensures c.open-command.ensures.1 does c.keep_all.ensures.kept
-    (subst (λ (olds : List PartitionState). RepliesFrom c.edition-edition.result numbered olds (Some c.in-Ok.reply)) c.know_named.ensures.same
-    c.in-Ok.ensures.reply)
+    (subst (λ (olds : List PartitionState). AreAllDone c.edition-edition.result numbered olds c.in-Ok.unsettled) c.know_named.ensures.same
+    c.in-Ok.ensures.all)
     c.keep_all.ensures.client c.keep_all.ensures.log c.keep_all.ensures.answer)
 
 pub returns-in-Ok-clause-parts : goal.returns-in-Ok-clause-parts
@@ -160,10 +184,10 @@ returns-in-Ok-clause-parts g c =
     c.keep_all.result c.requires.informed
     (inl (accepts-all g.K.Loaded.load c.args.job log rows c.requires.informed c.requires.accepted g.K.World.passes.partitions known
     c.args.number c.requires.payer numbered is c.edition-edition.result (g.P.Parts.states c.do_parts.new.parts)
-    (g.P.Parts.states c.keep_all.new.parts) c.keep_all.new.journal.list.log c.in-Ok.reply c.keep_all.result
+    (g.P.Parts.states c.keep_all.new.parts) c.keep_all.new.journal.list.log c.in-Ok.unsettled c.keep_all.result
     c.open-command.result.1 c.edition-edition.ensures c.open-command.ensures.1 does c.keep_all.ensures.kept
-    (subst (λ (olds : List PartitionState). RepliesFrom c.edition-edition.result numbered olds (Some c.in-Ok.reply)) c.know_named.ensures.same
-    c.in-Ok.ensures.reply)
+    (subst (λ (olds : List PartitionState). AreAllDone c.edition-edition.result numbered olds c.in-Ok.unsettled) c.know_named.ensures.same
+    c.in-Ok.ensures.all)
     c.keep_all.ensures.client c.keep_all.ensures.log c.keep_all.ensures.answer))
 
 pub returns-in-Ok-clause-whole : goal.returns-in-Ok-clause-whole
@@ -183,10 +207,10 @@ returns-in-Ok-clause-whole g c =
     c.keep_all.result c.requires.informed
     (inl (accepts-all g.K.Loaded.load c.args.job log rows c.requires.informed c.requires.accepted g.K.World.passes.partitions known
     c.args.number c.requires.payer numbered is c.edition-edition.result (g.P.Parts.states c.do_parts.new.parts)
-    (g.P.Parts.states c.keep_all.new.parts) c.keep_all.new.journal.list.log c.in-Ok.reply c.keep_all.result
+    (g.P.Parts.states c.keep_all.new.parts) c.keep_all.new.journal.list.log c.in-Ok.unsettled c.keep_all.result
     c.open-command.result.1 c.edition-edition.ensures c.open-command.ensures.1 does c.keep_all.ensures.kept
-    (subst (λ (olds : List PartitionState). RepliesFrom c.edition-edition.result numbered olds (Some c.in-Ok.reply)) c.know_named.ensures.same
-    c.in-Ok.ensures.reply)
+    (subst (λ (olds : List PartitionState). AreAllDone c.edition-edition.result numbered olds c.in-Ok.unsettled) c.know_named.ensures.same
+    c.in-Ok.ensures.all)
     c.keep_all.ensures.client c.keep_all.ensures.log c.keep_all.ensures.answer))
 
 pub returns-in-Err-clause-does : goal.returns-in-Err-clause-does

@@ -1,14 +1,17 @@
 use Rattle.std.proofs.Common.{◌≡◌, ◌+◌, ◌-◌, ◌<◌, ◌==◌, ℕ, suc, not, cond, List, length, filter, refl, sym, ap, ◌∙◌, subst, arith}
 use Rattle.std.specs.Prelude.{Option, IfSome, slice_get}
+use Rattle.std.specs.Option.{option_or}
 use Rattle.hy_rows.proofs.BetweenLaws.{bounds}
 use Rattle.hy_commands.specs.Commands.{home_of, warehouses_of}
-use Rattle.hy_partition.specs.Jobs.{Log}
+use Rattle.hy_partition.specs.Jobs.{Log, share_of}
 use Rattle.hy_partition.specs.Partition.{PartitionState}
-use Rattle.hy_crossing.specs.Crossings.{IsPartition, IsReadyIfNamed, KeepsHere, KeepsPartIfNamed, is_named}
-use Rattle.hy_crossing.specs.Lists.{ChangesAt}
+use Rattle.hy_partition.specs.Unsettled.{UnsettledState, part_of}
+use Rattle.hy_crossing.specs.Crossings.{IsPartition, IsReadyIfNamed, KeepsPartIfNamed, is_named}
+use Rattle.hy_crossing.specs.Unsettled.{KeepsAt}
 use Rattle.hy_crossing.proofs.BehindLaws.{told-all, told-more, told-none}
 use Rattle.hy_crossing.proofs.KeepLaws.{home-there, keep-step, share-early, share-late}
 use Rattle.hy_crossing.proofs.TurnLaws.{done-end, done-get, done-start}
+use Rattle.hy_crossing.proofs.UnsettledLaws.{all-kept, enough-unkept, unkept-more, unkept-start}
 use Rattle.hy_crossing.proofs.keeping.keep_parts.Goals as goal
 
 pub loop-place-init : goal.loop-place-init
@@ -17,15 +20,16 @@ loop-place-init g c =
     let olds = g.P.Parts.states c.args.parts.now in
     let ends = bounds 1 (length olds) (home_of command) (home-there command (length olds) c.requires.there) in (
       done-start (KeepsPartIfNamed c.args.edition command c.args.crossing c.args.list.now.log) olds,
-      λ early. refl,
+      λ early. ap (λ (u : UnsettledState). u.share) c.requires.counted,
       λ late. absurd (omega (arith, late, ends.0)),
       refl,
       c.requires.behind ∙ sym (told-none (length olds) (warehouses_of command) c.requires.there),
       c.len-place-end.ensures,
+      unkept-start c.args.edition command (length olds) c.args.unsettled.now c.requires.counted,
     )
 
-pub keep_here-given-requires-clause-is : goal.keep_here-given-requires-clause-is
-keep_here-given-requires-clause-is g c =
+pub keep_here-requires-clause-is : goal.keep_here-requires-clause-is
+keep_here-requires-clause-is g c =
     let place = c.loop-place.place in
     let olds = g.P.Parts.states c.args.parts.now in
     let news = g.P.Parts.states c.loop-place.parts in
@@ -38,8 +42,8 @@ keep_here-given-requires-clause-is g c =
     (subst (λ (row : Option PartitionState). IfSome row (IsPartition g.K.Loaded.load (suc place))) (sym same)
     (c.requires.parts.each place)))
 
-pub keep_here-given-requires-clause-ready : goal.keep_here-given-requires-clause-ready
-keep_here-given-requires-clause-ready g c =
+pub keep_here-requires-clause-ready : goal.keep_here-requires-clause-ready
+keep_here-requires-clause-ready g c =
     let place = c.loop-place.place in
     let command = c.args.command.now in
     let crossing = c.args.crossing in
@@ -56,31 +60,46 @@ keep_here-given-requires-clause-ready g c =
     (subst (λ (row : Option PartitionState). IfSome row (IsReadyIfNamed c.args.edition command crossing log (suc place))) (sym same)
     (c.requires.ready place))))
 
+pub keep_here-requires-clause-same : goal.keep_here-requires-clause-same
+keep_here-requires-clause-same g c = ap part_of c.loop-place.invariant.6.is
+
+pub keep_here-requires-clause-counted : goal.keep_here-requires-clause-counted
+keep_here-requires-clause-counted g c =
+    let olds = g.P.Parts.states c.args.parts.now in
+    enough-unkept c.args.edition c.args.command.now c.loop-place.place (length olds) c.args.unsettled.now
+    c.loop-place.unsettled c.loop-place.invariant.6 (omega (arith, c.loop-place-test.true, c.loop-place.invariant.5))
+
 pub loop-place-preserved : goal.loop-place-preserved
 loop-place-preserved g c =
     let place = c.loop-place.place in
+    let edition = c.args.edition in
     let command = c.args.command.now in
     let crossing = c.args.crossing in
     let log = c.args.list.now.log in
     let olds = g.P.Parts.states c.args.parts.now in
     let middles = g.P.Parts.states c.loop-place.parts in
-    let news = g.P.Parts.states c.keep_here-given.new.parts in
-    let given = c.keep_here-given.result in
+    let news = g.P.Parts.states c.keep_here.new.parts in
+    let now = c.loop-place.unsettled in
     let done = c.loop-place.invariant.0 in
     let within : place < length olds = omega (arith, c.loop-place-test.true, c.loop-place.invariant.5) in
-    let changes = subst (λ (log : Log). ChangesAt (λ old new. KeepsHere c.args.edition command crossing log (place + 1) old new given)
-    (place + 1 - 1) middles news) c.loop-place.invariant.3 c.keep_here-given.ensures.kept in (
-      keep-step c.args.edition command crossing log place olds middles done within given news changes,
-      λ before. c.note_share.ensures ∙ share-early c.args.edition command crossing log place olds middles done within given news
-          changes g.K.Loaded.load c.requires.parts c.loop-place.share c.loop-place.invariant.1 before,
-      λ passed. c.note_share.ensures ∙ share-late c.args.edition command crossing log place olds middles done within given news
-          changes g.K.Loaded.load c.requires.parts c.loop-place.share c.loop-place.invariant.1
-          c.loop-place.invariant.2 passed,
-      c.keep_here-given.ensures.log ∙ c.loop-place.invariant.3,
-      c.keep_here-given.ensures.behind
+    let keeps = subst (λ (log : Log).
+    KeepsAt edition command crossing log (place + 1) now c.keep_here.new.unsettled middles news) c.loop-place.invariant.3
+    c.keep_here.ensures.kept in
+    let shared : c.keep_here.new.unsettled.share ≡ option_or keeps.share now.share =
+    ap (λ (u : UnsettledState). u.share) keeps.settled in (
+      keep-step edition command crossing log place olds middles done within keeps.share news keeps.changes,
+      λ before. shared ∙ share-early edition command crossing log place olds middles done within keeps.share news
+          keeps.changes g.K.Loaded.load c.requires.parts now.share c.loop-place.invariant.1 before,
+      λ passed. shared ∙ share-late edition command crossing log place olds middles done within keeps.share news
+          keeps.changes g.K.Loaded.load c.requires.parts now.share c.loop-place.invariant.1 c.loop-place.invariant.2
+          passed,
+      c.keep_here.ensures.log ∙ c.loop-place.invariant.3,
+      c.keep_here.ensures.behind
           ∙ ap (λ (ws : List ℕ). cond (is_named command (place + 1)) (filter (λ w. not (w == place + 1)) ws) ws)
           c.loop-place.invariant.4 ∙ told-more place (warehouses_of command),
       c.loop-place.invariant.5,
+      unkept-more edition command place (length olds) c.args.unsettled.now now c.loop-place.invariant.6 within
+          c.keep_here.new.unsettled keeps.share keeps.settled,
     )
 
 pub returns-clause-kept : goal.returns-clause-kept
@@ -89,12 +108,15 @@ returns-clause-kept g c =
     (g.P.Parts.states c.args.parts.now) (g.P.Parts.states c.loop-place.parts) c.loop-place.invariant.0
     (omega (arith, c.loop-place-test.false, c.loop-place.invariant.5))
 
-pub returns-clause-share : goal.returns-clause-share
-returns-clause-share g c =
+pub returns-clause-settled : goal.returns-clause-settled
+returns-clause-settled g c =
+    let command = c.args.command.now in
     let olds = g.P.Parts.states c.args.parts.now in
-    let ends = bounds 1 (length olds) (home_of c.args.command.now)
-    (home-there c.args.command.now (length olds) c.requires.there) in
-    c.loop-place.invariant.2 (omega (arith, ends.1, c.loop-place-test.false, c.loop-place.invariant.5))
+    let ends = bounds 1 (length olds) (home_of command) (home-there command (length olds) c.requires.there) in
+    all-kept c.args.edition command c.loop-place.place (length olds) c.args.unsettled.now c.loop-place.unsettled
+    (share_of (home_of command) command) c.loop-place.invariant.6
+    (omega (arith, c.loop-place-test.false, c.loop-place.invariant.5))
+    (c.loop-place.invariant.2 (omega (arith, ends.1, c.loop-place-test.false, c.loop-place.invariant.5)))
 
 pub returns-clause-told : goal.returns-clause-told
 returns-clause-told g c =

@@ -116,16 +116,6 @@ returns-clause-refused_fork_all c = λ n log parts news held whole is knows pair
   knows-still whole.known parts news held (passes-unforked log parts news pairs) knows,
 )
 
-pub returns-clause-refused_told : goal.returns-clause-refused_told
-returns-clause-refused_told c = λ n log pass parts news held whole is knows pairs.
-    let stays = c.calls_of_all_are_events.ensures.refused_fork_all n log parts news whole is pairs in
-    leads-knowing n (looks pass.client) whole log news (told pass log ∷ held)
-    (with_known whole.known pass.client whole.log)
-    (c.calls_of_all_are_events.ensures.look n log pass.client news whole stays)
-    (λ next does. ap (λ (w : Whole). w.known) does)
-    (knows-told whole.known (passes_in parts) (passes_in news) pass (told pass log) held whole.log
-    (passes-unforked log parts news pairs) refl (sym is.0) knows)
-
 pub returns-clause-close_all : goal.returns-clause-close_all
 returns-clause-close_all c = λ n log parts news held whole snapshots is knows closed.
     leads-knowing n (closes_all (children_of snapshots)) whole log news held whole.known

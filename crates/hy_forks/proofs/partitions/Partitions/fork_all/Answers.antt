@@ -1,8 +1,8 @@
-use Rattle.std.proofs.Common.{◌≡◌, ◌∙◌, ◌+◌, ◌<◌, true, List, length, arith, ap, inl, refl, subst, sym}
+use Rattle.std.proofs.Common.{◌≡◌, ◌∙◌, ◌+◌, ◌<◌, true, List, [], length, arith, ap, refl, subst, sym}
 use Rattle.std.proofs.lemmas.List.{length_push}
-use Rattle.hy_passes.specs.Worlds.{PassState}
-use Rattle.hy_commands.specs.declared.command.Commit.{Commit}
-use Rattle.hy_crossing.specs.of_partition.Jobs.{Log, told}
+use mathlib.Core.List.{IsPrefix}
+use Rattle.hy_crossing.specs.of_partition.Jobs.{Log}
+use Rattle.hy_crossing.proofs.of_partition.ForkLaws.{begins_from_nothing}
 use Rattle.hy_crossing.specs.of_partition.Partition.{PartitionState}
 use Rattle.hy_crossing.specs.of_partition.Snapshots.{SnapshotState}
 use Rattle.hy_crossing.specs.Crossings.{database_behind}
@@ -16,7 +16,6 @@ use Rattle.hy_forks.proofs.DatabaseLaws.{consistent-behind}
 use Rattle.hy_forks.proofs.ForkedLaws.{are_from-forks}
 use Rattle.hy_forks.proofs.PartsLaws.{as-whole}
 use Rattle.hy_forks.proofs.HistoryLaws.{one-history}
-use Rattle.hy_forks.proofs.KnownLaws.{IsTold, told-begins, told-more}
 use Rattle.hy_forks.proofs.RelationLaws.{before-start, pairs-length}
 use Rattle.hy_forks.proofs.ResultLaws.{err-holds}
 use Rattle.hy_forks.proofs.partitions.Partitions.fork_all.Goals as goal
@@ -41,16 +40,15 @@ pub loop-place-init : goal.loop-place-init
 loop-place-init g c =
     let log : Log = c.args.journal.now.list.log in
     let olds = c.args.self.now in
-    let before = Before 1 (ForksExactlyHere g.row.N g.K.World.passes log c.args.pass.now.seen
+    let before = Before 1 (ForksExactlyHere g.row.N g.K.World.passes log []
     c.in_ok-snapshots.snapshots.items) in (
       subst (λ (rows : List PartitionState). Pairwise before 1 olds rows)
           (sym (c.know_load.ensures.same ∙ (c.is_some_lacking.ensures.same ∙ c.self.view_is)))
-          (before-start (ForksExactlyHere g.row.N g.K.World.passes log c.args.pass.now.seen
+          (before-start (ForksExactlyHere g.row.N g.K.World.passes log []
           c.in_ok-snapshots.snapshots.items) olds),
       ap length c.in_ok-snapshots.ensures.items,
       omega (arith, c.in_ok-snapshots.ensures.capacity, c.len.ensures, ap length (c.is_some_lacking.ensures.same ∙ c.self.view_is)),
       refl,
-      inl refl,
       c.len-place-end.ensures ∙ ap length (c.know_load.ensures.same ∙ (c.is_some_lacking.ensures.same ∙ c.self.view_is)),
     )
 
@@ -60,17 +58,17 @@ fork_here-requires g c =
     let olds = c.args.self.now in
     let middles = g.P.Parts.states c.loop-place.parts in
     let counted = pairs-length (Before (c.loop-place.place + 1) (ForksExactlyHere g.row.N g.K.World.passes log
-    c.args.pass.now.seen c.loop-place.snapshots.items)) 1 olds middles c.loop-place.invariant.0 in
-    (omega arith, omega (arith, c.loop-place-test.true, c.loop-place.invariant.5, counted))
+    [] c.loop-place.snapshots.items)) 1 olds middles c.loop-place.invariant.0 in
+    (omega arith, omega (arith, c.loop-place-test.true, c.loop-place.invariant.4, counted))
 
 pub close_each-requires : goal.close_each-requires
 close_each-requires g c =
     let place = c.loop-place.place in
     let log : Log = c.args.journal.now.list.log in
     let olds = c.args.self.now in
-    let within : place < length olds = omega (arith, c.loop-place-test.true, c.loop-place.invariant.5) in (
+    let within : place < length olds = omega (arith, c.loop-place-test.true, c.loop-place.invariant.4) in (
       omega arith,
-      of-halves g.row.N g.K.World.passes log c.args.pass.now.seen c.loop-place.snapshots.items place
+      of-halves g.row.N g.K.World.passes log [] c.loop-place.snapshots.items place
           c.loop-place.invariant.1 olds (g.P.Parts.states c.loop-place.parts) c.loop-place.invariant.0 within
           c.in-Err.refusal (g.P.Parts.states c.fork_here.new.parts) c.in-Err.ensures.refused,
     )
@@ -80,8 +78,8 @@ returns-in-Err-clause-refused g c =
     let place = c.loop-place.place in
     let log : Log = c.args.journal.now.list.log in
     let olds = c.args.self.now in
-    let within : place < length olds = omega (arith, c.loop-place-test.true, c.loop-place.invariant.5) in
-    why-unforked g.row.N g.K.World.passes log c.args.pass.now.seen c.loop-place.snapshots.items place
+    let within : place < length olds = omega (arith, c.loop-place-test.true, c.loop-place.invariant.4) in
+    why-unforked g.row.N g.K.World.passes log [] c.loop-place.snapshots.items place
     c.loop-place.invariant.1 olds (g.P.Parts.states c.loop-place.parts) c.loop-place.invariant.0 within
     c.in-Err.refusal (g.P.Parts.states c.fork_here.new.parts) c.in-Err.ensures.refused
 
@@ -90,45 +88,34 @@ returns-in-Err-clause-err g c =
     let place = c.loop-place.place in
     let log : Log = c.args.journal.now.list.log in
     let olds = c.args.self.now in
-    let within : place < length olds = omega (arith, c.loop-place-test.true, c.loop-place.invariant.5) in
-    all-unforked g.row.N g.K.World.passes log c.args.pass.now.seen c.loop-place.snapshots.items place
+    let within : place < length olds = omega (arith, c.loop-place-test.true, c.loop-place.invariant.4) in
+    all-unforked g.row.N g.K.World.passes log [] c.loop-place.snapshots.items place
     c.loop-place.invariant.1 olds (g.P.Parts.states c.loop-place.parts) c.loop-place.invariant.0 within
     c.in-Err.refusal (g.P.Parts.states c.fork_here.new.parts) c.in-Err.ensures.refused
     (g.P.Parts.states c.close_each.new.parts) c.close_each.ensures
-
-pub returns-in-Err-clause-untold : goal.returns-in-Err-clause-untold
-returns-in-Err-clause-untold g c =
-    subst (λ (pass : PassState Commit). IsTold c.args.journal.now.list.log c.args.pass.now pass)
-    (sym c.in-Err.ensures.untold) c.loop-place.invariant.4
 
 pub loop-place-preserved : goal.loop-place-preserved
 loop-place-preserved g c =
     let place = c.loop-place.place in
     let log : Log = c.args.journal.now.list.log in
-    let known : Log = c.args.pass.now.seen in
-    let seen : Log = c.loop-place.pass.seen in
     let kit = g.K.World.passes in
     let snapshot = c.in-Ok.snapshot in
     let snapshots = c.loop-place.snapshots.items in
     let olds = c.args.self.now in
     let middles = g.P.Parts.states c.loop-place.parts in
     let news = g.P.Parts.states c.fork_here.new.parts in
-    let within : place < length olds = omega (arith, c.loop-place-test.true, c.loop-place.invariant.5) in
-    let changes = subst (λ (log : Log). ChangesAt (ForksExactly g.row.N kit log seen snapshot) place middles news)
+    let within : place < length olds = omega (arith, c.loop-place-test.true, c.loop-place.invariant.4) in
+    let changes = subst (λ (log : Log). ChangesAt (ForksExactly g.row.N kit log [] snapshot) place middles news)
     c.loop-place.invariant.3 c.in-Ok.ensures.forks in
-    let pass_is = c.in-Ok.ensures.told ∙ ap (told c.loop-place.pass) c.loop-place.invariant.3 in
     let pushed = c.push_reserved.ensures.items in (
-      subst (λ (list : List SnapshotState). Pairwise (Before (place + 1 + 1) (ForksExactlyHere g.row.N kit log known
+      subst (λ (list : List SnapshotState). Pairwise (Before (place + 1 + 1) (ForksExactlyHere g.row.N kit log []
           list)) 1 olds news) (sym pushed)
-          (forks-more g.row.N kit log known snapshots place c.loop-place.invariant.1 olds middles
-          c.loop-place.invariant.0 within seen (told-begins log c.args.pass.now c.loop-place.pass
-          c.loop-place.invariant.4) snapshot news changes),
+          (forks-more g.row.N kit log [] snapshots place c.loop-place.invariant.1 olds middles
+          c.loop-place.invariant.0 within snapshot news changes),
       ap length pushed ∙ length_push snapshots snapshot ∙ ap (λ n. n + 1) c.loop-place.invariant.1,
       omega (arith, c.push_reserved.ensures.capacity, c.loop-place.invariant.2),
       c.in-Ok.ensures.log ∙ c.loop-place.invariant.3,
-      told-more log c.args.pass.now c.loop-place.pass c.fork_here.new.pass c.loop-place.invariant.4 pass_is
-          changes.4.forks.client_told,
-      c.loop-place.invariant.5,
+      c.loop-place.invariant.4,
     )
 
 pub returns-clause-forks : goal.returns-clause-forks
@@ -137,10 +124,12 @@ returns-clause-forks g c =
     let log : Log = c.args.journal.now.list.log in
     let olds = c.args.self.now in
     let ends : place ≡ length olds =
-    omega (arith, c.loop-place-test.false, c.loop-place.auto.place-end, c.loop-place.invariant.5) in
-    subst (ForksAll g.row.N g.K.World.passes log c.args.pass.now.seen olds (g.P.Parts.states c.loop-place.parts))
-    (sym c.new.ensures) (forks-all g.row.N g.K.World.passes log c.args.pass.now.seen c.loop-place.snapshots.items place
-    c.loop-place.invariant.1 olds (g.P.Parts.states c.loop-place.parts) ends c.loop-place.invariant.0)
+    omega (arith, c.loop-place-test.false, c.loop-place.auto.place-end, c.loop-place.invariant.4) in
+    let known : Log = c.args.pass.now.seen in
+    subst (ForksAll g.row.N g.K.World.passes log known olds (g.P.Parts.states c.loop-place.parts))
+    (sym c.new.ensures) (forks-all g.row.N g.K.World.passes log [] c.loop-place.snapshots.items place
+    c.loop-place.invariant.1 olds (g.P.Parts.states c.loop-place.parts) ends c.loop-place.invariant.0 known
+    (subst (λ (serial : Log). IsPrefix known serial) c.loop-place.invariant.3 c.tell_client.ensures.begins))
 
 pub returns-clause-database : goal.returns-clause-database
 returns-clause-database g c =
@@ -148,9 +137,9 @@ returns-clause-database g c =
     let log : Log = c.args.journal.now.list.log in
     let olds = c.args.self.now in
     let ends : place ≡ length olds =
-    omega (arith, c.loop-place-test.false, c.loop-place.auto.place-end, c.loop-place.invariant.5) in
+    omega (arith, c.loop-place-test.false, c.loop-place.auto.place-end, c.loop-place.invariant.4) in
     subst (SpellsDatabase g.row.N (database_behind g.K.Loaded.load log)) (sym c.new.ensures)
-    (spells-database g.row.N g.K.World.passes log c.args.pass.now.seen c.loop-place.snapshots.items place
+    (spells-database g.row.N g.K.World.passes log [] c.loop-place.snapshots.items place
     c.loop-place.invariant.1 olds (g.P.Parts.states c.loop-place.parts) ends c.loop-place.invariant.0
     g.K.Loaded.load (subst (AreWhole g.K.Loaded.load) c.self.view_is c.self.invariant).partitions)
 
@@ -160,9 +149,9 @@ returns-clause-kit g c =
     let log : Log = c.args.journal.now.list.log in
     let olds = c.args.self.now in
     let ends : place ≡ length olds =
-    omega (arith, c.loop-place-test.false, c.loop-place.auto.place-end, c.loop-place.invariant.5) in
+    omega (arith, c.loop-place-test.false, c.loop-place.auto.place-end, c.loop-place.invariant.4) in
     subst (AreOfKit g.K.World.passes) (sym c.new.ensures)
-    (forked-kit g.row.N g.K.World.passes log c.args.pass.now.seen c.loop-place.snapshots.items place
+    (forked-kit g.row.N g.K.World.passes log [] c.loop-place.snapshots.items place
     c.loop-place.invariant.1 olds (g.P.Parts.states c.loop-place.parts) ends c.loop-place.invariant.0)
 
 pub returns-clause-consistent : goal.returns-clause-consistent
@@ -181,13 +170,13 @@ returns-clause-history g c =
     let log : Log = c.args.journal.now.list.log in
     let olds = c.args.self.now in
     let ends : place ≡ length olds =
-    omega (arith, c.loop-place-test.false, c.loop-place.auto.place-end, c.loop-place.invariant.5) in
+    omega (arith, c.loop-place-test.false, c.loop-place.auto.place-end, c.loop-place.invariant.4) in
     let news = g.P.Parts.states c.loop-place.parts in
-    let counted = pairs-length (Before (place + 1) (ForksExactlyHere g.row.N g.K.World.passes log c.args.pass.now.seen
+    let counted = pairs-length (Before (place + 1) (ForksExactlyHere g.row.N g.K.World.passes log []
     c.loop-place.snapshots.items)) 1 olds news c.loop-place.invariant.0 in
     one-history g.K.World.passes.partitions log news c.know_list.ensures.serial c.know_list.ensures.agree
     (omega (arith, counted, c.know_load.ensures.range, ap length (c.is_some_lacking.ensures.same ∙ c.self.view_is)))
-    (forked-kept g.row.N g.K.World.passes log c.args.pass.now.seen c.loop-place.snapshots.items place
+    (forked-kept g.row.N g.K.World.passes log [] c.loop-place.snapshots.items place
     c.loop-place.invariant.1 olds (g.P.Parts.states c.loop-place.parts) ends c.loop-place.invariant.0
     g.K.Loaded.load (subst (AreWhole g.K.Loaded.load) c.self.view_is c.self.invariant).partitions)
 
@@ -198,11 +187,11 @@ returns-clause-mine g c =
     let olds = c.args.self.now in
     let news = g.P.Parts.states c.loop-place.parts in
     let ends : place ≡ length olds =
-    omega (arith, c.loop-place-test.false, c.loop-place.auto.place-end, c.loop-place.invariant.5) in
+    omega (arith, c.loop-place-test.false, c.loop-place.auto.place-end, c.loop-place.invariant.4) in
     subst (λ (all : List SnapshotState). are_from g.K.World.passes all news ≡ true) (sym c.new.ensures)
-    (are_from-forks g.row.N g.K.World.passes log c.args.pass.now.seen c.loop-place.snapshots.items olds news
-    (forks-all g.row.N g.K.World.passes log c.args.pass.now.seen c.loop-place.snapshots.items place
-    c.loop-place.invariant.1 olds news ends c.loop-place.invariant.0))
+    (are_from-forks g.row.N g.K.World.passes log [] c.loop-place.snapshots.items olds news
+    (forks-all g.row.N g.K.World.passes log [] c.loop-place.snapshots.items place
+    c.loop-place.invariant.1 olds news ends c.loop-place.invariant.0 [] (begins_from_nothing log)))
 
 pub invariant_of-self-in-Err : goal.invariant_of-self-in-Err
 invariant_of-self-in-Err g c =
@@ -210,8 +199,8 @@ invariant_of-self-in-Err g c =
     let log : Log = c.args.journal.now.list.log in
     let olds = c.args.self.now in
     let news = g.P.Parts.states c.close_each.new.parts in
-    let within : place < length olds = omega (arith, c.loop-place-test.true, c.loop-place.invariant.5) in
-    let unforked = all-unforked g.row.N g.K.World.passes log c.args.pass.now.seen c.loop-place.snapshots.items place
+    let within : place < length olds = omega (arith, c.loop-place-test.true, c.loop-place.invariant.4) in
+    let unforked = all-unforked g.row.N g.K.World.passes log [] c.loop-place.snapshots.items place
     c.loop-place.invariant.1 olds (g.P.Parts.states c.loop-place.parts) c.loop-place.invariant.0 within
     c.in-Err.refusal (g.P.Parts.states c.fork_here.new.parts) c.in-Err.ensures.refused news c.close_each.ensures in
     as-whole g.K.Loaded.load olds news (subst (AreWhole g.K.Loaded.load) c.self.view_is c.self.invariant)
@@ -224,9 +213,9 @@ invariant_of-self-2 g c =
     let olds = c.args.self.now in
     let news = g.P.Parts.states c.loop-place.parts in
     let ends : place ≡ length olds =
-    omega (arith, c.loop-place-test.false, c.loop-place.auto.place-end, c.loop-place.invariant.5) in
+    omega (arith, c.loop-place-test.false, c.loop-place.auto.place-end, c.loop-place.invariant.4) in
     as-whole g.K.Loaded.load olds news (subst (AreWhole g.K.Loaded.load) c.self.view_is c.self.invariant)
-    (forked-partitions g.row.N g.K.World.passes log c.args.pass.now.seen c.loop-place.snapshots.items place
+    (forked-partitions g.row.N g.K.World.passes log [] c.loop-place.snapshots.items place
     c.loop-place.invariant.1 olds news ends c.loop-place.invariant.0 g.K.Loaded.load)
-    (forked-whole g.row.N g.K.World.passes log c.args.pass.now.seen c.loop-place.snapshots.items place
+    (forked-whole g.row.N g.K.World.passes log [] c.loop-place.snapshots.items place
     c.loop-place.invariant.1 olds news ends c.loop-place.invariant.0)

@@ -8,7 +8,8 @@ use Rattle.hy_space.specs.Space.{owner_bytes}
 use Rattle.hy_tpcc.specs.Parts.{HasPart, reply_of_part}
 use Rattle.hy_partition.specs.Jobs.{RunningJob}
 use Rattle.hy_partition.specs.Partition.{PartState, PartitionState, layout_of, may_run, replays, rows_now}
-use Rattle.hy_partition.specs.Parts.{DoesPart, HasNoPart, rows_with_part}
+use Rattle.hy_partition.specs.Parts.{DoesPart, HasNoPart, reply_now, rows_with_part}
+use Rattle.hy_partition.specs.Unsettled.{with_part_done}
 use Rattle.hy_partition.specs.inside.Soundness.{IsSound, IsTied}
 use Rattle.hy_partition.specs.inside.Views.{partition_of, with_list}
 use Rattle.hy_partition.proofs.SoundLaws.{grown_for_part, rests, store_now, sound-parted, sound-undone, undone-none}
@@ -122,14 +123,10 @@ returns-in-Ok-clause-done g c =
       undo = c.run_part.new.undo;
       space = c.run_part.new.space;
     } in
-    let part : c.in-Some.part ≡ asked c.args.edition c.args.command =
-    put_is c.in-Some.is c.put.ensures c.new.ensures in
-    let replied : c.in-Ok.reply ≡ reply_of_part (layout_of p) c.args.edition c.args.command (rows_now p) =
-    rw (c.self.invariant.0.layout, part, rest.pages.rows) at c.in-Ok.ensures.reply in
-    let does : DoesPart c.args.edition c.args.command p after c.in-Ok.reply = record {
+    let does : DoesPart c.args.edition c.args.command p after (reply_now p c.args.edition c.args.command) = record {
       part = c.put.ensures ∙ ap Some c.new.ensures;
       bytes = c.in-Ok.ensures.writes.undoes.undone ∙ undone-none p.space p.undo rest.undo;
-      reply_is = replied;
+      reply_is = refl;
       nothing = record { seen = refl; kept = refl; book = refl };
       beside = record {
         terms = refl;
@@ -140,9 +137,23 @@ returns-in-Ok-clause-done g c =
         max_frames = c.in-Ok.ensures.writes.limit;
       };
     } in
-    subst (λ (old : PartitionState). DoesPart c.args.edition c.args.command old (with_list after list) c.in-Ok.reply) c.self.view_is
-    (subst (λ (list : KeptState Commit). DoesPart c.args.edition c.args.command p (with_list after list) c.in-Ok.reply)
-    (sym c.run_part.ensures.kept) does)
+    subst (λ (old : PartitionState). DoesPart c.args.edition c.args.command old (with_list after list)
+    (reply_now old c.args.edition c.args.command)) c.self.view_is
+    (subst (λ (list : KeptState Commit). DoesPart c.args.edition c.args.command p (with_list after list)
+    (reply_now p c.args.edition c.args.command)) (sym c.run_part.ensures.kept) does)
+
+pub returns-in-Ok-clause-counted : goal.returns-in-Ok-clause-counted
+returns-in-Ok-clause-counted g c =
+    let p : PartitionState = partition_of c.self.inside in
+    let idle : p.running ≡ None = ap (λ (q : PartitionState). q.running) c.self.view_is ∙ c.requires.idle.0 in
+    let no_part : p.part ≡ None = ap (λ (q : PartitionState). q.part) c.self.view_is ∙ c.requires.idle.1 in
+    let rest = rests g.row.N _ _ p c.self.invariant.0 idle no_part in
+    let part : c.in-Some.part ≡ asked c.args.edition c.args.command =
+    put_is c.in-Some.is c.put.ensures c.new.ensures in
+    let replied : c.in-Ok.reply ≡ reply_of_part (layout_of p) c.args.edition c.args.command (rows_now p) =
+    rw (c.self.invariant.0.layout, part, rest.pages.rows) at c.in-Ok.ensures.reply in
+    c.note_done.ensures ∙ ap (with_part_done c.args.unsettled.now)
+    (replied ∙ ap (λ (q : PartitionState). reply_now q c.args.edition c.args.command) c.self.view_is)
 
 pub returns-in-Ok-clause-pages : goal.returns-in-Ok-clause-pages
 returns-in-Ok-clause-pages g c =
