@@ -16,9 +16,9 @@ use Rattle.hy_commands.specs.declared.command.Delivery.{Delivery}
 use Rattle.hy_commands.specs.declared.command.Payment.{Payment}
 use Rattle.hy_commands.specs.declared.command.Purchase.{Purchase}
 use Rattle.hy_commands.specs.declared.command.PurchaseLine.{PurchaseLine}
-use Rattle.hy_commands.specs.Commands.{is_in_range, is_line_in_range, is_moment, is_who, warehouses_of, with_named}
-use Rattle.hy_commands.specs.Parts.{Database, customer_home_of, is_there, refusal_in, rows_of}
-use Rattle.hy_commands.specs.Transactions.{begin_refusal_of, has_customer, has_districts, has_items, refusal_of}
+use Rattle.hy_commands.specs.Commands.{customer_home_of, has_districts, is_in_range, is_line_in_range, is_moment, is_who, refusal_of_numbers, warehouses_of, with_named}
+use Rattle.hy_commands.specs.Parts.{Database, is_there, refusal_in, rows_of}
+use Rattle.hy_commands.specs.Transactions.{begin_refusal_of, has_customer, has_items, refusal_of}
 
 -- one test of a chain
 go_on : (test : Bool) (why : Refusal) (later : Option Refusal) → cond (not test) (Some why) later ≡ None
@@ -111,12 +111,26 @@ home-payment number payment all =
       )
     ] refl all
 
+-- what a command has passed that its numbers don't refuse
+pub record PassesNumbers (is_there : ℕ → Bool) (command : Command) : Type 0 where
+  pub in_range : is_in_range command ≡ true
+  pub named : list_all is_there (warehouses_of command) ≡ true
+  pub districts : has_districts command ≡ true
+
+pub passed-numbers : (is_there : ℕ → Bool) (command : Command) → refusal_of_numbers is_there command ≡ None
+    → PassesNumbers is_there command
+passed-numbers is_there command none =
+    let first = go_on (is_in_range command) _ _ none in
+    let second = go_on (list_all is_there (warehouses_of command)) _ _ first.1 in
+    let third = go_on (has_districts command) _ _ second.1 in
+    record { in_range = first.0; named = second.0; districts = third.0 }
+
 -- a command that a warehouse begins names no other
 pub begun : (number : ℕ) (command : Command) (tables : Tables) → begin_refusal_of number command tables ≡ None
     → list_all (λ named. named == number) (warehouses_of command) ≡ true
 begun number command tables none =
-    let first = go_on (is_in_range command) _ _ none in
-    (go_on (list_all (λ named. named == number) (warehouses_of command)) _ _ first.1).0
+    (passed-numbers (λ named. named == number) command
+    (neither (refusal_of_numbers (λ named. named == number) command) _ none).0).named
 
 -- what a command that isn't refused has passed
 pub record IsAccepted (items : List Item) (number : ℕ) (command : Command) (tables : Tables) : Type 0 where
@@ -130,15 +144,13 @@ pub accepted-not_refused : (items : List Item) (number : ℕ) (command : Command
     → refusal_of items number command tables ≡ None → IsAccepted items number command tables
 accepted-not_refused items number command tables none =
     let both = neither (begin_refusal_of number command tables) _ none in
-    let first = go_on (is_in_range command) _ _ both.0 in
-    let second = go_on (list_all (λ named. named == number) (warehouses_of command)) _ _ first.1 in
-    let third = go_on (has_districts command) _ _ second.1 in
-    let fourth = go_on (has_customer command tables) _ _ third.1 in
+    let begins = neither (refusal_of_numbers (λ named. named == number) command) _ both.0 in
+    let numbers = passed-numbers (λ named. named == number) command begins.0 in
     record {
-      in_range = first.0;
-      named = second.0;
-      districts = third.0;
-      customer = fourth.0;
+      in_range = numbers.in_range;
+      named = numbers.named;
+      districts = numbers.districts;
+      customer = last (has_customer command tables) _ begins.1;
       known = last (has_items items command) _ both.1;
     }
   where
@@ -264,15 +276,14 @@ pub record IsAcceptedIn (database : Database) (command : Command) : Type 0 where
 pub accepted-in : (database : Database) (command : Command) → refusal_in database command ≡ None
     → IsAcceptedIn database command
 accepted-in database command none =
-    let first = go_on (is_in_range command) _ _ none in
-    let second = go_on (list_all (is_there database) (warehouses_of command)) _ _ first.1 in
-    let third = go_on (has_districts command) _ _ second.1 in
-    let fourth = go_on (has_customer command (rows_of (customer_home_of command) database)) _ _ third.1 in
-    let fifth = go_on (has_items database.items command) _ _ fourth.1 in
+    let both = neither (refusal_of_numbers (is_there database) command) _ none in
+    let numbers = passed-numbers (is_there database) command both.0 in
+    let customer = go_on (has_customer command (rows_of (customer_home_of command) database)) _ _ both.1 in
+    let items = go_on (has_items database.items command) _ _ customer.1 in
     record {
-      in_range = first.0;
-      named = second.0;
-      districts = third.0;
-      customer = fourth.0;
-      known = fifth.0;
+      in_range = numbers.in_range;
+      named = numbers.named;
+      districts = numbers.districts;
+      customer = customer.0;
+      known = items.0;
     }

@@ -7,10 +7,12 @@ use Rattle.std.proofs.lemmas.Bool.{eq-eqb, eqb-true}
 use Rattle.std.proofs.lemmas.List.Folds.{list_any-append}
 use Rattle.hy_commands.specs.declared.command.Command.{Command}
 use Rattle.hy_commands.specs.declared.command.Command.TheVariants as commands
+use Rattle.hy_commands.specs.declared.command.Payment.{Payment}
 use Rattle.hy_commands.specs.declared.command.PurchaseLine.{PurchaseLine}
 use Rattle.hy_commands.specs.Commands.{warehouses_of, with_named}
 use Rattle.hy_commands.specs.inside.Named.{firsts, named_from, numbers_in}
-use Rattle.hy_commands.proofs.LineLaws.{drop-row}
+use Rattle.hy_commands.specs.inside.Kinds.{by_several}
+use Rattle.hy_commands.proofs.LineLaws.{drop-row, take-next}
 use Rattle.hy_commands.proofs.NamedLaws.{named-with}
 
 -- whether a number is among some
@@ -60,31 +62,20 @@ suppliers-firsts (line ∷ lines) named before same =
 
 -- from the begin on those are all
 pub named-all : (command : Command) → named_from command 0 ≡ warehouses_of command
-named-all (commands.NewOrder order) =
-    sym (suppliers-firsts order.lines (order.warehouse ∷ []) (order.warehouse ∷ []) (λ number. refl))
-named-all (commands.Payment payment) =
-    elim (payment.warehouse == payment.customer_warehouse) as (λ b.
-    payment.warehouse ∷ cond (b || false) [] (payment.customer_warehouse ∷ [])
-    ≡ cond (b || false) (payment.warehouse ∷ []) (payment.warehouse ∷ payment.customer_warehouse ∷ [])) [
-      | true ↦ refl
-      | false ↦ refl
-    ]
-named-all (commands.OrderStatus status) = refl
-named-all (commands.Delivery delivery) = refl
-named-all (commands.StockLevel level) = refl
-
--- the first numbers with one more
-take-row : (numbers : List ℕ) (place number : ℕ) → slice_get numbers place ≡ Some number
-    → take (place + 1) numbers ≡ take place numbers ++ number ∷ []
-take-row numbers place number at =
-    let after : suc place ≡ place + 1 = omega arith in
-    ap (λ after. take after numbers) (sym after) ∙ from numbers place number at
+named-all =
+    by_several (λ command. named_from command 0 ≡ warehouses_of command)
+    (λ order. sym (suppliers-firsts order.lines (order.warehouse ∷ []) (order.warehouse ∷ []) (λ number. refl)))
+    of_payment
+    (λ command home. ap (firsts []) home.numbers ∙ sym home.warehouses)
   where
-    from : (numbers : List ℕ) (place number : ℕ) → slice_get numbers place ≡ Some number
-        → take (suc place) numbers ≡ take place numbers ++ number ∷ []
-    from [] place number at = absurd (cc)
-    from (first ∷ numbers) zero number at = cc
-    from (first ∷ numbers) (suc place) number at = ap (λ rest. first ∷ rest) (from numbers place number at)
+    of_payment : (payment : Payment) → named_from (commands.Payment payment) 0 ≡ warehouses_of (commands.Payment payment)
+    of_payment payment =
+        elim (payment.warehouse == payment.customer_warehouse) as (λ b.
+        payment.warehouse ∷ cond (b || false) [] (payment.customer_warehouse ∷ [])
+        ≡ cond (b || false) (payment.warehouse ∷ []) (payment.warehouse ∷ payment.customer_warehouse ∷ [])) [
+          | true ↦ refl
+          | false ↦ refl
+        ]
 
 -- behind the last number the first ones are all
 take-end : (numbers : List ℕ) (place : ℕ) → slice_get numbers place ≡ None
@@ -105,7 +96,7 @@ pub others-in : (numbers : List ℕ) (place sought : ℕ) (found : Option ℕ) �
 others-in numbers place sought None at others none =
     ap (is_in sought) (take-end numbers place (sym at)) ∙ none
 others-in numbers place sought (Some number) at others none =
-    ap (is_in sought) (take-row numbers place number (sym at))
+    ap (is_in sought) (take-next numbers place number (sym at))
     ∙ list_any-append (λ it. it == sought) (take place numbers) (number ∷ [])
     ∙ ap (λ b. b || ((number == sought) || false)) none
     ∙ ap (λ b. b || false) others
@@ -138,7 +129,7 @@ named-more command place number at =
     ap (firsts (take place (numbers_in command))) (drop-row (numbers_in command) place number at)
     ∙ ap (λ before. cond (is_in number (take place (numbers_in command)))
     (firsts before (drop (place + 1) (numbers_in command)))
-    (number ∷ firsts before (drop (place + 1) (numbers_in command)))) (sym (take-row (numbers_in command) place number at))
+    (number ∷ firsts before (drop (place + 1) (numbers_in command)))) (sym (take-next (numbers_in command) place number at))
 
 -- behind the last number none is named
 pub named-end : (command : Command) (place : ℕ) → slice_get (numbers_in command) place ≡ None

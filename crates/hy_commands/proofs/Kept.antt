@@ -17,7 +17,8 @@ use Rattle.hy_commands.specs.Customers.{identity_of}
 use Rattle.hy_commands.specs.Deliveries.{delivered}
 use Rattle.hy_commands.specs.Invariant.{IsSoundWarehouse}
 use Rattle.hy_commands.specs.NewOrders.{ordered}
-use Rattle.hy_commands.specs.Parts.{customer_home_of, database_of, number_in, part, part_unless, refusal_in, rows_of}
+use Rattle.hy_commands.specs.Commands.{customer_home_of}
+use Rattle.hy_commands.specs.Parts.{database_of, number_in, part, part_unless, refusal_in, rows_of}
 use Rattle.hy_commands.specs.Payments.{paid_by, paid_in}
 use Rattle.hy_commands.specs.Replay.{HasWarehouse, committed, replay, rows_after}
 use Rattle.hy_commands.specs.Transactions.{accepted, act, has_customer, outcome_of, payer, refusal_of}

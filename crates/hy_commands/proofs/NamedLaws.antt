@@ -3,18 +3,20 @@ use Rattle.std.proofs.Common.{◌≡◌, ℕ, ◌+◌, ◌≤◌, ◌==◌, ◌&
 use Rattle.std.proofs.Math.Bool.{or_assoc}
 use Rattle.std.specs.Prelude.{fold, nat_lt}
 use Rattle.std.specs.List.{list_all, list_any}
-use Rattle.std.proofs.lemmas.Bool.{and_parts, eq-eqb, eqb-false, eqb-true, lt-ltb, ne_eqb}
+use Rattle.std.proofs.lemmas.Bool.{and_parts, eq-eqb, eqb-false, eqb-true, false≢true, lt-ltb, ne_eqb}
 use Rattle.std.proofs.lemmas.List.Folds.{list_any-append}
 use Rattle.hy_rows.specs.Tables.{Tables}
 use Rattle.hy_rows.specs.declared.item.Item.{Item}
 use Rattle.hy_schema.specs.Keys.{AreUnique}
 use Rattle.hy_commands.specs.declared.command.Command.{Command}
 use Rattle.hy_commands.specs.declared.command.Command.TheVariants as commands
+use Rattle.hy_commands.specs.declared.command.Payment.{Payment}
 use Rattle.hy_commands.specs.declared.command.PurchaseLine.{PurchaseLine}
-use Rattle.hy_commands.specs.Commands.{home_of, warehouses_of, with_named}
+use Rattle.hy_commands.specs.Commands.{customer_home_of, home_of, is_reader, warehouses_of, with_named}
 use Rattle.hy_commands.specs.Transactions.{begin_refusal_of, refusal_of}
 use Rattle.hy_commands.specs.inside.NamedOnce.{named_once}
-use Rattle.hy_commands.proofs.AcceptedLaws.{begun, neither}
+use Rattle.hy_commands.proofs.AcceptedLaws.{begun, named-payment, neither}
+use Rattle.hy_commands.specs.inside.Kinds.{by_payment, by_several}
 
 -- ---- which are there
 
@@ -141,17 +143,40 @@ first-suppliers (line ∷ lines) home others =
     ]
 
 pub first-named : (command : Command) → (others : List ℕ) × (warehouses_of command ≡ home_of command ∷ others)
-first-named (commands.NewOrder order) = first-suppliers order.lines order.warehouse []
-first-named (commands.Payment payment) =
-    elim (payment.warehouse == payment.customer_warehouse) as (λ b. (others : List ℕ)
-    × (cond (b || false) (payment.warehouse ∷ []) ((payment.warehouse ∷ []) ++ payment.customer_warehouse ∷ [])
-    ≡ payment.warehouse ∷ others)) [
-      | true ↦ ([], refl)
-      | false ↦ (payment.customer_warehouse ∷ [], refl)
-    ]
-first-named (commands.OrderStatus status) = ([], refl)
-first-named (commands.Delivery delivery) = ([], refl)
-first-named (commands.StockLevel level) = ([], refl)
+first-named =
+    by_several (λ command. (others : List ℕ) × (warehouses_of command ≡ home_of command ∷ others))
+    (λ order. first-suppliers order.lines order.warehouse []) of_payment (λ command home. ([], home.warehouses))
+  where
+    of_payment : (payment : Payment)
+        → (others : List ℕ) × (warehouses_of (commands.Payment payment) ≡ payment.warehouse ∷ others)
+    of_payment payment =
+        elim (payment.warehouse == payment.customer_warehouse) as (λ b. (others : List ℕ)
+        × (cond (b || false) (payment.warehouse ∷ []) ((payment.warehouse ∷ []) ++ payment.customer_warehouse ∷ [])
+        ≡ payment.warehouse ∷ others)) [
+          | true ↦ ([], refl)
+          | false ↦ (payment.customer_warehouse ∷ [], refl)
+        ]
+
+-- what each named warehouse passes, the home passes, and so does the warehouse of the customer
+pub named-home : (test : ℕ → Bool) (command : Command) → list_all test (warehouses_of command) ≡ true
+    → test (home_of command) ≡ true
+named-home test command all =
+    let first = first-named command in
+    (and_parts (test (home_of command)) (list_all test first.0) (ap (list_all test) (sym first.1) ∙ all)).0
+
+pub named-customer_home : (test : ℕ → Bool) (command : Command) → list_all test (warehouses_of command) ≡ true
+    → test (customer_home_of command) ≡ true
+named-customer_home test =
+    by_payment (λ command. list_all test (warehouses_of command) ≡ true → test (customer_home_of command) ≡ true)
+    (λ payment all. (named-payment test payment all).1)
+    (λ command nobody all. ap test nobody.customer_home ∙ named-home test command all)
+
+-- a command of several warehouses doesn't only read
+pub several-writes : (command : Command) → nat_lt 1 (length (warehouses_of command)) ≡ true → is_reader command ≡ false
+several-writes =
+    by_several (λ command. nat_lt 1 (length (warehouses_of command)) ≡ true → is_reader command ≡ false)
+    (λ order several. refl) (λ payment several. refl)
+    (λ command home several. absurd (false≢true (sym (ap (λ names. nat_lt 1 (length names)) home.warehouses) ∙ several)))
 
 -- where none is named but this one, it is named once
 only : (number first : ℕ) (others : List ℕ) → AreUnique (first ∷ others)

@@ -22,6 +22,7 @@ use Rattle.hy_commands.specs.declared.command.Payment.{Payment}
 use Rattle.hy_commands.specs.declared.command.Who.{Who}
 use Rattle.hy_commands.specs.declared.command.Who.TheVariants as who
 use Rattle.hy_commands.specs.declared.edition.Edition.{Edition}
+use Rattle.hy_commands.specs.Commands.{CustomerName, customer_named}
 use Rattle.hy_commands.specs.Customers.{customer_meant, identity_of, is_earlier, is_named}
 use Rattle.hy_commands.specs.Deliveries.{customer_delivered, delivered, delivered_in, oldest, order_cents, with_delivered}
 use Rattle.hy_commands.specs.NewOrders.{ordered}
@@ -29,7 +30,8 @@ use Rattle.hy_commands.specs.Parts.{database_of, number_in, part, part_unless, p
 use Rattle.hy_commands.specs.Payments.{customer_paid, paid_by, paid_in}
 use Rattle.hy_commands.specs.Replay.{committed, replay, rows_after}
 use Rattle.hy_commands.specs.Sorting.{sorted}
-use Rattle.hy_commands.specs.Transactions.{has_customer, outcome_of, payer, refusal_of}
+use Rattle.hy_commands.specs.Transactions.{has_customer, is_customer_there, outcome_of, payer, refusal_of}
+use Rattle.hy_commands.specs.inside.Kinds.{by_payment}
 use Rattle.hy_commands.proofs.ListLaws.{filter-map, find-map, length-map, sorted-map}
 
 -- ---- who is meant
@@ -80,29 +82,29 @@ there-same warehouse district whom one other same =
 pub has_customer-same : (command : Command) (one other : Tables)
     → map identity_of one.customers ≡ map identity_of other.customers
     → has_customer command one ≡ has_customer command other
-has_customer-same (commands.NewOrder order) one other same =
-    there-same order.warehouse order.district (who.Number order.customer) one.customers other.customers same
-has_customer-same (commands.Payment payment) one other same =
-    there-same payment.customer_warehouse payment.customer_district payment.who one.customers other.customers same
-has_customer-same (commands.OrderStatus status) one other same =
-    there-same status.warehouse status.district status.who one.customers other.customers same
-has_customer-same (commands.Delivery delivery) one other same = refl
-has_customer-same (commands.StockLevel level) one other same = refl
+has_customer-same command one other same = of (customer_named command)
+  where
+    of : (named : Option CustomerName) → is_customer_there one named ≡ is_customer_there other named
+    of None = refl
+    of (Some customer) =
+        there-same customer.warehouse customer.district customer.who one.customers other.customers same
 
 pub payer_number-same : (command : Command) (one other : Tables)
     → map identity_of one.customers ≡ map identity_of other.customers
     → payer_number one command ≡ payer_number other command
-payer_number-same (commands.NewOrder order) one other same = refl
-payer_number-same (commands.Payment payment) one other same =
-    let meant : Tables → Option Customer =
-    λ tables. customer_meant payment.customer_warehouse payment.customer_district payment.who tables.customers in
-    sym (number-identity (meant one))
-    ∙ ap (λ row. (unwrap_or row (customer_of [])).id) (meant-same payment.customer_warehouse payment.customer_district
-    payment.who one.customers other.customers same)
-    ∙ number-identity (meant other)
-payer_number-same (commands.OrderStatus status) one other same = refl
-payer_number-same (commands.Delivery delivery) one other same = refl
-payer_number-same (commands.StockLevel level) one other same = refl
+payer_number-same command one other same =
+    by_payment (λ command. payer_number one command ≡ payer_number other command) of_payment
+    (λ command nobody. nobody.payer one ∙ sym (nobody.payer other)) command
+  where
+    of_payment : (payment : Payment)
+        → payer_number one (commands.Payment payment) ≡ payer_number other (commands.Payment payment)
+    of_payment payment =
+        let meant : Tables → Option Customer =
+        λ tables. customer_meant payment.customer_warehouse payment.customer_district payment.who tables.customers in
+        sym (number-identity (meant one))
+        ∙ ap (λ row. (unwrap_or row (customer_of [])).id) (meant-same payment.customer_warehouse
+        payment.customer_district payment.who one.customers other.customers same)
+        ∙ number-identity (meant other)
 
 -- ---- what commits leave
 

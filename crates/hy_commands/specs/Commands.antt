@@ -1,8 +1,10 @@
--- Commands: the ranges of their values, the warehouses that they name, and what an accepted one adds to the kept list.
-use Rattle.std.specs.Prelude.{ℕ, Bool, true, false, nat_le, ◌==◌, ◌&&◌, if◌then◌else◌, Option, Some, None, List, [], ◌∷◌, ◌++◌, length, fold}
+-- Commands: the ranges of their values, what they name, and what an accepted one adds to the kept list.
+use Rattle.std.specs.Prelude.{ℕ, ◌+◌, Bool, true, false, nat_le, ◌==◌, ◌&&◌, not, if◌then◌else◌, Option, Some, None, List, [], ◌∷◌, ◌++◌, length, fold}
 use Rattle.std.specs.List.{list_all, list_any}
-use Rattle.hy_rows.specs.Limits.{max_carriers, max_lines, max_moment, max_payment, max_quantity, min_lines, min_payment}
+use Rattle.hy_rows.specs.Limits.{districts_per_warehouse, max_carriers, max_lines, max_moment, max_payment, max_quantity, min_lines, min_payment}
 use Rattle.hy_rows.specs.Ranges.{is_between}
+use Rattle.hy_schema.specs.declared.refusal.Refusal.{Refusal}
+use Rattle.hy_schema.specs.declared.refusal.Refusal.TheVariants as refusals
 use Rattle.hy_commands.specs.declared.command.Command.{Command}
 use Rattle.hy_commands.specs.declared.command.Command.TheVariants as commands
 use Rattle.hy_commands.specs.declared.command.Commit.{Commit}
@@ -48,6 +50,49 @@ is_in_range (commands.OrderStatus status) = is_who status.who
 is_in_range (commands.Delivery delivery) = is_between 1 max_carriers delivery.carrier && is_moment delivery.at
 is_in_range (commands.StockLevel level) = is_between min_threshold max_threshold level.threshold
 
+-- ---- the districts that a command names
+
+abbrev pub is_district_number : ℕ → Bool
+is_district_number number = is_between 1 districts_per_warehouse number
+
+-- whether they are there
+abbrev pub has_districts : Command → Bool
+has_districts (commands.NewOrder order) = is_district_number order.district
+has_districts (commands.Payment payment) =
+    is_district_number payment.district && is_district_number payment.customer_district
+has_districts (commands.OrderStatus status) = is_district_number status.district
+has_districts (commands.Delivery delivery) = true
+has_districts (commands.StockLevel level) = is_district_number level.district
+
+-- ---- the items that a command names
+
+-- the lines in which it orders them
+abbrev pub lines_ordered : Command → List PurchaseLine
+lines_ordered (commands.NewOrder order) = order.lines
+lines_ordered command = []
+
+-- whether each is among the numbers from 1 on, of which there are so many
+abbrev pub are_items_up_to : ℕ → Command → Bool
+are_items_up_to count command =
+    list_all (λ (line : PurchaseLine). is_between 1 count line.item) (lines_ordered command)
+
+-- ---- the customer whom a command names
+
+-- a customer of a district, by number or by last name
+pub record CustomerName : Type 0 where
+  pub warehouse : ℕ
+  pub district : ℕ
+  pub who : Who
+
+abbrev pub customer_named : Command → Option CustomerName
+customer_named (commands.NewOrder order) =
+    Some record { warehouse = order.warehouse; district = order.district; who = who.Number order.customer }
+customer_named (commands.Payment payment) =
+    Some record { warehouse = payment.customer_warehouse; district = payment.customer_district; who = payment.who }
+customer_named (commands.OrderStatus status) =
+    Some record { warehouse = status.warehouse; district = status.district; who = status.who }
+customer_named command = None
+
 -- ---- the warehouses that a command names
 
 -- the home warehouse
@@ -68,6 +113,45 @@ warehouses_of (commands.NewOrder order) =
     fold (λ named line. with_named named line.supply_warehouse) (order.warehouse ∷ []) order.lines
 warehouses_of (commands.Payment payment) = with_named (payment.warehouse ∷ []) payment.customer_warehouse
 warehouses_of command = home_of command ∷ []
+
+-- the warehouse of the customer whom a command names; its home, where it names none
+abbrev pub home_or : ℕ → Option CustomerName → ℕ
+home_or home None = home
+home_or home (Some customer) = customer.warehouse
+
+abbrev pub customer_home_of : Command → ℕ
+customer_home_of command = home_or (home_of command) (customer_named command)
+
+-- ---- what a command's numbers refuse
+
+-- why a command is refused before a row is looked at, the first that holds of these: a value is out of range; a warehouse
+-- isn't there, which a test says of each; a district isn't
+abbrev pub refusal_of_places : Bool → Command → Option Refusal
+refusal_of_places are_there command =
+    if not are_there then Some refusals.NoSuchWarehouse
+    else if not (has_districts command) then Some refusals.NoSuchDistrict
+    else None
+
+abbrev pub refusal_of_numbers : (ℕ → Bool) → Command → Option Refusal
+refusal_of_numbers is_there command =
+    if not (is_in_range command) then Some refusals.OutOfRange
+    else refusal_of_places (list_all is_there (warehouses_of command)) command
+
+-- ---- what is counted
+
+-- the cents that a command pays
+abbrev pub cents_of : Command → ℕ
+cents_of (commands.Payment payment) = payment.amount
+cents_of command = 0
+
+-- how many slices a command has: a purchase a head and one for each line; a payment one for the warehouse, the district
+-- and the history, and one for the customer; a delivery one for each district
+abbrev pub slice_count : Command → ℕ
+slice_count (commands.NewOrder order) = length order.lines + 1
+slice_count (commands.Payment payment) = 2
+slice_count (commands.OrderStatus status) = 1
+slice_count (commands.Delivery delivery) = districts_per_warehouse
+slice_count (commands.StockLevel level) = 1
 
 -- ---- the kept list
 

@@ -1,7 +1,8 @@
 -- Commands over several warehouses: why a database refuses one, and what one does to each warehouse that it names
 -- (TPC-C clauses 2.4.2.2 and 2.5.2.2).
 use Rattle.std.specs.Prelude.{ℕ, ◌-◌, ◌==◌, Bool, true, false, not, if◌then◌else◌, Option, None, Some, List, length, map, slice_index_or}
-use Rattle.std.specs.List.{list_all, range_with_len}
+use Rattle.std.specs.List.{range_with_len}
+use Rattle.std.specs.Option.{option_or}
 use Rattle.hy_rows.specs.declared.item.Item.{Item}
 use Rattle.hy_rows.specs.Ranges.{is_between}
 use Rattle.hy_rows.specs.Tables.{Lists, Tables, no_rows, of_warehouse}
@@ -14,11 +15,11 @@ use Rattle.hy_commands.specs.declared.command.Purchase.{Purchase}
 use Rattle.hy_commands.specs.declared.command.Who.{Who}
 use Rattle.hy_commands.specs.declared.command.Who.TheVariants as who
 use Rattle.hy_commands.specs.declared.edition.Edition.{Edition}
-use Rattle.hy_commands.specs.Commands.{home_of, is_in_range, warehouses_of}
+use Rattle.hy_commands.specs.Commands.{customer_home_of, refusal_of_numbers}
 use Rattle.hy_commands.specs.Deliveries.{delivered}
 use Rattle.hy_commands.specs.NewOrders.{ordered, supplied}
 use Rattle.hy_commands.specs.Payments.{paid_by, paid_in}
-use Rattle.hy_commands.specs.Transactions.{has_customer, has_districts, has_items, payer}
+use Rattle.hy_commands.specs.Transactions.{has_customer, has_items, payer}
 
 -- ---- databases
 
@@ -43,21 +44,14 @@ rows_of number database = slice_index_or database.warehouses (number - 1) no_row
 
 -- ---- refusals
 
--- the warehouse of the customer whom a command names; its home, where it names none
-abbrev pub customer_home_of : Command → ℕ
-customer_home_of (commands.Payment payment) = payment.customer_warehouse
-customer_home_of command = home_of command
-
 -- why a database refuses a command, the first that holds of these: a value is out of range; a warehouse, a district,
 -- the customer or an item isn't there
 abbrev pub refusal_in : Database → Command → Option Refusal
 refusal_in database command =
-    if not (is_in_range command) then Some refusals.OutOfRange
-    else if not (list_all (is_there database) (warehouses_of command)) then Some refusals.NoSuchWarehouse
-    else if not (has_districts command) then Some refusals.NoSuchDistrict
-    else if not (has_customer command (rows_of (customer_home_of command) database)) then Some refusals.NoSuchCustomer
+    option_or (refusal_of_numbers (is_there database) command)
+    (if not (has_customer command (rows_of (customer_home_of command) database)) then Some refusals.NoSuchCustomer
     else if not (has_items database.items command) then Some refusals.NoSuchItem
-    else None
+    else None)
 
 -- ---- parts
 

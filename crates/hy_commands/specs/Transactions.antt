@@ -1,13 +1,10 @@
 -- What a command that names one warehouse does to it, and its reply (TPC-C clause 2). Nothing here knows of slices of a
 -- transaction, of memory or of pages.
-use Rattle.std.specs.Prelude.{ℕ, Bool, true, ◌==◌, ◌&&◌, not, if◌then◌else◌, is_some, Option, Some, None, List, [], find, unwrap_or}
+use Rattle.std.specs.Prelude.{ℕ, Bool, true, ◌==◌, if◌then◌else◌, is_some, Option, Some, None, List, [], unwrap_or}
 use Rattle.std.specs.List.{list_all}
 use Rattle.std.specs.Option.{option_or}
 use Rattle.hy_rows.specs.declared.customer.Customer.{Customer}
 use Rattle.hy_rows.specs.declared.item.Item.{Item}
-use Rattle.hy_rows.specs.Finding.{is_customer}
-use Rattle.hy_rows.specs.Limits.{districts_per_warehouse}
-use Rattle.hy_rows.specs.Ranges.{is_between}
 use Rattle.hy_rows.specs.Rows.{customer_of}
 use Rattle.hy_rows.specs.Tables.{Tables}
 use Rattle.hy_schema.specs.declared.refusal.Refusal.{Refusal}
@@ -19,7 +16,7 @@ use Rattle.hy_commands.specs.declared.command.Payment.{Payment}
 use Rattle.hy_commands.specs.declared.edition.Edition.{Edition}
 use Rattle.hy_commands.specs.declared.reply.Reply.{Reply}
 use Rattle.hy_commands.specs.declared.reply.Reply.TheVariants as replies
-use Rattle.hy_commands.specs.Commands.{is_in_range, warehouses_of}
+use Rattle.hy_commands.specs.Commands.{CustomerName, customer_named, lines_ordered, refusal_of_numbers}
 use Rattle.hy_commands.specs.Customers.{customer_meant}
 use Rattle.hy_commands.specs.Deliveries.{delivered, deliveries}
 use Rattle.hy_commands.specs.NewOrders.{has_item, order_number, ordered, purchase_total, supplied}
@@ -29,41 +26,24 @@ use Rattle.hy_commands.specs.StockLevels.{low_items}
 
 -- ---- refusals
 
--- whether the districts that a command names are there
-abbrev pub is_district_number : ℕ → Bool
-is_district_number number = is_between 1 districts_per_warehouse number
-
-abbrev pub has_districts : Command → Bool
-has_districts (commands.NewOrder order) = is_district_number order.district
-has_districts (commands.Payment payment) =
-    is_district_number payment.district && is_district_number payment.customer_district
-has_districts (commands.OrderStatus status) = is_district_number status.district
-has_districts (commands.Delivery delivery) = true
-has_districts (commands.StockLevel level) = is_district_number level.district
-
 -- whether the customer whom a command names is there
+abbrev pub is_customer_there : Tables → Option CustomerName → Bool
+is_customer_there tables None = true
+is_customer_there tables (Some customer) =
+    is_some (customer_meant customer.warehouse customer.district customer.who tables.customers)
+
 abbrev pub has_customer : Command → Tables → Bool
-has_customer (commands.NewOrder order) tables =
-    is_some (find (is_customer order.warehouse order.district order.customer) tables.customers)
-has_customer (commands.Payment payment) tables =
-    is_some (customer_meant payment.customer_warehouse payment.customer_district payment.who tables.customers)
-has_customer (commands.OrderStatus status) tables =
-    is_some (customer_meant status.warehouse status.district status.who tables.customers)
-has_customer command tables = true
+has_customer command tables = is_customer_there tables (customer_named command)
 
 -- whether the items that a command names are there
 abbrev pub has_items : List Item → Command → Bool
-has_items items (commands.NewOrder order) = list_all (has_item items) order.lines
-has_items items command = true
+has_items items command = list_all (has_item items) (lines_ordered command)
 
 -- why a warehouse doesn't begin a command: the first of these that holds
 abbrev pub begin_refusal_of : ℕ → Command → Tables → Option Refusal
 begin_refusal_of warehouse command tables =
-    if not (is_in_range command) then Some refusals.OutOfRange
-    else if not (list_all (λ named. named == warehouse) (warehouses_of command)) then Some refusals.NoSuchWarehouse
-    else if not (has_districts command) then Some refusals.NoSuchDistrict
-    else if not (has_customer command tables) then Some refusals.NoSuchCustomer
-    else None
+    option_or (refusal_of_numbers (λ named. named == warehouse) command)
+    (if has_customer command tables then None else Some refusals.NoSuchCustomer)
 
 -- why it refuses a command: it doesn't begin it, or an item isn't there, which the line that names it finds
 abbrev pub refusal_of : List Item → ℕ → Command → Tables → Option Refusal

@@ -1,9 +1,8 @@
 -- What payments note in C_DATA, with values from hand calculation; the checker computes them.
-use Rattle.std.specs.Prelude.{◌≡◌, ℕ, false, true, List, [], ◌∷◌, ◌++◌, codes, fold, length, map, refl, replicate}
+use Rattle.std.specs.Prelude.{◌≡◌, ℕ, false, true, List, [], ◌∷◌, ◌++◌, codes, fold, map, refl, replicate}
 use Rattle.std.specs.Fmt.{digits}
 use Rattle.hy_rows.specs.declared.customer.Customer.{Customer}
 use Rattle.hy_rows.specs.Tables.{Tables, of_warehouse}
-use Rattle.hy_commands.specs.declared.command.Command.{Command}
 use Rattle.hy_commands.specs.declared.command.Command.TheVariants as commands
 use Rattle.hy_commands.specs.declared.command.Commit.TheVariants as commits
 use Rattle.hy_commands.specs.declared.command.Payment.{Payment}
@@ -12,7 +11,7 @@ use Rattle.hy_commands.specs.declared.edition.Edition.{Edition}
 use Rattle.hy_commands.specs.declared.edition.Edition.TheVariants as editions
 use Rattle.hy_commands.specs.Commands.{edition_of, kept_of}
 use Rattle.hy_commands.specs.Parts.{part}
-use Rattle.hy_commands.specs.Payments.{customer_paid, has_bad_credit, information_after, max_information, noted, payment_note}
+use Rattle.hy_commands.specs.Payments.{customer_paid, has_bad_credit, information_after, noted, payment_note}
 use Rattle.hy_commands.specs.Replay.{committed}
 use Rattle.hy_commands.specs.Transactions.{act}
 use Rattle.hy_commands.specs.WorkedParts.{load}

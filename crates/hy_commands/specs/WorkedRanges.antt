@@ -1,12 +1,12 @@
--- Examples of the ranges of commands, at both ends, of the warehouses that they and commits name and of what is kept of
--- them; the checker computes them.
+-- Examples of the ranges of commands, at both ends, of what they and commits name and of what is kept of them; the checker
+-- computes them.
 use Rattle.std.specs.Prelude.{◌≡◌, ℕ, [], ◌∷◌, true, false, Some, None, map, replicate, refl}
 use Rattle.hy_commands.specs.declared.command.Command.{Command}
 use Rattle.hy_commands.specs.declared.command.Command.TheVariants as commands
 use Rattle.hy_commands.specs.declared.command.Commit.TheVariants as commits
 use Rattle.hy_commands.specs.declared.command.Who.TheVariants as who
 use Rattle.hy_commands.specs.declared.edition.Edition.TheVariants as editions
-use Rattle.hy_commands.specs.Commands.{is_in_range, is_line_in_range, is_moment, is_name, kept_of, number_of, warehouses_of, warehouses_of_commit}
+use Rattle.hy_commands.specs.Commands.{are_items_up_to, cents_of, customer_home_of, customer_named, has_districts, is_in_range, is_line_in_range, is_moment, is_name, kept_of, number_of, slice_count, warehouses_of, warehouses_of_commit}
 use Rattle.hy_commands.specs.WorkedSample.{bought, level, payment, purchase}
 
 -- ---- ranges
@@ -20,6 +20,9 @@ by_carrier carrier = commands.Delivery record { warehouse = 1; carrier = carrier
 
 abbrev below : ℕ → Command
 below threshold = commands.StockLevel record { warehouse = 1; district = 1; threshold = threshold }
+
+abbrev of_district : ℕ → Command
+of_district district = purchase district (bought 1 1 ∷ [])
 
 abbrev lines_in_range : map (λ lines. is_in_range (of_lines lines)) (4 ∷ 5 ∷ 15 ∷ 16 ∷ [])
     ≡ false ∷ true ∷ true ∷ false ∷ []
@@ -53,7 +56,7 @@ abbrev character_in_range : map (λ character. is_name (character ∷ [])) (31 �
     ≡ false ∷ true ∷ true ∷ false ∷ []
 character_in_range = refl
 
--- ---- warehouses and kept lists
+-- ---- what is named, counted and kept
 
 abbrev remote_purchase : Command
 remote_purchase = commands.NewOrder record {
@@ -73,6 +76,47 @@ remote_purchase = commands.NewOrder record {
 
 abbrev named_warehouses : warehouses_of remote_purchase ≡ 3 ∷ 2 ∷ 1 ∷ []
 named_warehouses = refl
+
+-- a customer of another warehouse pays here, and one asks for the last order
+abbrev remote_payment : Command
+remote_payment = commands.Payment record {
+  warehouse = 1;
+  district = 5;
+  customer_warehouse = 2;
+  customer_district = 4;
+  who = who.Number 3;
+  amount = 100;
+  at = 1;
+}
+
+abbrev asked : Command
+asked = commands.OrderStatus record { warehouse = 1; district = 6; who = who.Number 7 }
+
+abbrev named_customers : map customer_named (remote_purchase ∷ remote_payment ∷ asked ∷ by_carrier 1 ∷ level ∷ [])
+    ≡ Some (record { warehouse = 3; district = 1; who = who.Number 1 })
+    ∷ Some (record { warehouse = 2; district = 4; who = who.Number 3 })
+    ∷ Some (record { warehouse = 1; district = 6; who = who.Number 7 }) ∷ None ∷ None ∷ []
+named_customers = refl
+
+abbrev homes_of_customers : map customer_home_of (remote_purchase ∷ remote_payment ∷ asked ∷ level ∷ []) ≡ 3 ∷ 2 ∷ 1 ∷ 1 ∷ []
+homes_of_customers = refl
+
+-- its items have the numbers 1 to 5
+abbrev items_there : map (λ last. are_items_up_to last remote_purchase) (4 ∷ 5 ∷ []) ≡ false ∷ true ∷ []
+items_there = refl
+
+abbrev item_0_is_none : map (λ item. are_items_up_to 5 (purchase 1 (bought item 1 ∷ []))) (0 ∷ 1 ∷ []) ≡ false ∷ true ∷ []
+item_0_is_none = refl
+
+abbrev districts_there : map (λ district. has_districts (of_district district)) (0 ∷ 1 ∷ 10 ∷ 11 ∷ []) ≡ false ∷ true ∷ true ∷ false ∷ []
+districts_there = refl
+
+abbrev paid : map cents_of (remote_purchase ∷ remote_payment ∷ asked ∷ []) ≡ 0 ∷ 100 ∷ 0 ∷ []
+paid = refl
+
+abbrev slices : map slice_count (remote_purchase ∷ remote_payment ∷ asked ∷ by_carrier 1 ∷ level ∷ [])
+    ≡ 6 ∷ 2 ∷ 1 ∷ 10 ∷ 1 ∷ []
+slices = refl
 
 abbrev kept_payment : kept_of editions.Second (payment (who.Number 1) 100) ≡ commits.Local editions.Second (payment (who.Number 1) 100) ∷ []
 kept_payment = refl

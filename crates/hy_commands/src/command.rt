@@ -4,11 +4,11 @@ ghost use Rattle.std.specs.Prelude.{◌≡◌, ◌==◌, ◌↔◌, IsTrue, IsOk
 ghost use Rattle.std.specs.List.{list_all, list_any};
 ghost use Rattle.hy_rows.specs.Ranges.{is_between};
 ghost use Rattle.hy_commands.specs.declared.command.Command.TheVariants as commands;
-ghost use Rattle.hy_commands.specs.Commands.{command_of, home_of, is_in_range, is_line_in_range, is_moment, is_name, is_reader, is_who, edition_of, number_of, warehouses_of, warehouses_of_commit};
-ghost use Rattle.hy_commands.specs.Parts.{customer_home_of, with_number};
+ghost use Rattle.hy_commands.specs.Commands.{cents_of, command_of, edition_of, home_of, is_in_range, is_line_in_range, is_moment, is_name, is_reader, is_who, number_of, slice_count, warehouses_of, warehouses_of_commit};
+ghost use Rattle.hy_commands.specs.Parts.{with_number};
 
 use crate::{Edition, PurchaseLines};
-use hy_rows::MAX_MOMENT;
+use hy_rows::{DISTRICTS_PER_WAREHOUSE, MAX_MOMENT};
 use hy_schema::Refusal;
 use std::alloc::AllocError;
 use std::marker::Model;
@@ -413,13 +413,26 @@ impl Command {
         }
     }
 
-    /// The warehouse of the customer whom the command names; its home, where it names none.
-    pub fn customer_home(&self) -> u64
-        ensures { result ≡ customer_home_of self.now }
+    /// The cents that the command pays.
+    pub fn cents(&self) -> u64
+        ensures { result ≡ cents_of self.now }
     {
         match self {
-            Command::Payment(payment) => payment.customer_warehouse,
-            _ => self.home(),
+            Command::Payment(payment) => payment.amount,
+            _ => 0,
+        }
+    }
+
+    /// How many slices the command has: a purchase a head and one for each line, a payment two, a delivery one for each
+    /// district.
+    pub fn slices(&self) -> u64
+        ensures { result ≡ slice_count self.now }
+    {
+        match self {
+            Command::NewOrder(order) => order.lines.len() as u64 + 1,
+            Command::Payment(_) => 2,
+            Command::OrderStatus(_) | Command::StockLevel(_) => 1,
+            Command::Delivery(_) => u64::from(DISTRICTS_PER_WAREHOUSE),
         }
     }
 

@@ -3,10 +3,13 @@
 
 mod command;
 mod commits;
+mod customer;
 mod edition;
 mod lines;
 mod named;
+mod numbers;
 mod reply;
+mod same;
 mod theorem;
 
 pub use command::{
@@ -14,6 +17,7 @@ pub use command::{
     MAX_PURCHASE_LINES, MAX_THRESHOLD, MIN_PAYMENT, MIN_PURCHASE_LINES, MIN_THRESHOLD, Name,
     OrderStatus, Payment, Purchase, PurchaseLine, StockLevel, Who,
 };
+pub use customer::{CustomerRef, WhoRef};
 pub use edition::Edition;
 pub use lines::PurchaseLines;
 pub use named::Warehouses;

@@ -1,7 +1,8 @@
 //! The lines of a purchase, in as little memory as they need.
 
-ghost use Rattle.std.specs.Prelude.{◌≡◌, ◌==◌, ◌<◌, ◌^◌, IfOk, IfSome, true, length, map, slice_get, vec_capacity};
+ghost use Rattle.std.specs.Prelude.{◌≡◌, ◌↔◌, ◌==◌, ◌<◌, ◌^◌, IfOk, IfSome, IsTrue, true, length, map, slice_get, vec_capacity};
 ghost use Rattle.std.specs.List.{list_all, list_any};
+ghost use Rattle.hy_rows.specs.Ranges.{is_between};
 ghost use Rattle.hy_commands.specs.Commands.{is_line_in_range};
 ghost use Rattle.hy_commands.specs.inside.Lines.{are_short, is_short, line_of, lines_of};
 
@@ -42,6 +43,13 @@ impl Model for PurchaseLines {
 }
 
 impl PurchaseLine {
+    /// Whether its item has a number from 1 to another one.
+    fn is_item_up_to(&self, last: u64) -> bool
+        ensures { result ≡ is_between 1 last self.now.item }
+    {
+        (1..=last).contains(&self.item)
+    }
+
     /// Whether it fits a short line.
     fn is_short(&self) -> bool
         ensures { result ≡ is_short self.now }
@@ -197,6 +205,33 @@ impl PurchaseLines {
     {
         for place in 0..self.len() {
             if !self.line(place).is_in_range() {
+                return false;
+            }
+        }
+        true
+    }
+
+    /// Whether the items of all have the numbers from 1 to another one.
+    pub(crate) fn are_items_up_to(&self, last: u64) -> bool
+        ensures { result ≡ list_all (λ line. is_between 1 last line.item) self.now }
+    {
+        for place in 0..self.len() {
+            if !self.line(place).is_item_up_to(last) {
+                return false;
+            }
+        }
+        true
+    }
+
+    /// Whether they are the same lines.
+    pub(crate) fn are_same(&self, other: &PurchaseLines) -> bool
+        ensures { IsTrue result ↔ (self.now ≡ other.now) }
+    {
+        if self.len() != other.len() {
+            return false;
+        }
+        for place in 0..self.len() {
+            if self.line(place) != other.line(place) {
                 return false;
             }
         }

@@ -10,8 +10,8 @@ use Rattle.hy_rows.proofs.BetweenLaws.{bounds}
 use Rattle.hy_schema.specs.declared.refusal.Refusal.{Refusal}
 use Rattle.hy_schema.specs.declared.refusal.Refusal.TheVariants as refusals
 use Rattle.hy_commands.specs.declared.command.Command.{Command}
-use Rattle.hy_commands.specs.Commands.{warehouses_of}
-use Rattle.hy_commands.specs.Parts.{Database, customer_home_of, database_of, payer_number, refusal_in, rows_of, with_number}
+use Rattle.hy_commands.specs.Commands.{customer_home_of, warehouses_of}
+use Rattle.hy_commands.specs.Parts.{Database, database_of, payer_number, refusal_in, rows_of, with_number}
 use Rattle.hy_commands.specs.Replay.{HasWarehouse, replay, rows_after}
 use Rattle.hy_commands.proofs.AcceptedLaws.{IsAcceptedIn, accepted-in}
 use Rattle.hy_commands.proofs.DatabaseLaws.{length-database}

@@ -15,8 +15,8 @@ use Rattle.hy_commands.specs.declared.command.Commit.{Commit}
 use Rattle.hy_commands.specs.declared.command.Commit.TheVariants as commits
 use Rattle.hy_commands.specs.declared.edition.Edition.{Edition}
 use Rattle.hy_commands.specs.declared.reply.Reply.{Reply}
-use Rattle.hy_commands.specs.Commands.{home_of, warehouses_of_commit}
-use Rattle.hy_commands.specs.Parts.{customer_home_of, with_number}
+use Rattle.hy_commands.specs.Commands.{customer_home_of, home_of, warehouses_of_commit}
+use Rattle.hy_commands.specs.Parts.{with_number}
 use Rattle.hy_commands.specs.Transactions.{accepted, has_customer}
 use Rattle.hy_commands.proofs.AcceptedLaws.{accepted-in}
 use Rattle.hy_commands.proofs.Kept.{sound-rows}

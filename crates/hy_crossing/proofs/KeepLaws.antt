@@ -10,7 +10,7 @@ use Rattle.hy_ledger.specs.declared.view.ShareState.{ShareState}
 use Rattle.hy_commands.specs.declared.command.Command.{Command}
 use Rattle.hy_commands.specs.declared.edition.Edition.{Edition}
 use Rattle.hy_commands.specs.Commands.{home_of, warehouses_of}
-use Rattle.hy_database.proofs.PartLaws.{named-home}
+use Rattle.hy_commands.proofs.NamedLaws.{named-home}
 use Rattle.hy_partition.specs.Jobs.{Log, share_of}
 use Rattle.hy_partition.specs.Partition.{PartitionState}
 use Rattle.hy_crossing.specs.Crossings.{ArePartitions, IsPartition, KeepsHere, KeepsPartIfNamed, is_named}

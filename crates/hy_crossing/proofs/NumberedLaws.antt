@@ -1,10 +1,12 @@
 -- A command with the payer's number in place of a name: it names the same warehouses, and its share is the same.
-use Rattle.std.proofs.Common.{◌≡◌, ℕ, true, refl}
+use Rattle.std.proofs.Common.{◌≡◌, ℕ, true, refl, subst, sym}
 use Rattle.hy_ledger.specs.Books.{BookState}
 use Rattle.hy_commands.specs.declared.command.Command.{Command}
 use Rattle.hy_commands.specs.declared.command.Command.TheVariants as commands
-use Rattle.hy_commands.specs.Commands.{home_of, warehouses_of}
-use Rattle.hy_commands.specs.Parts.{customer_home_of, is_by_number, with_number}
+use Rattle.hy_commands.specs.declared.command.Payment.{Payment}
+use Rattle.hy_commands.specs.inside.Kinds.{NobodyPays, by_payment}
+use Rattle.hy_commands.specs.Commands.{customer_home_of, home_of, warehouses_of}
+use Rattle.hy_commands.specs.Parts.{is_by_number, with_number}
 use Rattle.hy_partition.specs.Accounts.{with_command}
 use Rattle.hy_partition.specs.Jobs.{share_of}
 
@@ -17,43 +19,26 @@ pub record IsNumbered (command numbered : Command) : Type 0 where
   pub entered : (book : BookState) → with_command book numbered ≡ with_command book command
 
 pub is_numbered : (number : ℕ) (command : Command) → IsNumbered command (with_number number command)
-is_numbered number (commands.NewOrder order) = record {
-  warehouses = refl;
-  home = refl;
-  customer_home = refl;
-  by_number = refl;
-  share = λ w. refl;
-  entered = λ book. refl;
-}
-is_numbered number (commands.Payment payment) = record {
-  warehouses = refl;
-  home = refl;
-  customer_home = refl;
-  by_number = refl;
-  share = λ w. refl;
-  entered = λ book. refl;
-}
-is_numbered number (commands.OrderStatus status) = record {
-  warehouses = refl;
-  home = refl;
-  customer_home = refl;
-  by_number = refl;
-  share = λ w. refl;
-  entered = λ book. refl;
-}
-is_numbered number (commands.Delivery delivery) = record {
-  warehouses = refl;
-  home = refl;
-  customer_home = refl;
-  by_number = refl;
-  share = λ w. refl;
-  entered = λ book. refl;
-}
-is_numbered number (commands.StockLevel level) = record {
-  warehouses = refl;
-  home = refl;
-  customer_home = refl;
-  by_number = refl;
-  share = λ w. refl;
-  entered = λ book. refl;
-}
+is_numbered number =
+    by_payment (λ command. IsNumbered command (with_number number command)) of_payment
+    (λ command nobody. subst (IsNumbered command) (sym (nobody.same number)) (itself command nobody))
+  where
+    of_payment : (payment : Payment) → IsNumbered (commands.Payment payment) (with_number number (commands.Payment payment))
+    of_payment payment = record {
+      warehouses = refl;
+      home = refl;
+      customer_home = refl;
+      by_number = refl;
+      share = λ w. refl;
+      entered = λ book. refl;
+    }
+
+    itself : (command : Command) → NobodyPays command → IsNumbered command command
+    itself command nobody = record {
+      warehouses = refl;
+      home = refl;
+      customer_home = refl;
+      by_number = nobody.by_number;
+      share = λ w. refl;
+      entered = λ book. refl;
+    }

@@ -4,9 +4,8 @@ use Rattle.std.specs.Prelude.{Option, IfSome, slice_get, slice_index_or}
 use Rattle.std.specs.List.{list_all, list_any}
 use Rattle.std.proofs.lemmas.Bool.{eq-eqb, false≢true, or_parts}
 use Rattle.hy_commands.specs.declared.command.Command.{Command}
-use Rattle.hy_commands.specs.Commands.{warehouses_of}
-use Rattle.hy_commands.specs.Parts.{customer_home_of}
-use Rattle.hy_database.proofs.PartLaws.{named-customer_home}
+use Rattle.hy_commands.specs.Commands.{customer_home_of, warehouses_of}
+use Rattle.hy_commands.proofs.NamedLaws.{named-customer_home}
 use Rattle.hy_crossing.specs.Crossings.{is_named}
 
 -- ---- the element at a place

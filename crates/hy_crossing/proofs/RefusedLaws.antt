@@ -2,18 +2,19 @@
 use Rattle.std.proofs.Common.{◌≡◌, ℕ, suc, ◌-◌, Bool, true, false, not, cond, List, length, Option, Some, None, is_some, refl, sym, ap, ◌∙◌, subst, arith}
 use Rattle.std.specs.Prelude.{IfSome}
 use Rattle.std.specs.List.{list_all}
+use Rattle.std.specs.Option.{option_or}
 use Rattle.hy_rows.specs.Ranges.{IsBetween, is_between}
 use Rattle.hy_rows.specs.Tables.{Lists, Tables, of_warehouse}
 use Rattle.hy_rows.proofs.BetweenLaws.{bounds}
 use Rattle.hy_schema.specs.declared.refusal.Refusal.{Refusal}
 use Rattle.hy_schema.specs.declared.refusal.Refusal.TheVariants as refusals
 use Rattle.hy_commands.specs.declared.command.Command.{Command}
-use Rattle.hy_commands.specs.Commands.{is_in_range, warehouses_of}
-use Rattle.hy_commands.specs.Parts.{customer_home_of, database_of, is_there, rows_of}
-use Rattle.hy_commands.specs.Transactions.{has_customer, has_districts, has_items}
+use Rattle.hy_commands.specs.Commands.{customer_home_of, has_districts, is_in_range, refusal_of_numbers, warehouses_of}
+use Rattle.hy_commands.specs.Parts.{database_of, is_there, rows_of}
+use Rattle.hy_commands.specs.Transactions.{has_customer, has_items}
 use Rattle.hy_commands.proofs.DatabaseLaws.{length-database, rows-load, there-load}
 use Rattle.hy_commands.proofs.SameCustomers.{has_customer-same, same-customers}
-use Rattle.hy_database.proofs.PartLaws.{named-customer_home}
+use Rattle.hy_commands.proofs.NamedLaws.{named-customer_home}
 use Rattle.hy_crossing.proofs.PlaceLaws.{get-some}
 use Rattle.hy_partition.specs.Parts.{FindsPayer}
 use Rattle.hy_partition.specs.Partition.{PartitionState, rows_now}
@@ -21,23 +22,31 @@ use Rattle.hy_crossing.specs.Crossings.{ArePartitions, FindsPayerIn, IsPartition
 
 -- ---- the first that isn't so
 
-abbrev first_of : Bool → Bool → Bool → Bool → Bool → Bool → Option Refusal
-first_of full range there districts customer items =
+abbrev first_of : Bool → Option Refusal → Bool → Bool → Option Refusal
+first_of full numbers customer items =
     with_full full (
-    cond (not range) (Some refusals.OutOfRange) (cond (not there) (Some refusals.NoSuchWarehouse)
-    (cond (not districts) (Some refusals.NoSuchDistrict) (cond (not customer) (Some refusals.NoSuchCustomer)
-    (cond (not items) (Some refusals.NoSuchItem) None))))
+    option_or numbers
+    (cond (not customer) (Some refusals.NoSuchCustomer) (cond (not items) (Some refusals.NoSuchItem) None))
     )
+
+-- what the numbers of a command refuse goes before all else
+numbers-first : (full range there districts : Bool) (rest : Option Refusal) (why : Refusal)
+    → cond (not range) (Some refusals.OutOfRange) (cond (not there) (Some refusals.NoSuchWarehouse)
+    (cond (not districts) (Some refusals.NoSuchDistrict) None)) ≡ Some why
+    → with_full full (option_or (cond (not range) (Some refusals.OutOfRange)
+    (cond (not there) (Some refusals.NoSuchWarehouse) (cond (not districts) (Some refusals.NoSuchDistrict) None))) rest)
+    ≡ Some why
+numbers-first full false there districts rest why is = is
+numbers-first full true false districts rest why is = is
+numbers-first full true true false rest why is = is
+numbers-first full true true true rest why is = absurd (cc)
 
 module _ (lists : Lists) (command : Command) (parts : List PartitionState) where
   abbrev full : Bool
   full = some_is_full command 1 parts
 
-  abbrev are_there : Bool
-  are_there = list_all (is_there (database_of lists)) (warehouses_of command)
-
-  abbrev districts : Bool
-  districts = has_districts command
+  abbrev numbers : Option Refusal
+  numbers = refusal_of_numbers (is_there (database_of lists)) command
 
   abbrev customer : Bool
   customer = has_customer command (rows_of (customer_home_of command) (database_of lists))
@@ -45,53 +54,40 @@ module _ (lists : Lists) (command : Command) (parts : List PartitionState) where
   abbrev items : Bool
   items = has_items lists.items command
 
-  module _ (in_range : is_in_range command ≡ true) where
-    ranged : loaded_refusal lists command parts ≡ first_of full true are_there districts customer items
-    ranged = ap (λ b. first_of full b are_there districts customer items) in_range
+  pub no-numbers : (why : Refusal) → refusal_of_numbers (is_there (database_of lists)) command ≡ Some why
+      → loaded_refusal lists command parts ≡ Some why
+  no-numbers why is =
+      numbers-first full (is_in_range command) (list_all (is_there (database_of lists)) (warehouses_of command))
+      (has_districts command) _ why is
 
-    pub no-warehouse : list_all (is_there (database_of lists)) (warehouses_of command) ≡ false
-        → loaded_refusal lists command parts ≡ Some refusals.NoSuchWarehouse
-    no-warehouse missing = ranged ∙ ap (λ b. first_of full true b districts customer items) missing
+  module _ (passed : refusal_of_numbers (is_there (database_of lists)) command ≡ None) where
+    placed : loaded_refusal lists command parts ≡ first_of full None customer items
+    placed = ap (λ n. first_of full n customer items) passed
 
-    module _ (there : list_all (is_there (database_of lists)) (warehouses_of command) ≡ true) where
-      found : loaded_refusal lists command parts ≡ first_of full true true districts customer items
-      found = ranged ∙ ap (λ b. first_of full true b districts customer items) there
+    pub no-customer : has_customer command (rows_of (customer_home_of command) (database_of lists)) ≡ false
+        → loaded_refusal lists command parts ≡ Some refusals.NoSuchCustomer
+    no-customer missing = placed ∙ ap (λ b. first_of full None b items) missing
 
-      pub no-district : has_districts command ≡ false
-          → loaded_refusal lists command parts ≡ Some refusals.NoSuchDistrict
-      no-district missing = found ∙ ap (λ b. first_of full true true b customer items) missing
+    module _ (payer : has_customer command (rows_of (customer_home_of command) (database_of lists)) ≡ true) where
+      met : loaded_refusal lists command parts ≡ first_of full None true items
+      met = placed ∙ ap (λ b. first_of full None b items) payer
 
-      module _ (known : has_districts command ≡ true) where
-        placed : loaded_refusal lists command parts ≡ first_of full true true true customer items
-        placed = found ∙ ap (λ b. first_of full true true b customer items) known
+      pub no-room : some_is_full command 1 parts ≡ true
+          → loaded_refusal lists command parts ≡ Some refusals.HistoryFull
+      no-room is = met ∙ ap (λ b. first_of b None true items) is ∙ either items
+        where
+          either : (b : Bool) → first_of true None true b ≡ Some refusals.HistoryFull
+          either true = refl
+          either false = refl
 
-        pub no-customer : has_customer command (rows_of (customer_home_of command) (database_of lists)) ≡ false
-            → loaded_refusal lists command parts ≡ Some refusals.NoSuchCustomer
-        no-customer missing = placed ∙ ap (λ b. first_of full true true true b items) missing
+      pub no-item : some_is_full command 1 parts ≡ false → has_items lists.items command ≡ false
+          → loaded_refusal lists command parts ≡ Some refusals.NoSuchItem
+      no-item is missing =
+          met ∙ ap (λ b. first_of b None true items) is ∙ ap (λ b. first_of false None true b) missing
 
-        module _ (payer : has_customer command (rows_of (customer_home_of command) (database_of lists)) ≡ true) where
-          met : loaded_refusal lists command parts ≡ first_of full true true true true items
-          met = placed ∙ ap (λ b. first_of full true true true b items) payer
-
-          pub no-room : some_is_full command 1 parts ≡ true
-              → loaded_refusal lists command parts ≡ Some refusals.HistoryFull
-          no-room is = met ∙ ap (λ b. first_of b true true true true items) is ∙ either items
-            where
-              either : (b : Bool) → first_of true true true true true b ≡ Some refusals.HistoryFull
-              either true = refl
-              either false = refl
-
-          pub no-item : some_is_full command 1 parts ≡ false → has_items lists.items command ≡ false
-              → loaded_refusal lists command parts ≡ Some refusals.NoSuchItem
-          no-item is missing =
-              met ∙ ap (λ b. first_of b true true true true items) is
-              ∙ ap (λ b. first_of false true true true true b) missing
-
-          pub no-refusal : some_is_full command 1 parts ≡ false → has_items lists.items command ≡ true
-              → loaded_refusal lists command parts ≡ None
-          no-refusal is all =
-              met ∙ ap (λ b. first_of b true true true true items) is
-              ∙ ap (λ b. first_of false true true true true b) all
+      pub no-refusal : some_is_full command 1 parts ≡ false → has_items lists.items command ≡ true
+          → loaded_refusal lists command parts ≡ None
+      no-refusal is all = met ∙ ap (λ b. first_of b None true items) is ∙ ap (λ b. first_of false None true b) all
 
 -- ---- the customer
 
@@ -130,12 +126,12 @@ finds-customer lists command parts found are there finds =
 
 -- ---- the warehouses
 
-pub all-there : (lists : Lists) (command : Command) (parts : List PartitionState) (count : ℕ) (all : Bool)
-    → ArePartitions lists parts → count ≡ length parts → all ≡ list_all (is_between 1 count) (warehouses_of command)
-    → all ≡ list_all (is_there (database_of lists)) (warehouses_of command)
-all-there lists command parts count all are counted is =
-    is ∙ ap (λ n. list_all (is_between 1 n) (warehouses_of command))
-    (counted ∙ are.count ∙ sym (length-database lists))
+-- those of the load are the partitions
+pub same-numbers : (lists : Lists) (command : Command) (parts : List PartitionState) (count : ℕ)
+    → ArePartitions lists parts → count ≡ length parts
+    → refusal_of_numbers (is_between 1 count) command ≡ refusal_of_numbers (is_there (database_of lists)) command
+same-numbers lists command parts count are counted =
+    ap (λ n. refusal_of_numbers (is_between 1 n) command) (counted ∙ are.count ∙ sym (length-database lists))
 
 pub home-there : (command : Command) (parts : List PartitionState) (count : ℕ) → count ≡ length parts
     → list_all (is_between 1 count) (warehouses_of command) ≡ true

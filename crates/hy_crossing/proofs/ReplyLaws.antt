@@ -8,7 +8,7 @@ use Rattle.hy_rows.proofs.BetweenLaws.{bounds}
 use Rattle.hy_commands.specs.declared.command.Command.{Command}
 use Rattle.hy_commands.specs.declared.edition.Edition.{Edition}
 use Rattle.hy_commands.specs.declared.reply.Reply.{Reply}
-use Rattle.hy_commands.specs.Parts.{customer_home_of}
+use Rattle.hy_commands.specs.Commands.{customer_home_of}
 use Rattle.hy_commands.specs.Transactions.{accepted}
 use Rattle.hy_layout.specs.Layout.{LayoutState}
 use Rattle.hy_partition.specs.Parts.{reply_of_part}

@@ -9,7 +9,7 @@ use Rattle.hy_schema.specs.declared.refusal.Refusal.{Refusal}
 use Rattle.hy_commands.specs.declared.command.Command.{Command}
 use Rattle.hy_commands.specs.declared.edition.Edition.{Edition}
 use Rattle.hy_commands.specs.declared.reply.Reply.{Reply}
-use Rattle.hy_commands.specs.Parts.{customer_home_of}
+use Rattle.hy_commands.specs.Commands.{customer_home_of}
 use Rattle.hy_undo.proofs.PrivatePageLaws.{SameForChildren-then}
 use Rattle.hy_partition.specs.Partition.{PartitionState, layout_of, rows_now}
 use Rattle.hy_partition.specs.Parts.{DoesPart, HasNoPart, KeepsBeside, PartLacksFrame, reply_of_part}

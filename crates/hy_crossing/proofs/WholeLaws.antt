@@ -13,8 +13,8 @@ use Rattle.hy_commands.specs.declared.command.Commit.TheVariants as commits
 use Rattle.hy_commands.specs.declared.edition.Edition.{Edition}
 use Rattle.hy_commands.specs.declared.edition.Edition.TheVariants as editions
 use Rattle.hy_commands.specs.declared.reply.Reply.{Reply}
-use Rattle.hy_commands.specs.Commands.{home_of, warehouses_of}
-use Rattle.hy_commands.specs.Parts.{customer_home_of, with_number}
+use Rattle.hy_commands.specs.Commands.{customer_home_of, home_of, warehouses_of}
+use Rattle.hy_commands.specs.Parts.{with_number}
 use Rattle.hy_database.specs.Database.{act_on_all, kept_in}
 use Rattle.hy_passes.specs.Worlds.{PassState}
 use Rattle.hy_partition.specs.Jobs.{DoneState, JobState, Log, refused_answer, share_of, told}

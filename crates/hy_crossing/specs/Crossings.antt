@@ -16,8 +16,8 @@ use Rattle.hy_passes.specs.SerialList.{numbers_of}
 use Rattle.hy_commands.specs.declared.command.Commit.{Commit}
 use Rattle.hy_commands.specs.declared.edition.Edition.{Edition}
 use Rattle.hy_commands.specs.declared.edition.Edition.TheVariants as editions
-use Rattle.hy_commands.specs.Commands.{home_of, number_of, warehouses_of, warehouses_of_commit}
-use Rattle.hy_commands.specs.Parts.{Database, customer_home_of, database_of, refusal_in}
+use Rattle.hy_commands.specs.Commands.{customer_home_of, home_of, number_of, warehouses_of, warehouses_of_commit}
+use Rattle.hy_commands.specs.Parts.{Database, database_of, refusal_in}
 use Rattle.hy_database.specs.Database.{act_on_all, database_after, kept_in}
 use Rattle.hy_space.specs.Space.{owner_bytes}
 use Rattle.hy_commands.specs.declared.reply.Reply.{Reply}

@@ -1,3 +1,4 @@
 pub mod HeldPlaces
 pub mod Held
 pub mod Guards
+pub mod Named

@@ -2,13 +2,14 @@
 
 ghost use Rattle.std.specs.Prelude.{◌≡◌, ◌-◌, ◌==◌, ◌<◌, ◌≤◌, ℕ, suc, true, None, Some, IfErr, IfOk, IsSome, OnOk, length};
 ghost use Rattle.hy_rows.specs.Ranges.{IsBetween};
-ghost use Rattle.hy_commands.specs.Parts.{customer_home_of};
+ghost use Rattle.hy_commands.specs.Commands.{customer_home_of};
 ghost use Rattle.hy_commands.specs.Transactions.{has_items};
 ghost use Rattle.hy_crossing.specs.Crossings.{AreIdle, ArePartitions, EndsJobs, FindsPayerIn, IsPayerIn, TellsNamed, loaded_refusal, some_is_full};
 
+use crate::named::NamedCommand;
 use crate::parts::Parts;
-use hy_commands::{Command, Commit};
-use hy_partition::{Loaded, Partition, has_districts};
+use hy_commands::Commit;
+use hy_partition::{Loaded, Partition};
 use hy_passes::Journal;
 use hy_schema::Refusal;
 
@@ -16,7 +17,7 @@ use hy_schema::Refusal;
 pub fn end_jobs<const N: usize, K: Loaded, P: Parts<Part = Partition<N, K>>>(
     parts: &mut P,
     journal: &mut Journal<Commit, K>,
-    command: &Command,
+    command: &NamedCommand<'_>,
 )
     ensures { EndsJobs command.now journal.old.list.log journal.new.list.log (P.states parts.old) (P.states parts.new) }
 {
@@ -31,7 +32,7 @@ pub fn end_jobs<const N: usize, K: Loaded, P: Parts<Part = Partition<N, K>>>(
 pub fn tell_named<const N: usize, K: Loaded, P: Parts<Part = Partition<N, K>>>(
     parts: &mut P,
     journal: &mut Journal<Commit, K>,
-    command: &Command,
+    command: &NamedCommand<'_>,
 )
     ensures told { TellsNamed command.now journal.old.list.log (P.states parts.old) (P.states parts.new) }
     ensures log { journal.new.list.log ≡ journal.old.list.log }
@@ -46,7 +47,7 @@ pub fn tell_named<const N: usize, K: Loaded, P: Parts<Part = Partition<N, K>>>(
 /// Whether one of the warehouses that a command names keeps as many commits as it may.
 fn is_some_full<const N: usize, K: Loaded, P: Parts<Part = Partition<N, K>>>(
     parts: &mut P,
-    command: &Command,
+    command: &NamedCommand<'_>,
 ) -> bool
     ensures full { result ≡ some_is_full command.now 1 (P.states parts.old) }
     ensures same { P.states parts.new ≡ P.states parts.old }
@@ -63,7 +64,7 @@ fn is_some_full<const N: usize, K: Loaded, P: Parts<Part = Partition<N, K>>>(
 /// first of these: E8, E4, E5, E6, E3, E7. Takes no memory.
 pub fn prepare<const N: usize, K: Loaded, P: Parts<Part = Partition<N, K>>>(
     parts: &mut P,
-    command: &Command,
+    command: &NamedCommand<'_>,
 ) -> Result<u64, Refusal>
     requires parts { ArePartitions K.load (P.states parts.old) }
     requires idle { AreIdle command.now (P.states parts.old) }
@@ -72,13 +73,7 @@ pub fn prepare<const N: usize, K: Loaded, P: Parts<Part = Partition<N, K>>>(
     ensures payer { IfOk result (IsPayerIn (P.states parts.old) command.now) }
     ensures same { P.states parts.new ≡ P.states parts.old }
 {
-    command.check()?;
-    if !command.names_up_to(parts.len() as u64) {
-        return Err(Refusal::NoSuchWarehouse);
-    }
-    if !has_districts(command) {
-        return Err(Refusal::NoSuchDistrict);
-    }
+    command.check_within(parts.len() as u64)?;
     let Some(number) = find_payer(parts, command) else {
         return Err(Refusal::NoSuchCustomer);
     };
@@ -95,7 +90,7 @@ pub fn prepare<const N: usize, K: Loaded, P: Parts<Part = Partition<N, K>>>(
 /// customer whom the command names isn't there.
 fn find_payer<const N: usize, K: Loaded, P: Parts<Part = Partition<N, K>>>(
     parts: &mut P,
-    command: &Command,
+    command: &NamedCommand<'_>,
 ) -> Option<u64>
     requires parts { ArePartitions K.load (P.states parts.old) }
     requires idle { AreIdle command.now (P.states parts.old) }
@@ -104,18 +99,18 @@ fn find_payer<const N: usize, K: Loaded, P: Parts<Part = Partition<N, K>>>(
     ensures same { P.states parts.new ≡ P.states parts.old }
 {
     let place = command.customer_home() as usize - 1;
-    parts.part(place).find_customer(command)
+    parts.part(place).find_customer(command.command())
 }
 
 /// Whether the items that a command names are there.
 fn has_items<const N: usize, K: Loaded, P: Parts<Part = Partition<N, K>>>(
     parts: &mut P,
-    command: &Command,
+    command: &NamedCommand<'_>,
 ) -> bool
     requires parts { ArePartitions K.load (P.states parts.old) }
     requires there { 1 ≤ length (P.states parts.old) }
     ensures known { result ≡ has_items K.load.items command.now }
     ensures same { P.states parts.new ≡ P.states parts.old }
 {
-    parts.part(0).has_items(command)
+    parts.part(0).has_items(command.command())
 }

@@ -8,8 +8,9 @@ ghost use Rattle.hy_crossing.specs.Crossings.{AcceptsAll, AllMayRun, AreInformed
 use crate::before::{end_jobs, prepare, tell_named};
 use crate::doing::do_parts;
 use crate::entering::{keep_all, know_named};
+use crate::named::NamedCommand;
 use crate::parts::Parts;
-use hy_commands::{Command, Commit};
+use hy_commands::Commit;
 use hy_partition::{Done, Job, Loaded, Partition};
 use hy_passes::Journal;
 
@@ -17,7 +18,7 @@ use hy_passes::Journal;
 fn inform<const N: usize, K: Loaded, P: Parts<Part = Partition<N, K>>>(
     parts: &mut P,
     journal: &mut Journal<Commit, K>,
-    command: &Command,
+    command: &NamedCommand<'_>,
 )
     requires parts { ArePartitions K.load (P.states parts.old) }
     requires whole { HaveNoPart (P.states parts.old) }
@@ -78,8 +79,9 @@ pub fn cross<const N: usize, K: Loaded, P: Parts<Part = Partition<N, K>>>(
     ensures parts { ArePartitions K.load (P.states parts.new) }
     ensures whole { HaveNoPart (P.states parts.new) }
 {
-    inform(parts, journal, job.command());
-    match prepare(parts, job.command()) {
+    let command = NamedCommand::new(job.command());
+    inform(parts, journal, &command);
+    match prepare(parts, &command) {
         Ok(number) => do_all(parts, journal, job, number),
         Err(refusal) => job.refuse(refusal),
     }

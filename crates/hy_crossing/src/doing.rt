@@ -2,12 +2,13 @@
 
 ghost use Rattle.std.specs.Prelude.{◌≡◌, ◌+◌, ◌-◌, ◌^◌, ◌<◌, true, IfErr, IfOk, IfSome, OnErr, OnOk, length, slice_get};
 ghost use Rattle.hy_rows.specs.Ranges.{IsBetween};
-ghost use Rattle.hy_commands.specs.Parts.{customer_home_of};
+ghost use Rattle.hy_commands.specs.Commands.{customer_home_of};
 ghost use Rattle.hy_partition.specs.Unsettled.{part_of};
 ghost use Rattle.hy_crossing.specs.Crossings.{AllMayRun, ArePartitions, CanDoIfNamed, CanDoParts, DoesIfNamed, FailsHere, IsWhyNotDone, LeavesIfNamed, MayRunIfNamed};
 ghost use Rattle.hy_crossing.specs.Lists.{ChangesAt, Pairwise};
 ghost use Rattle.hy_crossing.specs.Unsettled.{AreAllDone, DoesAt};
 
+use crate::named::NamedCommand;
 use crate::parts::Parts;
 use crate::undoing::undo_parts;
 use hy_commands::{Command, Edition};
@@ -20,7 +21,7 @@ fn do_here<const N: usize, K: Loaded, P: Parts<Part = Partition<N, K>>>(
     unsettled: &mut UnsettledParts<K>,
     number: u64,
     edition: Edition,
-    command: &Command,
+    command: &NamedCommand<'_>,
 ) -> Result<(), Refusal>
     requires there { IsBetween 1 (length (P.states parts.old)) number }
     requires can { IfSome (slice_get (P.states parts.old) (number - 1)) (CanDoIfNamed command.now number) }
@@ -59,7 +60,25 @@ pub fn do_parts<const N: usize, K: Loaded, P: Parts<Part = Partition<N, K>>>(
     ensures left { OnErr result (Pairwise (LeavesIfNamed command.now) 1 (P.states parts.old) (P.states parts.new)) }
     ensures refused { IfErr result (IsWhyNotDone (P.states parts.old) (P.states parts.new)) }
 {
-    let mut unsettled = UnsettledParts::none(edition, command);
+    do_these(parts, edition, &NamedCommand::new(command))
+}
+
+/// The same, by the places that it names.
+fn do_these<const N: usize, K: Loaded, P: Parts<Part = Partition<N, K>>>(
+    parts: &mut P,
+    edition: Edition,
+    command: &NamedCommand<'_>,
+) -> Result<UnsettledParts<K>, Refusal>
+    requires parts { ArePartitions K.load (P.states parts.old) }
+    requires can { CanDoParts command.now (P.states parts.old) }
+    requires edition { AllMayRun edition command.now (P.states parts.old) }
+    requires there { IsBetween 1 (length (P.states parts.old)) (customer_home_of command.now) }
+    ensures done { OnOk result (Pairwise (DoesIfNamed edition command.now) 1 (P.states parts.old) (P.states parts.new)) }
+    ensures all { IfOk result (AreAllDone edition command.now (P.states parts.old)) }
+    ensures left { OnErr result (Pairwise (LeavesIfNamed command.now) 1 (P.states parts.old) (P.states parts.new)) }
+    ensures refused { IfErr result (IsWhyNotDone (P.states parts.old) (P.states parts.new)) }
+{
+    let mut unsettled = UnsettledParts::none(edition, command.command());
     for place in 0..parts.len() {
         if let Err(refusal) = do_here(parts, &mut unsettled, place as u64 + 1, edition, command) {
             undo_parts(parts, unsettled, command, place);

@@ -11,6 +11,7 @@ ghost use Rattle.hy_crossing.specs.Lists.{Pairwise};
 ghost use Rattle.hy_crossing.specs.Unsettled.{AreCounted};
 
 use crate::keeping::keep_parts;
+use crate::named::NamedCommand;
 use crate::parts::Parts;
 use hy_commands::{Command, Commit, Edition};
 use hy_partition::{Done, Loaded, Partition, UnsettledParts};
@@ -20,6 +21,17 @@ use hy_passes::{Entry, Journal, Pass};
 pub(crate) fn know_named<const N: usize, K: Loaded, P: Parts<Part = Partition<N, K>>>(
     parts: &mut P,
     command: &Command,
+)
+    ensures known { AreKnown command.now K.passes.partitions (P.states parts.old) }
+    ensures same { P.states parts.new ≡ P.states parts.old }
+{
+    know_these(parts, &NamedCommand::new(command));
+}
+
+/// The same, by the places that it names.
+fn know_these<const N: usize, K: Loaded, P: Parts<Part = Partition<N, K>>>(
+    parts: &mut P,
+    command: &NamedCommand<'_>,
 )
     ensures known { AreKnown command.now K.passes.partitions (P.states parts.old) }
     ensures same { P.states parts.new ≡ P.states parts.old }
@@ -74,7 +86,7 @@ pub fn keep_all<const N: usize, K: Loaded, P: Parts<Part = Partition<N, K>>>(
         &mut unsettled,
         &mut journal.list,
         edition,
-        entry.commit.command(),
+        &NamedCommand::new(entry.commit.command()),
         crossing,
     );
     journal.list.tell_client(&mut pass);

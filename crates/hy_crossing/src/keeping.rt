@@ -10,8 +10,9 @@ ghost use Rattle.hy_crossing.specs.Crossings.{ArePartitions, AreReady, IsPartiti
 ghost use Rattle.hy_crossing.specs.Lists.{Pairwise};
 ghost use Rattle.hy_crossing.specs.Unsettled.{AreCounted, KeepsAt, one_if_named, unsettled_of};
 
+use crate::named::NamedCommand;
 use crate::parts::Parts;
-use hy_commands::{Command, Commit, Edition};
+use hy_commands::{Commit, Edition};
 use hy_partition::{Loaded, Partition, UnsettledParts};
 use hy_passes::SerialList;
 
@@ -22,7 +23,7 @@ fn keep_here<const N: usize, K: Loaded, P: Parts<Part = Partition<N, K>>>(
     list: &mut SerialList<Commit, K>,
     number: u64,
     edition: Edition,
-    command: &Command,
+    command: &NamedCommand<'_>,
     crossing: u64,
 )
     requires there { IsBetween 1 (length (P.states parts.old)) number }
@@ -51,7 +52,7 @@ pub fn keep_parts<const N: usize, K: Loaded, P: Parts<Part = Partition<N, K>>>(
     unsettled: &mut UnsettledParts<K>,
     list: &mut SerialList<Commit, K>,
     edition: Edition,
-    command: &Command,
+    command: &NamedCommand<'_>,
     crossing: u64,
 )
     requires parts { ArePartitions K.load (P.states parts.old) }

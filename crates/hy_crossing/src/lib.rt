@@ -13,6 +13,7 @@ mod held;
 mod keeping;
 mod looking;
 mod making;
+mod named;
 mod parts;
 mod undoing;
 
@@ -24,6 +25,7 @@ pub use held::Held;
 pub use keeping::keep_parts;
 pub use looking::are_partitions;
 pub use making::partitions_of;
+pub use named::NamedCommand;
 pub use parts::Parts;
 
 // what stands below, for the crates above

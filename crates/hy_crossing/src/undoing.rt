@@ -6,15 +6,15 @@ ghost use Rattle.hy_crossing.specs.Crossings.{AreQuiet, UndoesIfNamed};
 ghost use Rattle.hy_crossing.specs.Lists.{IsDoneUpTo};
 ghost use Rattle.hy_crossing.specs.Unsettled.{AreHeldBefore, named_before};
 
+use crate::named::NamedCommand;
 use crate::parts::Parts;
-use hy_commands::Command;
 use hy_partition::{Loaded, Partition, UnsettledParts};
 
 /// Undoes the parts of a command in the warehouses before a place, which are all that are done. Takes no memory and no frame.
 pub fn undo_parts<const N: usize, K: Loaded, P: Parts<Part = Partition<N, K>>>(
     parts: &mut P,
     mut unsettled: UnsettledParts<K>,
-    command: &Command,
+    command: &NamedCommand<'_>,
     end: usize,
 )
     requires end { end ≤ length (P.states parts.old) }

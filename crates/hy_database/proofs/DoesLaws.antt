@@ -14,10 +14,10 @@ use Rattle.hy_commands.specs.Commands.{edition_of, home_of}
 use Rattle.hy_commands.specs.Parts.{Database, by_number, is_there, part_unless, refusal_in, rows_of}
 use Rattle.hy_commands.specs.Transactions.{act, outcome_of, refusal_of}
 use Rattle.hy_commands.proofs.AcceptedLaws.{accepted-in, accepted-not_refused}
-use Rattle.hy_commands.proofs.NamedLaws.{named-accepted}
+use Rattle.hy_commands.proofs.NamedLaws.{named-accepted, named-home}
 use Rattle.hy_database.specs.Database.{committed_in, parts_done}
 use Rattle.hy_database.proofs.EachLaws.{length-each, rows_of-each}
-use Rattle.hy_database.proofs.PartLaws.{accepted-part, by_number-home, by_number-warehouses, named-home, part-unnamed}
+use Rattle.hy_database.proofs.PartLaws.{accepted-part, by_number-home, by_number-warehouses, part-unnamed}
 
 -- each warehouse has its part of a command, whose home is there, or is as it was
 pub record Does (database after : Database) (refusal : Option Refusal) (edition : Edition) (command : Command)

@@ -1,6 +1,6 @@
 -- The part of a command changes nothing at a warehouse that the command doesn't name. What an accepted command does to
 -- the one warehouse that it names is its part there; and a command may name the customer who pays by number.
-use Rattle.std.proofs.Common.{◌≡◌, ℕ, zero, suc, ◌==◌, ◌&&◌, Bool, true, false, cond, not, List, [], ◌∷◌, filter, Option, Some, None, is_some, unwrap_or, refl, sym, ap, ◌∙◌}
+use Rattle.std.proofs.Common.{◌≡◌, ℕ, zero, suc, ◌==◌, ◌&&◌, Bool, true, false, cond, not, List, [], ◌∷◌, filter, Option, Some, None, is_some, unwrap_or, refl, sym, ap, subst, ◌∙◌}
 use Rattle.std.specs.Prelude.{All, IfSome, slice_get}
 use Rattle.std.specs.List.{find, list_all, list_any}
 use Rattle.std.proofs.lemmas.Bool.{and_from, and_parts, both_ways, eq-eqb, not-true, or_left, or_parts, or_right}
@@ -20,15 +20,17 @@ use Rattle.hy_commands.specs.declared.command.Who.{Who}
 use Rattle.hy_commands.specs.declared.command.Who.TheVariants as who
 use Rattle.hy_commands.specs.declared.edition.Edition.{Edition}
 use Rattle.hy_commands.specs.declared.edition.Edition.TheVariants as editions
-use Rattle.hy_commands.specs.Commands.{home_of, is_in_range, warehouses_of}
+use Rattle.hy_commands.specs.Commands.{home_of, is_in_range, is_reader, warehouses_of}
+use Rattle.hy_commands.specs.declared.reply.Reply.TheVariants as replies
 use Rattle.hy_commands.specs.Customers.{customer_meant, is_earlier, is_named}
-use Rattle.hy_commands.specs.Parts.{by_number, customer_home_of, part}
+use Rattle.hy_commands.specs.Parts.{by_number, part, payer_number}
+use Rattle.hy_commands.specs.inside.Kinds.{NobodyPays, by_payment}
 use Rattle.hy_commands.specs.Payments.{paid_by, paid_in}
 use Rattle.hy_commands.specs.Sorting.{inserted, sorted}
 use Rattle.hy_commands.specs.Transactions.{accepted, act, has_customer, outcome_of, payer, refusal_of}
 use Rattle.hy_commands.proofs.AcceptedLaws.{IsAccepted, accepted-delivery, accepted-payment, accepted-purchase, named-payment, named-purchase, own-payer}
 use Rattle.hy_commands.proofs.ListLaws.{filter-none, find-passes, found-any}
-use Rattle.hy_commands.proofs.NamedLaws.{first-named, named-accepted}
+use Rattle.hy_commands.proofs.NamedLaws.{first-named, named-accepted, named-home}
 use Rattle.hy_commands.proofs.OnceLaws.{tells-three}
 
 -- ---- a warehouse that a command doesn't name
@@ -40,21 +42,6 @@ all-fail test [] none = refl
 all-fail test (row ∷ rows) none =
     let parts = or_parts (test row) (list_any test rows) none in
     rw (parts.0) (all-fail test rows parts.1)
-
--- what each named warehouse passes, the home passes, and so does the warehouse of the customer
-pub named-home : (test : ℕ → Bool) (command : Command) → list_all test (warehouses_of command) ≡ true
-    → test (home_of command) ≡ true
-named-home test command all =
-    let first = first-named command in
-    (and_parts (test (home_of command)) (list_all test first.0) (ap (list_all test) (sym first.1) ∙ all)).0
-
-pub named-customer_home : (test : ℕ → Bool) (command : Command) → list_all test (warehouses_of command) ≡ true
-    → test (customer_home_of command) ≡ true
-named-customer_home test (commands.NewOrder order) all = named-home test (commands.NewOrder order) all
-named-customer_home test (commands.Payment payment) all = (named-payment test payment all).1
-named-customer_home test (commands.OrderStatus status) all = named-home test (commands.OrderStatus status) all
-named-customer_home test (commands.Delivery delivery) all = named-home test (commands.Delivery delivery) all
-named-customer_home test (commands.StockLevel level) all = named-home test (commands.StockLevel level) all
 
 abbrev is_apart : ℕ → ℕ → Bool
 is_apart number named = not (named == number)
@@ -199,41 +186,39 @@ module _ (warehouse district : ℕ) (rows : List Customer) where
   number-there (who.Last name) is =
       found-any (is_customer warehouse district (chosen (who.Last name)).id) rows ∙ name-chosen name is
 
+-- where nobody pays, a command with the payer's number is the command
+pub same-numbered : (command : Command) → NobodyPays command → (tables : Tables) → by_number tables command ≡ command
+same-numbered command nobody tables = nobody.same (payer_number tables command)
+
 -- with the number of who pays, that customer is there
 pub by_number-known : (command : Command) (tables : Tables) → has_customer command tables ≡ true
     → has_customer (by_number tables command) tables ≡ true
-by_number-known (commands.NewOrder order) tables known = known
-by_number-known (commands.Payment payment) tables known =
-    number-there payment.customer_warehouse payment.customer_district tables.customers payment.who known
-by_number-known (commands.OrderStatus status) tables known = known
-by_number-known (commands.Delivery delivery) tables known = known
-by_number-known (commands.StockLevel level) tables known = known
+by_number-known command tables =
+    by_payment (λ command. has_customer command tables ≡ true → has_customer (by_number tables command) tables ≡ true)
+    (λ payment known.
+    number-there payment.customer_warehouse payment.customer_district tables.customers payment.who known)
+    (λ command nobody. subst (λ numbered. has_customer numbered tables ≡ true) (sym (same-numbered command nobody tables)))
+    command
 
 pub by_number-in_range : (command : Command) (tables : Tables) → is_in_range command ≡ true
     → is_in_range (by_number tables command) ≡ true
-by_number-in_range (commands.NewOrder order) tables in_range = in_range
-by_number-in_range (commands.Payment payment) tables in_range =
-    let parts = and_parts _ _ in_range in
-    and_from _ true parts.0 refl
-by_number-in_range (commands.OrderStatus status) tables in_range = in_range
-by_number-in_range (commands.Delivery delivery) tables in_range = in_range
-by_number-in_range (commands.StockLevel level) tables in_range = in_range
+by_number-in_range command tables =
+    by_payment (λ command. is_in_range command ≡ true → is_in_range (by_number tables command) ≡ true)
+    (λ payment in_range. and_from _ true (and_parts _ _ in_range).0 refl)
+    (λ command nobody. subst (λ numbered. is_in_range numbered ≡ true) (sym (same-numbered command nobody tables)))
+    command
 
 -- it names the same warehouses
 pub by_number-warehouses : (command : Command) (tables : Tables)
     → warehouses_of (by_number tables command) ≡ warehouses_of command
-by_number-warehouses (commands.NewOrder order) tables = refl
-by_number-warehouses (commands.Payment payment) tables = refl
-by_number-warehouses (commands.OrderStatus status) tables = refl
-by_number-warehouses (commands.Delivery delivery) tables = refl
-by_number-warehouses (commands.StockLevel level) tables = refl
+by_number-warehouses command tables =
+    by_payment (λ command. warehouses_of (by_number tables command) ≡ warehouses_of command) (λ payment. refl)
+    (λ command nobody. ap warehouses_of (same-numbered command nobody tables)) command
 
 pub by_number-home : (command : Command) (tables : Tables) → home_of (by_number tables command) ≡ home_of command
-by_number-home (commands.NewOrder order) tables = refl
-by_number-home (commands.Payment payment) tables = refl
-by_number-home (commands.OrderStatus status) tables = refl
-by_number-home (commands.Delivery delivery) tables = refl
-by_number-home (commands.StockLevel level) tables = refl
+by_number-home command tables =
+    by_payment (λ command. home_of (by_number tables command) ≡ home_of command) (λ payment. refl)
+    (λ command nobody. ap home_of (same-numbered command nobody tables)) command
 
 -- what a payment does to its customer doesn't depend on how it names the customer
 paid_by-named : (edition : Edition) (payment : Payment) (meant : Who) (customer : ℕ) (tables : Tables)
@@ -260,3 +245,21 @@ accepted-part items number edition (commands.Delivery delivery) tables passed =
     let home = (accepted-delivery items number delivery tables passed).home in
     rw (eq-eqb delivery.warehouse number home) refl
 accepted-part items number edition (commands.StockLevel level) tables passed = refl
+
+-- a command that only reads leaves the rows as they are
+pub reader-leaves : (items : List Item) (number : ℕ) (edition : Edition) (command : Command) (tables : Tables)
+    → is_reader command ≡ true → (accepted items number edition command tables).tables ≡ tables
+reader-leaves items number edition (commands.OrderStatus status) tables reads = refl
+reader-leaves items number edition (commands.StockLevel level) tables reads = refl
+reader-leaves items number edition (commands.NewOrder order) tables reads = absurd (cc)
+reader-leaves items number edition (commands.Payment payment) tables reads = absurd (cc)
+reader-leaves items number edition (commands.Delivery delivery) tables reads = absurd (cc)
+
+-- no accepted command is answered as a refused one is
+pub accepted-reply : (items : List Item) (number : ℕ) (edition : Edition) (command : Command) (tables : Tables) (why : Refusal)
+    → (accepted items number edition command tables).reply ≡ replies.Refused why → ⊥
+accepted-reply items number edition (commands.NewOrder order) tables why is = absurd (cc)
+accepted-reply items number edition (commands.Payment payment) tables why is = absurd (cc)
+accepted-reply items number edition (commands.OrderStatus status) tables why is = absurd (cc)
+accepted-reply items number edition (commands.Delivery delivery) tables why is = absurd (cc)
+accepted-reply items number edition (commands.StockLevel level) tables why is = absurd (cc)

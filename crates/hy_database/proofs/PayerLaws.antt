@@ -12,11 +12,11 @@ use Rattle.hy_rows.specs.declared.item.Item.{Item}
 use Rattle.hy_schema.specs.Keys.{AreUnique, customer_key}
 use Rattle.hy_schema.proofs.ChangedLists.{All-passing_also}
 use Rattle.hy_commands.specs.declared.command.Command.{Command}
-use Rattle.hy_commands.specs.declared.command.Command.TheVariants as commands
 use Rattle.hy_commands.specs.declared.command.Who.{Who}
 use Rattle.hy_commands.specs.declared.command.Who.TheVariants as who
 use Rattle.hy_commands.specs.declared.reply.Reply.TheVariants as replies
 use Rattle.hy_commands.specs.declared.edition.Edition.{Edition}
+use Rattle.hy_commands.specs.inside.Kinds.{by_payment}
 use Rattle.hy_commands.specs.Customers.{customer_meant, is_earlier, is_named}
 use Rattle.hy_commands.specs.Parts.{by_number}
 use Rattle.hy_commands.specs.Payments.{customer_paid}
@@ -24,7 +24,7 @@ use Rattle.hy_commands.specs.Sorting.{sorted}
 use Rattle.hy_commands.specs.Transactions.{accepted, has_customer}
 use Rattle.hy_commands.proofs.ListLaws.{All-of_both, unique-head, unique-tail}
 use Rattle.hy_commands.proofs.OnceLaws.{All-keys, tells-three}
-use Rattle.hy_database.proofs.PartLaws.{All-some, All-sorted, number-chosen, some-value}
+use Rattle.hy_database.proofs.PartLaws.{All-some, All-sorted, number-chosen, same-numbered, some-value}
 
 module _ (warehouse district : ℕ) where
   -- a customer of the district is found by number
@@ -90,12 +90,14 @@ pub same-reply : (items : List Item) (number : ℕ) (edition : Edition) (command
     → AreUnique (map customer_key tables.customers) → has_customer command tables ≡ true
     → (accepted items number edition (by_number tables command) tables).reply
     ≡ (accepted items number edition command tables).reply
-same-reply items number edition (commands.NewOrder order) tables unique known = refl
-same-reply items number edition (commands.Payment payment) tables unique known =
-    ap (λ (found : Option Customer).
+same-reply items number edition command tables unique =
+    by_payment (λ command. has_customer command tables ≡ true
+    → (accepted items number edition (by_number tables command) tables).reply
+    ≡ (accepted items number edition command tables).reply)
+    (λ payment known. ap (λ (found : Option Customer).
     let row : Customer = unwrap_or found (customer_of []) in
     replies.Payment row.id (customer_paid edition payment row).balance)
-    (same-payer payment.customer_warehouse payment.customer_district tables.customers unique payment.who known)
-same-reply items number edition (commands.OrderStatus status) tables unique known = refl
-same-reply items number edition (commands.Delivery delivery) tables unique known = refl
-same-reply items number edition (commands.StockLevel level) tables unique known = refl
+    (same-payer payment.customer_warehouse payment.customer_district tables.customers unique payment.who known))
+    (λ command nobody known. ap (λ command. (accepted items number edition command tables).reply)
+    (same-numbered command nobody tables))
+    command

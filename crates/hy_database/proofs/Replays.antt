@@ -3,6 +3,7 @@
 use Rattle.std.proofs.Common.{◌≡◌, ℕ, ◌==◌, Bool, true, false, cond, not, List, [], ◌∷◌, ◌++◌, length, map, filter, Option, Some, None, refl, sym, ap, subst, ◌∙◌, append_assoc, append-nil}
 use Rattle.std.specs.Prelude.{fold}
 use Rattle.std.specs.List.{list_all, list_any}
+use Rattle.std.specs.Option.{option_or}
 use Rattle.std.proofs.lemmas.List.Elements.{filter-append}
 use Rattle.std.proofs.lemmas.List.Sums.{fold-append}
 use Rattle.hy_passes.specs.SerialList.{names, projection}
@@ -14,34 +15,35 @@ use Rattle.hy_commands.specs.declared.command.Command.{Command}
 use Rattle.hy_commands.specs.declared.command.Commit.{Commit}
 use Rattle.hy_commands.specs.declared.command.Commit.TheVariants as commits
 use Rattle.hy_commands.specs.declared.edition.Edition.{Edition}
-use Rattle.hy_commands.specs.Commands.{home_of, is_in_range, warehouses_of, warehouses_of_commit}
+use Rattle.hy_commands.specs.Commands.{customer_home_of, has_districts, home_of, is_in_range, warehouses_of, warehouses_of_commit}
 use Rattle.hy_commands.specs.Customers.{identity_of}
-use Rattle.hy_commands.specs.Parts.{Database, customer_home_of, database_of, is_there, part, part_unless, refusal_in, rows_of}
+use Rattle.hy_commands.specs.Parts.{Database, database_of, is_there, part, part_unless, refusal_in, rows_of}
 use Rattle.hy_commands.specs.Replay.{HasWarehouse, committed, rows_after}
-use Rattle.hy_commands.specs.Transactions.{act, has_districts, has_items}
+use Rattle.hy_commands.specs.Transactions.{act, has_items}
 use Rattle.hy_commands.proofs.DatabaseLaws.{length-database, rows-load, there-load}
 use Rattle.hy_commands.proofs.SameCustomers.{has_customer-same, same-customers}
 use Rattle.hy_database.specs.Database.{committed_in, database_after, parts_done}
 use Rattle.hy_database.proofs.EachLaws.{count-committed, items-committed, rows_of-each}
-use Rattle.hy_database.proofs.PartLaws.{act-elsewhere, named-customer_home, part-unnamed, unnamed-home}
+use Rattle.hy_commands.proofs.NamedLaws.{named-customer_home}
+use Rattle.hy_database.proofs.PartLaws.{act-elsewhere, part-unnamed, unnamed-home}
 
 -- ---- why a command is refused
 
 -- the chain of tests, and where two agree
 abbrev chain : Bool → Bool → Bool → Bool → Bool → Option Refusal
 chain in_range named districts customer items =
-    cond (not in_range) (Some refusals.OutOfRange)
-    (cond (not named) (Some refusals.NoSuchWarehouse)
-    (cond (not districts) (Some refusals.NoSuchDistrict)
-    (cond (not customer) (Some refusals.NoSuchCustomer)
-    (cond (not items) (Some refusals.NoSuchItem) None))))
+    option_or
+    (cond (not in_range) (Some refusals.OutOfRange)
+    (cond (not named) (Some refusals.NoSuchWarehouse) (cond (not districts) (Some refusals.NoSuchDistrict) None)))
+    (cond (not customer) (Some refusals.NoSuchCustomer) (cond (not items) (Some refusals.NoSuchItem) None))
 
 chain-same : (in_range named districts customer items named_other customer_other items_other : Bool)
     → named ≡ named_other → (named_other ≡ true → customer ≡ customer_other) → items ≡ items_other
     → chain in_range named districts customer items ≡ chain in_range named_other districts customer_other items_other
-chain-same in_range named districts customer items true customer_other items_other same agree equal =
+chain-same false named districts customer items named_other customer_other items_other same agree equal = refl
+chain-same true named districts customer items true customer_other items_other same agree equal =
     rw (same, agree refl, equal) refl
-chain-same in_range named districts customer items false customer_other items_other same agree equal =
+chain-same true named districts customer items false customer_other items_other same agree equal =
     rw same refl
 
 -- ---- a database that has the replays

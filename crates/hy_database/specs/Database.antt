@@ -1,6 +1,5 @@
 -- What commands do to a database of several warehouses, and a database after a serial list of commits.
 use Rattle.std.specs.Prelude.{ℕ, ◌+◌, ◌==◌, if◌then◌else◌, Option, None, Some, List, [], ◌∷◌, fold}
-use Rattle.std.specs.List.{flat_map}
 use Rattle.hy_rows.specs.Tables.{Lists, Tables, all_of}
 use Rattle.hy_schema.specs.declared.refusal.Refusal.{Refusal}
 use Rattle.hy_commands.specs.declared.command.Command.{Command}
@@ -9,8 +8,8 @@ use Rattle.hy_commands.specs.declared.command.Commit.TheVariants as commits
 use Rattle.hy_commands.specs.declared.edition.Edition.{Edition}
 use Rattle.hy_commands.specs.declared.reply.Reply.{Reply}
 use Rattle.hy_commands.specs.declared.reply.Reply.TheVariants as replies
-use Rattle.hy_commands.specs.Commands.{home_of}
-use Rattle.hy_commands.specs.Parts.{Database, by_number, customer_home_of, database_of, part, refusal_in, rows_of}
+use Rattle.hy_commands.specs.Commands.{customer_home_of, home_of}
+use Rattle.hy_commands.specs.Parts.{Database, by_number, database_of, part, refusal_in, rows_of}
 use Rattle.hy_commands.specs.Transactions.{accepted, act}
 
 -- ---- one command

@@ -5,7 +5,6 @@ use Rattle.std.proofs.lemmas.List.Elements.{All-cons, All-nil}
 use Rattle.hy_rows.specs.Tables.{Lists}
 use Rattle.hy_passes.specs.declared.entry.Entry.{Entry}
 use Rattle.hy_commands.specs.declared.command.Command.{Command}
-use Rattle.hy_commands.specs.declared.command.Command.TheVariants as commands
 use Rattle.hy_commands.specs.declared.command.Commit.{Commit}
 use Rattle.hy_commands.specs.declared.command.Commit.TheVariants as commits
 use Rattle.hy_commands.specs.declared.edition.Edition.{Edition}
@@ -14,11 +13,14 @@ use Rattle.hy_commands.specs.Commands.{is_reader, kept_of, warehouses_of}
 use Rattle.hy_commands.specs.Parts.{Database, database_of, is_by_number, refusal_in}
 use Rattle.hy_commands.specs.Replay.{HasWarehouse, rows_after}
 use Rattle.hy_commands.specs.Transactions.{refusal_of}
-use Rattle.hy_database.specs.Database.{kept_in}
+use Rattle.hy_database.specs.Database.{customer_rows, kept_in}
+use Rattle.hy_database.proofs.PartLaws.{same-numbered}
+use Rattle.hy_commands.specs.inside.Kinds.{by_payment}
 use Rattle.hy_database.proofs.KeptLaws.{kept-accepted}
 use Rattle.hy_partition.proofs.KnownLaws.{known-local as unrefused}
 use Rattle.hy_sound.specs.Sound.{is_known}
-use Rattle.hy_forks.proofs.FitsLaws.{AreFit, IsFit, several-writes}
+use Rattle.hy_forks.proofs.FitsLaws.{AreFit, IsFit}
+use Rattle.hy_commands.proofs.NamedLaws.{several-writes}
 
 -- ---- of one warehouse
 
@@ -46,18 +48,14 @@ entered-fit lists edition command stamp second known = by (is_reader command) re
 -- ---- of several warehouses
 
 reads-kept : (database : Database) (command : Command) → is_reader (kept_in database command) ≡ is_reader command
-reads-kept database (commands.NewOrder order) = refl
-reads-kept database (commands.Payment payment) = refl
-reads-kept database (commands.Delivery delivery) = refl
-reads-kept database (commands.OrderStatus status) = refl
-reads-kept database (commands.StockLevel level) = refl
+reads-kept database =
+    by_payment (λ command. is_reader (kept_in database command) ≡ is_reader command) (λ payment. refl)
+    (λ command nobody. ap is_reader (same-numbered command nobody (customer_rows command database)))
 
 numbered-kept : (database : Database) (command : Command) → is_by_number (kept_in database command) ≡ true
-numbered-kept database (commands.NewOrder order) = refl
-numbered-kept database (commands.Payment payment) = refl
-numbered-kept database (commands.Delivery delivery) = refl
-numbered-kept database (commands.OrderStatus status) = refl
-numbered-kept database (commands.StockLevel level) = refl
+numbered-kept database =
+    by_payment (λ command. is_by_number (kept_in database command) ≡ true) (λ payment. refl)
+    (λ command nobody. ap is_by_number (same-numbered command nobody (customer_rows command database)) ∙ nobody.by_number)
 
 -- what is kept of an accepted command can be run again, where the database refuses what the load refuses
 pub crossing-fit : (lists : Lists) (database : Database) (edition : Edition) (number : ℕ) (command : Command)

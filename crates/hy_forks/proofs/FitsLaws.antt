@@ -37,7 +37,7 @@ use Rattle.hy_commands.specs.Parts.{database_of, is_by_number, is_there, refusal
 use Rattle.hy_commands.specs.Transactions.{has_customer}
 use Rattle.hy_commands.proofs.AcceptedLaws.{IsAcceptedIn, accepted-in, named-suppliers}
 use Rattle.hy_commands.proofs.DatabaseLaws.{rows-load, there-load}
-use Rattle.hy_database.proofs.PartLaws.{named-customer_home}
+use Rattle.hy_commands.proofs.NamedLaws.{named-customer_home, several-writes}
 use Rattle.hy_batches.specs.Batches.{is_edition}
 use Rattle.hy_batches.specs.Grammar.{are_lists, command_fits, fits, is_commit, is_list, line_fits, who_fits}
 use Rattle.hy_sound.specs.Sound.{is_known, list_at}
@@ -63,12 +63,13 @@ AreFit lists log = All (λ (entry : Entry Commit). IsFit lists entry.commit) log
 
 -- ---- what may be kept can be run again
 
-pub several-writes : (command : Command) → nat_lt 1 (length (warehouses_of command)) ≡ true → is_reader command ≡ false
-several-writes (commands.NewOrder order) several = refl
-several-writes (commands.Payment payment) several = refl
-several-writes (commands.Delivery delivery) several = refl
-several-writes (commands.OrderStatus status) several = absurd (false≢true several)
-several-writes (commands.StockLevel level) several = absurd (false≢true several)
+-- what the grammar has a form for doesn't only read
+pub fits-writes : (command : Command) → command_fits command ≡ true → is_reader command ≡ false
+fits-writes (commands.NewOrder order) fits = refl
+fits-writes (commands.Payment payment) fits = refl
+fits-writes (commands.Delivery delivery) fits = refl
+fits-writes (commands.OrderStatus status) fits = absurd (false≢true fits)
+fits-writes (commands.StockLevel level) fits = absurd (false≢true fits)
 
 none-is : {Row : Type 0} (found : Option Row) → is_none found ≡ true → found ≡ None
 none-is None is = refl

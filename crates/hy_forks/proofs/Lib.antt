@@ -23,3 +23,4 @@ pub mod FitsLaws
 pub mod BatchLaws
 pub mod LoggedLaws
 pub mod ServingLaws
+pub mod BookLaws

@@ -11,5 +11,6 @@ pub mod Forks
 pub mod Drains
 pub mod Histories
 pub mod Logged
+pub mod Accounts
 pub mod Partitions
 pub mod inside

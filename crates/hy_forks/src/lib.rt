@@ -6,6 +6,7 @@ mod closing;
 mod drains;
 mod forks;
 mod forks_from;
+mod gathering;
 mod history;
 mod knowing;
 mod logged;
@@ -13,6 +14,7 @@ mod partitions;
 mod serving;
 mod snapshot;
 
+pub use gathering::Gathered;
 pub use hy_batches::Batch;
 pub use hy_crossing::Parts;
 pub use hy_crossing::hy_partition::{Loaded, Partition, Snapshot};

@@ -1,3 +1,4 @@
+pub mod ItemLaws
 pub mod MemberLaws
 pub mod PlaceLaws
 pub mod SortedLaws

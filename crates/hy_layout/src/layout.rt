@@ -6,11 +6,12 @@ ghost use Rattle.hy_rows.specs.Ranges.{IsBetween};
 ghost use Rattle.hy_rows.specs.Tables.{Tables};
 ghost use Rattle.hy_schema.specs.Related.{is_item};
 ghost use Rattle.hy_commands.specs.declared.command.Who.{Who};
+ghost use Rattle.hy_commands.specs.inside.Named.{who_of};
 ghost use Rattle.hy_layout.specs.Layout.{IsPlaceOf, IsStockAt, KeepsPlaces, own_rows};
 
 use crate::names::{NamedCustomer, middle_named, names_of};
 use crate::numbers::{own_customers, place_of, starts_of};
-use hy_commands::Who;
+use hy_commands::{CustomerRef, WhoRef};
 use hy_loads::Load;
 use hy_rows::Item;
 use std::alloc::{AllocError, Global};
@@ -73,17 +74,17 @@ impl Layout {
         self.warehouse
     }
 
-    /// The place of the customer of a district who is meant, by number or by last name (TPC-C clause 2.5.2.2), among
-    /// all customers of the warehouse; none where there is no such customer. It stays that place as long as each
-    /// customer stands where it stood. Takes no memory; a number is found at once, a name by a binary search.
-    pub fn place_of_customer(&self, district: u64, who: &Who) -> Option<u64>
-        ensures { IsPlaceOf self.now district who.now result }
+    /// The place of the customer of this warehouse whom a command names, by number or by last name (TPC-C clause
+    /// 2.5.2.2), among all customers of the warehouse; none where there is no such customer. It stays that place as long
+    /// as each customer stands where it stood. Takes no memory; a number is found at once, a name by a binary search.
+    pub fn place_of_customer(&self, customer: CustomerRef<'_>) -> Option<u64>
+        ensures { IsPlaceOf self.now customer.entry.district (who_of customer.entry.who) result }
     {
-        match who {
-            Who::Number(number) => place_of(&self.starts, district, *number),
-            Who::Last(name) => {
-                let customer = middle_named(&self.names, district, name.as_bytes())?;
-                place_of(&self.starts, district, u64::from(customer.id))
+        match customer.who {
+            WhoRef::Number(number) => place_of(&self.starts, customer.district, number),
+            WhoRef::Last(name) => {
+                let named = middle_named(&self.names, customer.district, name.as_bytes())?;
+                place_of(&self.starts, customer.district, u64::from(named.id))
             }
         }
     }

@@ -1,7 +1,8 @@
 -- What an accepted command does to the accounts.
 use Rattle.std.proofs.Common.{◌≡◌, ℕ, suc, ◌+◌, ◌≤◌, pos, ◌+ℤ◌, ◌==◌, Bool, true, false, cond, List, [], ◌∷◌, ◌++◌, map, length, None, refl, sym, ap, ◌∙◌, subst, arith, eq-eqb, length-append, lit≤}
-use Rattle.std.specs.Prelude.{fold, nat_lt}
-use Rattle.std.proofs.lemmas.Bool.{eqb-true}
+use Rattle.std.specs.Prelude.{fold, ◌&&◌}
+use Rattle.std.proofs.lemmas.Bool.{and_parts, eqb-true}
+use Rattle.hy_rows.specs.Ranges.{is_between}
 use Rattle.std.proofs.lemmas.Int.{ints}
 use Rattle.std.proofs.lemmas.Bool.Decides.{nat_tests}
 use Rattle.std.proofs.lemmas.List.{append-nil}
@@ -21,7 +22,9 @@ use Rattle.hy_commands.specs.declared.command.Commit.{Commit}
 use Rattle.hy_commands.specs.declared.command.Commit.TheVariants as commits
 use Rattle.hy_commands.specs.declared.command.Delivery.{Delivery}
 use Rattle.hy_commands.specs.declared.edition.Edition.{Edition}
-use Rattle.hy_commands.specs.Commands.{command_of, home_of, is_reader, kept_of, warehouses_of}
+use Rattle.hy_commands.specs.Commands.{cents_of, command_of, home_of, is_in_range, is_moment, is_reader, is_who, kept_of}
+use Rattle.hy_commands.specs.inside.Kinds.{by_payment}
+use Rattle.hy_commands.specs.declared.command.Payment.{Payment}
 use Rattle.hy_commands.specs.Deliveries.{delivered, delivered_in, oldest, with_delivered}
 use Rattle.hy_commands.specs.Invariant.{IsSoundWarehouse}
 use Rattle.hy_commands.specs.NewOrders.{ordered, supplied}
@@ -29,10 +32,9 @@ use Rattle.hy_commands.specs.Parts.{Database, database_of, number_in, part, refu
 use Rattle.hy_commands.specs.Payments.{paid_by, paid_in, warehouse_paid}
 use Rattle.hy_commands.specs.Replay.{rows_after}
 use Rattle.hy_commands.specs.Transactions.{accepted, refusal_of}
-use Rattle.hy_commands.proofs.AcceptedLaws.{accepted-in, accepted-not_refused, accepted-payment, payment-in_range}
+use Rattle.hy_commands.proofs.AcceptedLaws.{accepted-in, accepted-not_refused}
 use Rattle.hy_commands.proofs.NamedLaws.{first-named, named-accepted}
 use Rattle.hy_partition.specs.Accounts.{IsBookOf, home_commits, taken_in, with_command}
-use Rattle.hy_partition.specs.Jobs.{cents_of}
 use Rattle.hy_partition.specs.Parts.{with_part_entered}
 use Rattle.hy_partition.proofs.ReplayLaws.{act-accepted, replay-append, replay-crossed}
 
@@ -205,37 +207,27 @@ booked-part lists number kept book edition command crossing sound accepted write
         ap taken_in (replay-crossed lists number (of_warehouse number lists.tables) kept crossing edition command accepted)
         ∙ taken-part lists.items number edition command rows sound.rows.warehouse
 
--- a command over several warehouses doesn't only read
-pub crossing-writes : (command : Command) → nat_lt 1 (length (warehouses_of command)) ≡ true → is_reader command ≡ false
-crossing-writes (commands.NewOrder order) crossing = refl
-crossing-writes (commands.Payment payment) crossing = refl
-crossing-writes (commands.OrderStatus status) crossing = absurd (cc)
-crossing-writes (commands.Delivery delivery) crossing = refl
-crossing-writes (commands.StockLevel level) crossing = absurd (cc)
+-- no command pays more than a share holds
+cents-in_range : (command : Command) → is_in_range command ≡ true → cents_of command ≤ max_cents
+cents-in_range =
+    by_payment (λ command. is_in_range command ≡ true → cents_of command ≤ max_cents) of_payment
+    (λ command nobody in_range. subst (λ cents. cents ≤ max_cents) (sym nobody.cents) (lit≤ tt))
+  where
+    of_payment : (payment : Payment) → is_in_range (commands.Payment payment) ≡ true → payment.amount ≤ max_cents
+    of_payment payment in_range =
+        let parts = and_parts (is_between 100 500_000 payment.amount && is_moment payment.at) (is_who payment.who)
+        in_range in
+        let amount = (and_parts (is_between 100 500_000 payment.amount) (is_moment payment.at) parts.0).0 in
+        grind (arith, nat_tests, amount)
 
--- no command over several warehouses pays more than a share holds
 pub cents-small_part : (database : Database) (command : Command) → refusal_in database command ≡ None
     → cents_of command ≤ max_cents
-cents-small_part database (commands.Payment payment) accepted =
-    let passed = accepted-in database (commands.Payment payment) accepted in
-    let amount = (payment-in_range payment.warehouse payment refl passed.in_range passed.districts).amount in
-    grind (arith, nat_tests, amount)
-cents-small_part database (commands.NewOrder order) accepted = lit≤ tt
-cents-small_part database (commands.OrderStatus status) accepted = lit≤ tt
-cents-small_part database (commands.Delivery delivery) accepted = lit≤ tt
-cents-small_part database (commands.StockLevel level) accepted = lit≤ tt
+cents-small_part database command accepted = cents-in_range command (accepted-in database command accepted).in_range
 
--- no command pays more than a share holds
 pub cents-small : (items : List Item) (number : ℕ) (command : Command) (tables : Tables)
     → refusal_of items number command tables ≡ None → cents_of command ≤ max_cents
-cents-small items number (commands.Payment payment) tables accepted =
-    let amount = (accepted-payment items number payment tables
-    (accepted-not_refused items number (commands.Payment payment) tables accepted)).amount in
-    grind (arith, nat_tests, amount)
-cents-small items number (commands.NewOrder order) tables accepted = lit≤ tt
-cents-small items number (commands.OrderStatus status) tables accepted = lit≤ tt
-cents-small items number (commands.Delivery delivery) tables accepted = lit≤ tt
-cents-small items number (commands.StockLevel level) tables accepted = lit≤ tt
+cents-small items number command tables accepted =
+    cents-in_range command (accepted-not_refused items number command tables accepted).in_range
 
 -- there are no more commits of the warehouse than are kept
 pub home-few : (number : ℕ) (kept : List Commit) → length (home_commits number kept) ≤ length kept

@@ -3,7 +3,8 @@ use Rattle.std.proofs.Common.{◌≡◌, ℕ, ◌-◌, ◌<◌, ◌≤◌, ◌�
 use Rattle.std.specs.Prelude.{IsSome, MatchOption, IsOkAnd}
 use Rattle.hy_schema.specs.declared.refusal.Refusal.{Refusal}
 use Rattle.hy_schema.specs.declared.refusal.Refusal.TheVariants as refusals
-use Rattle.hy_slices.specs.Slices.{has_item_at, has_items_before, slice_count}
+use Rattle.hy_commands.specs.Commands.{slice_count}
+use Rattle.hy_slices.specs.Slices.{has_item_at, has_items_before}
 use Rattle.hy_space.specs.Space.{owner_bytes}
 use Rattle.hy_undo.specs.UndoLog.{undone}
 use Rattle.hy_undo.proofs.PrivatePageLaws.{SameForChildren-then}

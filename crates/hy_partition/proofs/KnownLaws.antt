@@ -5,16 +5,16 @@ use Rattle.std.proofs.lemmas.Bool.{and_parts, eqb-true}
 use Rattle.hy_rows.specs.Tables.{Lists, Tables, of_warehouse}
 use Rattle.hy_commands.specs.declared.command.Command.{Command}
 use Rattle.hy_commands.specs.declared.command.Commit.{Commit}
-use Rattle.hy_commands.specs.Commands.{warehouses_of}
+use Rattle.hy_commands.specs.Commands.{customer_home_of, warehouses_of}
 use Rattle.hy_commands.specs.Customers.{identity_of}
-use Rattle.hy_commands.specs.Parts.{customer_home_of, database_of, is_there, refusal_in, rows_of}
+use Rattle.hy_commands.specs.Parts.{database_of, is_there, refusal_in, rows_of}
 use Rattle.hy_commands.specs.Replay.{HasWarehouse, rows_after}
 use Rattle.hy_commands.specs.Transactions.{refusal_of}
 use Rattle.hy_commands.proofs.AcceptedLaws.{IsAccepted, IsAcceptedIn, accepted-not_refused}
 use Rattle.hy_commands.proofs.DatabaseLaws.{load-there, rows-load}
 use Rattle.hy_commands.proofs.SameCustomers.{has_customer-same, same-customers}
 use Rattle.hy_database.proofs.KeptLaws.{passed-in}
-use Rattle.hy_database.proofs.PartLaws.{named-customer_home}
+use Rattle.hy_commands.proofs.NamedLaws.{named-customer_home}
 
 all-weaker : (one other : ℕ → Bool) (names : List ℕ) → ((name : ℕ) → one name ≡ true → other name ≡ true)
     → list_all one names ≡ true → list_all other names ≡ true

@@ -1,5 +1,5 @@
 -- Why a partition isn't made.
-use Rattle.std.proofs.Common.{◌≡◌, ◌≤◌, ℕ, [], drop, None, Result, Err, inl, inr, refl, sym, ap, ◌∙◌, subst, arith, true, false, true≢false}
+use Rattle.std.proofs.Common.{◌≡◌, ◌≤◌, ℕ, [], drop, None, Result, Err, inl, inr, refl, sym, ap, ◌∙◌, subst, arith, true≢false}
 use Rattle.std.proofs.lemmas.Int.{ints}
 use Rattle.std.specs.Prelude.{length}
 use Rattle.std.specs.List.{list_all}

@@ -10,11 +10,10 @@ use Rattle.hy_rows.specs.Tables.{Lists, Tables, of_warehouse}
 use Rattle.hy_schema.specs.Loads.{IsLoad}
 use Rattle.hy_schema.specs.declared.refusal.Refusal.{Refusal}
 use Rattle.hy_commands.specs.declared.command.Command.{Command}
-use Rattle.hy_commands.specs.declared.command.Command.TheVariants as commands
 use Rattle.hy_commands.specs.declared.command.Commit.{Commit}
 use Rattle.hy_commands.specs.declared.command.Commit.TheVariants as commits
 use Rattle.hy_commands.specs.declared.edition.Edition.{Edition}
-use Rattle.hy_commands.specs.Commands.{is_reader, kept_of}
+use Rattle.hy_commands.specs.Commands.{is_reader, kept_of, slice_count}
 use Rattle.hy_commands.specs.Growth.{HasGrownBy}
 use Rattle.hy_commands.specs.Invariant.{IsSoundWarehouse}
 use Rattle.hy_commands.specs.Parts.{database_of, part, part_unless, refusal_in}
@@ -23,7 +22,8 @@ use Rattle.hy_commands.specs.Transactions.{Outcome, accepted, act, begin_refusal
 use Rattle.hy_commands.proofs.Grown.{grown-rows}
 use Rattle.hy_commands.proofs.GrowthLaws.{grown-later}
 use Rattle.hy_commands.proofs.Kept.{sound-rows as sound-committed_rows}
-use Rattle.hy_slices.specs.Slices.{after_slices, has_item_at, has_items_before, slice_count}
+use Rattle.hy_database.proofs.PartLaws.{reader-leaves}
+use Rattle.hy_slices.specs.Slices.{after_slices, has_item_at, has_items_before}
 use Rattle.hy_slices.proofs.GrowingSlices.{grown-between}
 use Rattle.hy_slices.proofs.SliceLaws.{slices-act, slices-refused}
 use Rattle.hy_layout.specs.Layout.{KeepsPlaces}
@@ -142,15 +142,8 @@ act-reader items number edition command tables reads =
     elim (refusal_of items number command tables) as
     (λ r. (outcome_of r items number edition command tables).tables ≡ tables) [
       | Some refusal ↦ refl
-      | None ↦ reader command reads
+      | None ↦ reader-leaves items number edition command tables reads
     ]
-  where
-    reader : (command : Command) → is_reader command ≡ true → (accepted items number edition command tables).tables ≡ tables
-    reader (commands.OrderStatus status) reads = refl
-    reader (commands.StockLevel level) reads = refl
-    reader (commands.NewOrder order) reads = absurd (cc)
-    reader (commands.Payment payment) reads = absurd (cc)
-    reader (commands.Delivery delivery) reads = absurd (cc)
 
 pub replay-kept_of : (lists : Lists) (number : ℕ) (loaded : Tables) (kept : List Commit) (edition : Edition)
     (command : Command)

@@ -1,5 +1,5 @@
 -- A partition stays sound: as a job begins, ends or is refused, and as a snapshot is opened or closed.
-use Rattle.std.proofs.Common.{◌≡◌, ℕ, zero, suc, ◌+◌, ◌<◌, ◌≤◌, true, false, cond, inl, inr, List, [], ◌∷◌, ◌++◌, length, map, take, Option, Some, None, refl, sym, ap, ◌∙◌, subst, arith, length-append, lit<}
+use Rattle.std.proofs.Common.{◌≡◌, ℕ, zero, suc, ◌+◌, ◌<◌, ◌≤◌, true, false, cond, inl, inr, List, [], ◌∷◌, ◌++◌, length, map, take, Option, Some, None, refl, sym, ap, ◌∙◌, subst, arith, length-append}
 use Rattle.std.specs.Prelude.{◌≢◌, IsNone, IsSome, IsSomeAnd, MatchOption, slice_index_or, slice_set}
 use Rattle.std.specs.Option.{option_map, ForSome}
 use Rattle.std.proofs.lemmas.List.{append-nil, get_or_past}
@@ -10,16 +10,15 @@ use Rattle.hy_rows.specs.Spelling.{Spells}
 use Rattle.hy_rows.specs.Tables.{Tables}
 use Rattle.hy_schema.specs.Loads.{IsLoad}
 use Rattle.hy_commands.specs.declared.command.Command.{Command}
-use Rattle.hy_commands.specs.declared.command.Command.TheVariants as commands
 use Rattle.hy_commands.specs.declared.command.Commit.{Commit}
 use Rattle.hy_commands.specs.declared.command.Commit.TheVariants as commits
 use Rattle.hy_commands.specs.declared.edition.Edition.{Edition}
-use Rattle.hy_commands.specs.Commands.{is_reader, kept_of}
+use Rattle.hy_commands.specs.Commands.{is_reader, kept_of, slice_count}
 use Rattle.hy_commands.specs.Growth.{HasGrownBy}
 use Rattle.hy_commands.specs.Invariant.{IsSoundWarehouse}
 use Rattle.hy_commands.specs.Transactions.{begin_refusal_of}
-use Rattle.hy_slices.specs.Slices.{has_items_before, slice_count}
-use Rattle.hy_slices.proofs.SliceLaws.{slices-act, slices-not_refused}
+use Rattle.hy_slices.specs.Slices.{has_items_before}
+use Rattle.hy_slices.proofs.SliceLaws.{first_slice, slices-act, slices-not_refused}
 use Rattle.hy_space.specs.Space.{SpaceState, SameForChildren, SameForOthers, SameForOwner, IsLeastFree, child_bytes, child_table, owner_bytes, table_bytes}
 use Rattle.hy_undo.specs.UndoLog.{UndoLog, undone, empty_log}
 use Rattle.hy_undo.specs.PrivatePages.{IsUndoLog}
@@ -71,14 +70,6 @@ kept-within edition command kept most within below =
       | true ↦ λ reads. omega (arith, within, ap length (append-nil kept))
       | false ↦ λ writes. omega (arith, below writes, length-append kept (commits.Local edition command ∷ []))
     ] refl
-
--- each command has a slice
-first_slice : (command : Command) → 0 < slice_count command
-first_slice (commands.NewOrder order) = omega arith
-first_slice (commands.Payment payment) = lit< tt
-first_slice (commands.OrderStatus status) = lit< tt
-first_slice (commands.Delivery delivery) = lit< tt
-first_slice (commands.StockLevel level) = lit< tt
 
 module _ (n room : ℕ) (executor : ExecutorState) (p : PartitionState) (sound : IsSound n room executor p) where
   idles : p.running ≡ None → IsIdle n room p

@@ -9,9 +9,9 @@ use Rattle.hy_schema.specs.declared.refusal.Refusal.{Refusal}
 use Rattle.hy_schema.specs.declared.refusal.Refusal.TheVariants as refusals
 use Rattle.hy_commands.specs.declared.command.Commit.{Commit}
 use Rattle.hy_commands.specs.declared.reply.Reply.{Reply}
-use Rattle.hy_commands.specs.Commands.{kept_of}
+use Rattle.hy_commands.specs.Commands.{kept_of, slice_count}
 use Rattle.hy_commands.specs.Transactions.{Outcome}
-use Rattle.hy_slices.specs.Slices.{has_item_at, has_items_before, slice_count}
+use Rattle.hy_slices.specs.Slices.{has_item_at, has_items_before}
 use Rattle.hy_slices.proofs.SliceLaws.{slices-refused}
 use Rattle.hy_space.specs.Space.{CountsAreExact, SpaceState, owner_bytes}
 use Rattle.hy_tpcc.specs.Stored.{HasStore, stored}

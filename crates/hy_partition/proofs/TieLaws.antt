@@ -28,7 +28,8 @@ use Rattle.hy_partition.specs.Partition.{PartState, PartitionState, commits_of, 
 use Rattle.hy_partition.specs.inside.Soundness.{IsSound, IsTied}
 use Rattle.hy_partition.specs.Parts.{with_part_entered}
 use Rattle.hy_partition.proofs.KnownLaws.{known-local}
-use Rattle.hy_partition.proofs.AccountLaws.{booked, booked-part, crossing-writes}
+use Rattle.hy_partition.proofs.AccountLaws.{booked, booked-part}
+use Rattle.hy_commands.proofs.NamedLaws.{several-writes}
 use Rattle.hy_partition.proofs.SoundLaws.{holds, part_idle, sound_now}
 
 -- a number that isn't out where no snapshot has it
@@ -196,7 +197,7 @@ module _ (world : Lists) (kit : Origin) (list : KeptState Commit) (desk : DeskSt
             (subst (λ b. IsBookOf p.load p.warehouse (p.kept ++ commits.Cross part.edition crossing part.command ∷ []) b)
             (sym more)
             (booked-part p.load p.warehouse p.kept p.book part.edition part.command crossing
-            (sound_now n room executor p sound) held.has_part.accepted (crossing-writes part.command held.has_part.crossing) tied.book));
+            (sound_now n room executor p sound) held.has_part.accepted (several-writes part.command held.has_part.crossing) tied.book));
       }
 
   -- a command was accepted

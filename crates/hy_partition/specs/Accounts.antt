@@ -5,9 +5,8 @@ use Rattle.hy_schema.specs.Conditions.{column_sum}
 use Rattle.hy_ledger.specs.Books.{BookState}
 use Rattle.hy_commands.specs.declared.command.Command.{Command}
 use Rattle.hy_commands.specs.declared.command.Commit.{Commit}
-use Rattle.hy_commands.specs.Commands.{command_of, home_of, is_reader}
+use Rattle.hy_commands.specs.Commands.{cents_of, command_of, home_of, is_reader}
 use Rattle.hy_commands.specs.Replay.{rows_after}
-use Rattle.hy_partition.specs.Jobs.{cents_of}
 
 -- the commits whose home a warehouse is
 abbrev pub home_commits : ℕ → List Commit → List Commit

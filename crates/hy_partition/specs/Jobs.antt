@@ -5,13 +5,11 @@ use Rattle.hy_passes.specs.declared.entry.Entry.{Entry}
 use Rattle.hy_ledger.specs.declared.view.ShareState.{ShareState}
 use Rattle.hy_schema.specs.declared.refusal.Refusal.{Refusal}
 use Rattle.hy_commands.specs.declared.command.Command.{Command}
-use Rattle.hy_commands.specs.declared.command.Command.TheVariants as commands
 use Rattle.hy_commands.specs.declared.command.Commit.{Commit}
 use Rattle.hy_commands.specs.declared.edition.Edition.{Edition}
 use Rattle.hy_commands.specs.declared.reply.Reply.{Reply}
 use Rattle.hy_commands.specs.declared.reply.Reply.TheVariants as replies
-use Rattle.hy_commands.specs.Commands.{is_reader, kept_of}
-use Rattle.hy_slices.specs.Slices.{slice_count}
+use Rattle.hy_commands.specs.Commands.{cents_of, is_reader, kept_of, slice_count}
 
 -- what a client has seen of the serial list of commits
 abbrev pub Log : Type 0
@@ -54,11 +52,6 @@ is_last job = job.slices + 1 == slice_count job.command
 abbrev pub entered_by : Edition → Command → PassState Commit → Log
 entered_by edition command pass =
     map (λ commit. record { commit = commit; stamp = length pass.seen }) (kept_of edition command)
-
--- the cents that it pays
-abbrev pub cents_of : Command → ℕ
-cents_of (commands.Payment payment) = payment.amount
-cents_of command = 0
 
 -- its share in the accounts of a warehouse
 abbrev pub share_of : ℕ → Command → Option ShareState

@@ -12,11 +12,10 @@ use Rattle.hy_commands.specs.declared.command.Command.{Command}
 use Rattle.hy_commands.specs.declared.command.Commit.{Commit}
 use Rattle.hy_commands.specs.declared.edition.Edition.{Edition}
 use Rattle.hy_commands.specs.declared.edition.Edition.TheVariants as editions
-use Rattle.hy_commands.specs.Commands.{kept_of, warehouses_of_commit}
+use Rattle.hy_commands.specs.Commands.{kept_of, slice_count, warehouses_of_commit}
 use Rattle.hy_commands.specs.Invariant.{MeetsOwnConditions}
 use Rattle.hy_commands.specs.Replay.{replay}
 use Rattle.hy_commands.specs.Transactions.{begin_refusal_of, refusal_of}
-use Rattle.hy_slices.specs.Slices.{slice_count}
 use Rattle.hy_space.specs.Space.{child_bytes}
 use Rattle.hy_partition.specs.Jobs.{Log, RunningJob}
 use Rattle.hy_partition.specs.Partition.{PartitionState, commits_of, projection_of}

@@ -9,10 +9,10 @@ use Rattle.hy_rows.specs.Tables.{Lists}
 use Rattle.hy_schema.specs.declared.refusal.Refusal.{Refusal}
 use Rattle.hy_schema.specs.declared.refusal.Refusal.TheVariants as refusals
 use Rattle.hy_commands.specs.declared.command.Command.{Command}
-use Rattle.hy_commands.specs.Commands.{is_reader, kept_of}
+use Rattle.hy_commands.specs.Commands.{is_reader, kept_of, slice_count}
 use Rattle.hy_commands.specs.Transactions.{begin_refusal_of}
 use Rattle.hy_frames.specs.FrameTable.{count_of, free_of}
-use Rattle.hy_slices.specs.Slices.{has_item_at, has_items_before, slice_count}
+use Rattle.hy_slices.specs.Slices.{has_item_at, has_items_before}
 use Rattle.hy_space.specs.Space.{AddsUsers, CountsAreExact, SameForChildren, SameForOwner, SameForOthers, IsLeastFree, DropsUsers, SpaceState, owner_bytes, child_bytes, child_table, child_times}
 use Rattle.hy_undo.specs.UndoLog.{UndoLog, undone, empty_log}
 use Rattle.hy_undo.specs.PrivatePages.{GivesUpPages}

@@ -5,9 +5,9 @@ ghost use mathlib.Core.List.{IsPrefix};
 ghost use Rattle.hy_passes.specs.SerialList.{max_commits};
 ghost use Rattle.hy_ledger.specs.Books.{max_cents, max_commits as most_entered};
 ghost use Rattle.hy_commands.specs.declared.command.Commit.TheVariants as commits;
-ghost use Rattle.hy_commands.specs.Commands.{is_reader, kept_of, warehouses_of};
+ghost use Rattle.hy_commands.specs.Commands.{cents_of, is_reader, kept_of, warehouses_of};
 ghost use Rattle.hy_partition.specs.Accounts.{with_command};
-ghost use Rattle.hy_partition.specs.Jobs.{accepted_answer, cents_of, entered_by};
+ghost use Rattle.hy_partition.specs.Jobs.{accepted_answer, entered_by};
 ghost use Rattle.hy_partition.specs.Partition.{projection_of};
 ghost use Rattle.hy_partition.specs.Parts.{share_of_part, with_part_entered};
 
@@ -16,16 +16,6 @@ use hy_commands::{Command, Commit, Edition, Reply};
 use hy_ledger::{Book, Share};
 use hy_passes::{Entry, Journal, KeptList, Pass};
 use hy_worlds::World;
-
-/// The cents that a command pays.
-fn cents_of(command: &Command) -> u64
-    ensures { result ≡ cents_of command.now }
-{
-    match command {
-        Command::Payment(payment) => payment.amount,
-        _ => 0,
-    }
-}
 
 /// The answer to an accepted command. It is kept, enters the serial list and the book, where it doesn't only read; list
 /// and client are told all of the serial list. Takes no memory.
@@ -107,7 +97,7 @@ fn keep<K: World>(
       share = Some (record { warehouse = book.old.warehouse; cents = cents_of command });
     } }
 {
-    let share = book.enter(cents_of(&command));
+    let share = book.enter(command.cents());
     let stamp = pass.known();
     let commit = Commit::Local(edition, command);
     kept.commit(journal, &mut pass, Entry { commit, stamp });
@@ -131,5 +121,5 @@ pub fn enter_part<K: World>(
     if command.home() != u64::from(warehouse) {
         return None;
     }
-    Some(book.enter(cents_of(command)))
+    Some(book.enter(command.cents()))
 }

@@ -2,13 +2,12 @@
 
 ghost use Rattle.std.specs.Prelude.{◌≡◌, ◌+◌, ◌<◌};
 ghost use Rattle.hy_commands.specs.declared.edition.Edition.TheVariants as editions;
-ghost use Rattle.hy_slices.specs.Slices.{slice_count};
+ghost use Rattle.hy_commands.specs.Commands.{slice_count};
 ghost use Rattle.hy_partition.specs.Jobs.{begun, is_last, refused_answer, with_slice_done};
 
 use hy_commands::{Command, Commit, Edition, Reply};
 use hy_ledger::Share;
 use hy_passes::Pass;
-use hy_rows::DISTRICTS_PER_WAREHOUSE;
 use hy_schema::Refusal;
 use hy_worlds::World;
 use std::marker::Model;
@@ -222,7 +221,7 @@ impl<K: World> Running<K> {
         requires { self.old.slices < slice_count self.old.command }
         ensures { self.new ≡ with_slice_done self.old }
     {
-        let _count = slice_count(&self.command);
+        let _count = self.command.slices();
         self.slices += 1;
     }
 
@@ -261,18 +260,6 @@ impl<K: World> Running<K> {
         requires { self.now.slices < slice_count self.now.command }
         ensures { result ≡ is_last self.now }
     {
-        slice_count(&self.command) - self.slices == 1
-    }
-}
-
-/// How many slices a command has.
-fn slice_count(command: &Command) -> u64
-    ensures { result ≡ slice_count command.now }
-{
-    match command {
-        Command::NewOrder(order) => order.lines.len() as u64 + 1,
-        Command::Payment(_) => 2,
-        Command::OrderStatus(_) | Command::StockLevel(_) => 1,
-        Command::Delivery(_) => u64::from(DISTRICTS_PER_WAREHOUSE),
+        self.command.slices() - self.slices == 1
     }
 }

@@ -10,7 +10,6 @@ mod snapshot;
 mod unsettled;
 mod world;
 
-pub use hy_tpcc::has_districts;
 pub use job::{Done, Job, Progress};
 pub use partition::Partition;
 pub use schedules::{calls_are_events, every_schedule};

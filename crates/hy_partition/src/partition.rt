@@ -10,8 +10,7 @@ ghost use Rattle.hy_frames.specs.FrameTable.{free_of, shared_of, IsLimitFor, IsP
 ghost use Rattle.hy_schema.specs.Loads.{IsLoad};
 ghost use Rattle.hy_schema.specs.declared.refusal.Refusal.{Refusal};
 ghost use Rattle.hy_commands.specs.declared.command.Commit.TheVariants as commits;
-ghost use Rattle.hy_commands.specs.Commands.{is_reader};
-ghost use Rattle.hy_commands.specs.Parts.{customer_home_of};
+ghost use Rattle.hy_commands.specs.Commands.{customer_home_of, is_reader};
 ghost use Rattle.hy_commands.specs.Transactions.{has_items};
 ghost use Rattle.hy_tpcc.specs.Parts.{DoesPart as DoesStoredPart, FindsPayer, HasPart, reply_of_part};
 ghost use Rattle.hy_commands.specs.Growth.{HasGrownBy};

@@ -13,7 +13,7 @@ use Rattle.hy_rows.specs.Tables.{Tables}
 use Rattle.hy_schema.specs.declared.refusal.Refusal.{Refusal}
 use Rattle.hy_schema.specs.declared.refusal.Refusal.TheVariants as refusals
 use Rattle.hy_recovery.specs.of_partition.Jobs.{RunningJob}
-use Rattle.hy_slices.specs.Slices.{slice_count}
+use Rattle.hy_commands.specs.Commands.{slice_count}
 use Rattle.hy_recovery.specs.of_partition.Steps.{begin_refusal}
 use Rattle.hy_rows.specs.Spelling.{tables_of}
 use Rattle.hy_recovery.specs.of_partition.Partition.{PartitionState, refusal_now, terms_of}

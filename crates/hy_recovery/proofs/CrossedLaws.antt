@@ -17,11 +17,14 @@ use Rattle.hy_commands.specs.declared.reply.Reply.TheVariants as replies
 use Rattle.hy_commands.specs.declared.edition.Edition.{Edition}
 use Rattle.hy_commands.specs.declared.edition.Edition.TheVariants as editions
 use Rattle.hy_commands.specs.Customers.{customer_meant}
-use Rattle.hy_commands.specs.Parts.{Database, customer_home_of, database_of, is_by_number, refusal_in}
+use Rattle.hy_commands.specs.declared.command.Payment.{Payment}
+use Rattle.hy_commands.specs.inside.Kinds.{by_payment}
+use Rattle.hy_commands.specs.Commands.{customer_home_of}
+use Rattle.hy_commands.specs.Parts.{Database, database_of, is_by_number, refusal_in}
 use Rattle.hy_commands.specs.Transactions.{has_customer}
 use Rattle.hy_commands.proofs.AcceptedLaws.{accepted-in}
 use Rattle.hy_database.specs.Database.{act_on_all, customer_rows, kept_in, whole_outcome}
-use Rattle.hy_database.proofs.PartLaws.{number-chosen}
+use Rattle.hy_database.proofs.PartLaws.{accepted-reply, number-chosen, same-numbered}
 use Rattle.hy_batches.specs.Grammar.{names}
 use Rattle.hy_space.specs.Space.{SpaceState}
 use Rattle.hy_forks.specs.of_partition.Headline.{Headline}
@@ -36,7 +39,7 @@ use Rattle.hy_forks.proofs.of_crossing.InformLaws.{some-two}
 use Rattle.hy_forks.proofs.of_crossing.PairLaws.{pairs-then}
 use Rattle.hy_recovery.specs.inside.Ways.{CanRunCrossing, Enters, IsAlone, IsAtRest, IsShortage, KeepsWhereNamed, SomeHasNoFrame}
 use Rattle.hy_recovery.proofs.FrameLaws.{part-no-frame, some-lacks}
-use Rattle.hy_recovery.proofs.LocalLaws.{accepted-reply, none-is}
+use Rattle.hy_recovery.proofs.LocalLaws.{none-is}
 use Rattle.hy_recovery.proofs.PlaceLaws.{at-place, pairs-at, pairs-each, pairs-weaker}
 
 -- ---- nothing runs, so nothing ends
@@ -86,30 +89,35 @@ module _ (database : Database) (command : Command) (unrefused : refusal_in datab
 
 pub kept-same : (database : Database) (command : Command) → refusal_in database command ≡ None
     → is_by_number command ≡ true → kept_in database command ≡ command
-kept-same database (commands.NewOrder order) unrefused numbered = refl
-kept-same database (commands.Delivery delivery) unrefused numbered = refl
-kept-same database (commands.OrderStatus status) unrefused numbered = refl
-kept-same database (commands.StockLevel level) unrefused numbered = refl
-kept-same database (commands.Payment payment) unrefused numbered = by payment.who refl
+kept-same database =
+    by_payment (λ command. refusal_in database command ≡ None → is_by_number command ≡ true
+    → kept_in database command ≡ command) of_payment
+    (λ command nobody unrefused numbered. same-numbered command nobody (customer_rows command database))
   where
-    tables : Tables
-    tables = customer_rows (commands.Payment payment) database
+    of_payment : (payment : Payment) → refusal_in database (commands.Payment payment) ≡ None
+        → is_by_number (commands.Payment payment) ≡ true
+        → kept_in database (commands.Payment payment) ≡ commands.Payment payment
+    of_payment payment unrefused numbered = by payment.who refl
+      where
+        tables : Tables
+        tables = customer_rows (commands.Payment payment) database
 
-    by : (whom : Who) → payment.who ≡ whom → kept_in database (commands.Payment payment) ≡ commands.Payment payment
-    by (who.Last name) is =
-        absurd (false≢true (sym (ap (λ w. is_by_number (commands.Payment record payment { who = w })) is) ∙ numbered))
-    by (who.Number number) is =
-        let meant : Who → Customer =
-        λ w. unwrap_or (customer_meant payment.customer_warehouse payment.customer_district w tables.customers) (customer_of []) in
-        let found : is_some (customer_meant payment.customer_warehouse payment.customer_district (who.Number number)
-        tables.customers) ≡ true =
-        ap (λ w. is_some (customer_meant payment.customer_warehouse payment.customer_district w tables.customers)) (sym is)
-        ∙ there database (commands.Payment payment) unrefused in
-        let same : (meant payment.who).id ≡ number =
-        ap (λ w. (meant w).id) is
-        ∙ number-chosen payment.customer_warehouse payment.customer_district tables.customers number found in
-        ap (λ n. commands.Payment record payment { who = who.Number n }) same
-        ∙ ap (λ w. commands.Payment record payment { who = w }) (sym is)
+        by : (whom : Who) → payment.who ≡ whom → kept_in database (commands.Payment payment) ≡ commands.Payment payment
+        by (who.Last name) is =
+            absurd (false≢true (sym (ap (λ w. is_by_number (commands.Payment record payment { who = w })) is) ∙ numbered))
+        by (who.Number number) is =
+            let meant : Who → Customer =
+            λ w. unwrap_or (customer_meant payment.customer_warehouse payment.customer_district w tables.customers)
+            (customer_of []) in
+            let found : is_some (customer_meant payment.customer_warehouse payment.customer_district (who.Number number)
+            tables.customers) ≡ true =
+            ap (λ w. is_some (customer_meant payment.customer_warehouse payment.customer_district w tables.customers)) (sym is)
+            ∙ there database (commands.Payment payment) unrefused in
+            let same : (meant payment.who).id ≡ number =
+            ap (λ w. (meant w).id) is
+            ∙ number-chosen payment.customer_warehouse payment.customer_district tables.customers number found in
+            ap (λ n. commands.Payment record payment { who = who.Number n }) same
+            ∙ ap (λ w. commands.Payment record payment { who = w }) (sym is)
 
 -- ---- which are full
 

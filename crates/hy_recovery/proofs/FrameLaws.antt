@@ -1,6 +1,6 @@
 -- Where no frame is left: on which pages a command lacked one, and for which commit of a list.
-use Rattle.std.proofs.Common.{◌≡◌, ℕ, suc, Bool, true, false, List, [], ◌∷◌, ◌++◌, slice_get, Option, Some, None, inl, inr, refl, sym, ap, ◌∙◌, subst}
-use Rattle.std.specs.Prelude.{IsNone, IsSome, MatchOption, slice_index_or}
+use Rattle.std.proofs.Common.{◌≡◌, ℕ, suc, Bool, true, false, List, [], ◌∷◌, ◌++◌, length, slice_get, Option, Some, None, inl, inr, refl, sym, ap, ◌∙◌, subst}
+use Rattle.std.specs.Prelude.{nat_lt, IsNone, IsSome, MatchOption, slice_index_or}
 use Rattle.std.specs.Option.{option_map}
 use mathlib.Core.List.{IsPrefix}
 use Rattle.std.proofs.lemmas.Bool.{false≢true}
@@ -13,7 +13,7 @@ use Rattle.hy_undo.specs.UndoLog.{UndoLog, undone}
 use Rattle.hy_undo.proofs.RollBackLaws.{undone-empty_log}
 use Rattle.hy_passes.proofs.Beginnings.{begins_itself, begins_longer}
 use Rattle.hy_commands.specs.declared.command.Command.{Command}
-use Rattle.hy_commands.specs.declared.command.Command.TheVariants as commands
+use Rattle.hy_commands.specs.inside.Kinds.{by_several}
 use Rattle.hy_commands.specs.declared.command.Commit.{Commit}
 use Rattle.hy_forks.specs.of_tpcc.Shortages.{adds_no_page}
 use Rattle.hy_batches.specs.Grammar.{names_several}
@@ -106,11 +106,11 @@ some-lacks (old ∷ olds) [] lacks = absurd lacks
 
 -- a command of several warehouses is none that adds no page
 pub several-add : (command : Command) → names_several command ≡ true → (done : ℕ) × (adds_no_page command done ≡ false)
-several-add (commands.NewOrder order) several = (0, refl)
-several-add (commands.Payment payment) several = (0, refl)
-several-add (commands.OrderStatus status) several = (0, refl)
-several-add (commands.StockLevel level) several = (0, refl)
-several-add (commands.Delivery delivery) several = absurd (false≢true several)
+several-add =
+    by_several (λ command. names_several command ≡ true → (done : ℕ) × (adds_no_page command done ≡ false))
+    (λ order several. (0, refl)) (λ payment several. (0, refl))
+    (λ command home several.
+    absurd (false≢true (sym (ap (λ names. nat_lt 1 (length names)) home.warehouses) ∙ several)))
 
 -- the same of a partition whose values are named
 pub named-no-frame : (n : ℕ) (p : PartitionState) (lists : Lists) (frames number : ℕ) (kept : List Commit) (terms : Terms)

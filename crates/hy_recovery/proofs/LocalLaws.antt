@@ -4,26 +4,26 @@ use Rattle.std.specs.Prelude.{MatchOption, nat_lt}
 use Rattle.std.specs.List.{list_all, list_any}
 use Rattle.std.proofs.lemmas.Bool.{and_parts, eqb-true, ltb-false, ne_eqb, false≢true}
 use Rattle.hy_rows.specs.Tables.{Tables, of_warehouse}
-use Rattle.hy_rows.specs.declared.item.Item.{Item}
 use Rattle.hy_schema.specs.declared.refusal.Refusal.{Refusal}
 use Rattle.hy_schema.specs.declared.refusal.Refusal.TheVariants as refusals
 use Rattle.hy_passes.specs.Worlds.{PassState}
 use Rattle.hy_commands.specs.declared.command.Command.{Command}
-use Rattle.hy_commands.specs.declared.command.Command.TheVariants as commands
 use Rattle.hy_commands.specs.declared.command.Commit.{Commit}
 use Rattle.hy_commands.specs.declared.command.Commit.TheVariants as commits
 use Rattle.hy_commands.specs.declared.reply.Reply.TheVariants as replies
 use Rattle.hy_commands.specs.declared.edition.Edition.{Edition}
 use Rattle.hy_commands.specs.declared.edition.Edition.TheVariants as editions
-use Rattle.hy_commands.specs.Commands.{is_in_range, is_reader, kept_of, warehouses_of}
+use Rattle.hy_commands.specs.Commands.{customer_home_of, is_in_range, is_reader, kept_of, warehouses_of}
 use Rattle.hy_commands.specs.Customers.{identity_of}
-use Rattle.hy_commands.specs.Parts.{customer_home_of, database_of, is_there, refusal_in, rows_of}
-use Rattle.hy_commands.specs.Transactions.{accepted, begin_refusal_of, has_customer, has_items, outcome_of}
+use Rattle.hy_commands.specs.Parts.{database_of, is_there, refusal_in, rows_of}
+use Rattle.hy_commands.specs.Transactions.{begin_refusal_of, has_customer, has_items, outcome_of}
 use Rattle.hy_commands.proofs.AcceptedLaws.{IsAcceptedIn, accepted-in}
 use Rattle.hy_commands.proofs.DatabaseLaws.{rows-load, there-load}
 use Rattle.hy_commands.proofs.SameCustomers.{has_customer-same, same-customers}
-use Rattle.hy_database.proofs.PartLaws.{named-customer_home}
+use Rattle.hy_commands.proofs.NamedLaws.{named-customer_home}
 use Rattle.hy_batches.specs.Grammar.{command_fits, is_allowed, names, names_several}
+use Rattle.hy_database.proofs.PartLaws.{accepted-reply}
+use Rattle.hy_forks.proofs.FitsLaws.{fits-writes}
 use Rattle.hy_forks.specs.of_partition.Headline.{Headline}
 use Rattle.hy_forks.specs.of_partition.Jobs.{DoneState, JobState, Log, begun, entered_by}
 use Rattle.hy_forks.specs.of_partition.Partition.{PartitionState, may_run, outcome_now, refusal_now, rows_now, terms_of}
@@ -55,13 +55,6 @@ only-name (name ∷ other ∷ named) warehouse few there =
     let most = ltb-false 1 (length (name ∷ other ∷ named)) few in
     absurd (omega (arith, most))
 
-pub reads-not : (command : Command) → command_fits command ≡ true → is_reader command ≡ false
-reads-not (commands.NewOrder order) fits = refl
-reads-not (commands.Payment payment) fits = refl
-reads-not (commands.Delivery delivery) fits = refl
-reads-not (commands.OrderStatus status) fits = absurd (false≢true fits)
-reads-not (commands.StockLevel level) fits = absurd (false≢true fits)
-
 pub kept-one : (edition : Edition) (command : Command) → is_reader command ≡ false
     → kept_of edition command ≡ commits.Local edition command ∷ []
 kept-one edition command writes = ap (λ b. cond b [] (commits.Local edition command ∷ [])) writes
@@ -85,7 +78,7 @@ module _ (edition : Edition) (command : Command) (p : PartitionState) (can : Can
       (and_parts (is_in_range command) (names command w) several.0).1
 
   pub writes : is_reader command ≡ false
-  writes = reads-not command both.1
+  writes = fits-writes command both.1
 
   loaded : IsAcceptedIn (database_of p.load) command
   loaded = accepted-in (database_of p.load) command (none-is (refusal_in (database_of p.load) command) can.known)
@@ -136,14 +129,6 @@ module _ (edition : Edition) (command : Command) (p : PartitionState) (can : Can
   ]
 
 -- ---- replies
-
-pub accepted-reply : (items : List Item) (warehouse : ℕ) (edition : Edition) (command : Command) (tables : Tables) (why : Refusal)
-    → (accepted items warehouse edition command tables).reply ≡ replies.Refused why → ⊥
-accepted-reply items warehouse edition (commands.NewOrder order) tables why is = absurd (cc)
-accepted-reply items warehouse edition (commands.Payment payment) tables why is = absurd (cc)
-accepted-reply items warehouse edition (commands.OrderStatus status) tables why is = absurd (cc)
-accepted-reply items warehouse edition (commands.Delivery delivery) tables why is = absurd (cc)
-accepted-reply items warehouse edition (commands.StockLevel level) tables why is = absurd (cc)
 
 -- ---- how it ends
 

@@ -31,7 +31,7 @@ pairs-turned step relation leads number before after (old ∷ olds) (new ∷ new
 )
 
 -- it was told the serial list
-keeps-told : (log : Log) (old new : PartitionState) → new ≡ record old { seen = log } → KeepsServed old new
+pub keeps-told : (log : Log) (old new : PartitionState) → new ≡ record old { seen = log } → KeepsServed old new
 keeps-told log old new tells = record {
   max_frames = ap (λ (p : PartitionState). p.space.frames.max) tells;
   passes = λ few. rw tells refl;

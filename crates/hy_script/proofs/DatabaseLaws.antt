@@ -1,6 +1,6 @@
 -- Partitions with their terminals, one at each place.
 use Rattle.std.proofs.Common.{◌≡◌, ◌∙◌, ◌<◌, ℕ, zero, suc, List, [], ◌∷◌, Option, Result, All, IfSome, OnOk, length, slice_get, slice_index_or, slice_set, ap, arith, refl, subst, sym}
-use Rattle.std.proofs.lemmas.List.Elements.{All-head, All-tail}
+use Rattle.std.proofs.lemmas.List.Elements.{All-cons, All-head, All-nil, All-tail}
 use Rattle.hy_rows.specs.Tables.{Lists}
 use Rattle.hy_session.specs.of_partition.Partition.{PartitionState}
 use Rattle.hy_session.specs.of_partition.Steps.{Begins}
@@ -9,7 +9,7 @@ use Rattle.hy_session.specs.of_crossing.Making.{AllBegin}
 use Rattle.hy_session.proofs.of_crossing.PlaceLaws.{get-at}
 use Rattle.hy_script.specs.declared.answer.Request.{Request}
 use Rattle.hy_script.specs.declared.terminal.Terminal.{Terminal}
-use Rattle.hy_script.specs.Databases.{DatabaseState, with_part}
+use Rattle.hy_script.specs.Databases.{DatabaseState, IsAtRest, with_part}
 use Rattle.hy_script.specs.Printed.{IsAsked, IsGranted}
 use Rattle.hy_script.specs.inside.Invariants.{AreServed, IsReady, IsServed, IsServedAt}
 use Rattle.hy_script.proofs.CrossedLaws.{Keeps}
@@ -56,34 +56,43 @@ module _ {K : Type 0} where
     served-pairs (suc number) olds news terminals keeps.1 served.1,
   )
 
--- ---- the partitions of a load
+-- ---- partitions at rest
 
--- a new partition, with a terminal that has the pass
-served-start : {K : Type 0} (lists : Lists) (number frames commits : ℕ) (p : PartitionState) (terminal : Terminal K)
-    → Begins lists number frames commits p → IsReady frames terminal → IsServed p terminal
-served-start lists number frames commits p terminal begins ready = record {
-  max_frames = begins.max_frames ∙ sym ready.max_frames;
-  one_pass = rw (begins.running, begins.finished) (held-some terminal.pass ready.pass);
+-- one of them, with a terminal that has the pass
+served-start : {K : Type 0} (frames : ℕ) (p : PartitionState) (terminal : Terminal K) → IsAtRest frames p
+    → IsReady frames terminal → IsServed p terminal
+served-start frames p terminal rest ready = record {
+  max_frames = rest.max_frames ∙ sym ready.max_frames;
+  one_pass = rw (rest.running, rest.finished) (held-some terminal.pass ready.pass);
 }
 
 -- and each of them
-served-begun : {K : Type 0} (lists : Lists) (frames commits : ℕ) (number : ℕ → ℕ) (parts : List PartitionState)
-    (terminals : List (Terminal K)) → ((place : ℕ) → IfSome (slice_get parts place) (Begins lists (number place) frames commits))
-    → length terminals ≡ length parts → All (IsReady frames) terminals → AreServed parts terminals
-served-begun lists frames commits number [] [] begins count ready = tt
-served-begun lists frames commits number [] (terminal ∷ terminals) begins count ready = absurd (omega (arith, count))
-served-begun lists frames commits number (p ∷ parts) [] begins count ready = absurd (omega (arith, count))
-served-begun lists frames commits number (p ∷ parts) (terminal ∷ terminals) begins count ready = (
-  served-start lists (number 0) frames commits p terminal (begins 0) (All-head (IsReady frames) terminal terminals ready),
-  served-begun lists frames commits (λ place. number (suc place)) parts terminals (λ place. begins (suc place))
-      (omega (arith, count)) (All-tail (IsReady frames) terminal terminals ready),
+pub served-rest : {K : Type 0} (frames : ℕ) (parts : List PartitionState) (terminals : List (Terminal K))
+    → All (IsAtRest frames) parts → length terminals ≡ length parts → All (IsReady frames) terminals
+    → AreServed parts terminals
+served-rest frames [] [] rest count ready = tt
+served-rest frames [] (terminal ∷ terminals) rest count ready = absurd (omega (arith, count))
+served-rest frames (p ∷ parts) [] rest count ready = absurd (omega (arith, count))
+served-rest frames (p ∷ parts) (terminal ∷ terminals) rest count ready = (
+  served-start frames p terminal (All-head (IsAtRest frames) p parts rest)
+      (All-head (IsReady frames) terminal terminals ready),
+  served-rest frames parts terminals (All-tail (IsAtRest frames) p parts rest) (omega (arith, count))
+      (All-tail (IsReady frames) terminal terminals ready),
 )
 
-pub served-all : {K : Type 0} (lists : Lists) (frames commits : ℕ) (parts : List PartitionState)
-    (terminals : List (Terminal K)) → AllBegin lists frames commits parts → length terminals ≡ length parts
-    → All (IsReady frames) terminals → AreServed parts terminals
-served-all lists frames commits parts terminals begin count ready =
-    served-begun lists frames commits suc parts terminals begin.each count ready
+-- those of a load are at rest
+rest-begun : (lists : Lists) (frames commits : ℕ) (number : ℕ → ℕ) (parts : List PartitionState)
+    → ((place : ℕ) → IfSome (slice_get parts place) (Begins lists (number place) frames commits))
+    → All (IsAtRest frames) parts
+rest-begun lists frames commits number [] begins = All-nil (IsAtRest frames)
+rest-begun lists frames commits number (p ∷ parts) begins =
+    All-cons (IsAtRest frames) p parts
+    (record { running = (begins 0).running; finished = (begins 0).finished; max_frames = (begins 0).max_frames })
+    (rest-begun lists frames commits (λ place. number (suc place)) parts (λ place. begins (suc place)))
+
+pub rest-all : (lists : Lists) (frames commits : ℕ) (parts : List PartitionState) → AllBegin lists frames commits parts
+    → All (IsAtRest frames) parts
+rest-all lists frames commits parts begin = rest-begun lists frames commits suc parts begin.each
 
 -- ---- what was asked of the partition at a place was asked of that of its number
 

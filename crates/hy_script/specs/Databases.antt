@@ -4,6 +4,12 @@ use Rattle.hy_session.specs.of_partition.Jobs.{Log}
 use Rattle.hy_session.specs.of_partition.Partition.{PartitionState}
 use Rattle.hy_session.specs.of_partition.Snapshots.{SnapshotState}
 
+-- nothing runs in a partition, no answer waits there, and this is its limit on frames
+pub record IsAtRest (frames : ℕ) (p : PartitionState) : Type 0 where
+  pub running : p.running ≡ None
+  pub finished : p.finished ≡ None
+  pub max_frames : p.space.frames.max ≡ frames
+
 -- a snapshot of the whole database, one of each warehouse in order, under its name
 pub record OpenSnapshot : Type 0 where
   pub name : List ℕ

@@ -1,6 +1,7 @@
 //! The database of a script: its partitions, and the snapshots that are open.
 
-ghost use Rattle.std.specs.Prelude.{◌≡◌, ℕ, suc, ◌+◌, ◌<◌, ◌≤◌, ◌++◌, ◌∷◌, [], true, IfErr, IfOk, IsSomeAnd, IsTrue, List, MatchOption, None, OnErr, OnOk, is_some, length, map, remove, slice_get};
+ghost use Rattle.std.specs.Prelude.{◌≡◌, ℕ, suc, ◌+◌, ◌<◌, ◌≤◌, ◌++◌, ◌∷◌, [], true, All, IfErr, IfOk, IsSomeAnd, IsTrue, List, MatchOption, None, OnErr, OnOk, is_some, length, map, remove, slice_get};
+ghost use mathlib.Core.List.{IsPrefix};
 ghost use Rattle.std.specs.List.{flat_map, range_with_len};
 ghost use Rattle.std.specs.Io.KnownBytes.{Appends};
 ghost use Rattle.hy_passes.specs.Worlds.{new_partition};
@@ -9,24 +10,27 @@ ghost use Rattle.hy_frames.specs.FrameTable.{IsPageSize, max_frames as most_fram
 ghost use Rattle.hy_session.specs.of_partition.Limits.{most_kept};
 ghost use Rattle.hy_session.specs.of_crossing.Lists.{Pairwise};
 ghost use Rattle.hy_session.specs.of_crossing.Making.{IsWhyNoneMade};
+ghost use Rattle.hy_batches.specs.Batches.{Batch as BatchState};
+ghost use Rattle.hy_session.specs.of_forks.Drains.{TellsHere, are_new, drained_of};
+ghost use Rattle.hy_session.specs.of_forks.Logged.{SaySame};
 ghost use Rattle.hy_session.specs.of_forks.Forks.{IsUnforked, IsUnforkedUntold, IsWhyUnforked};
 ghost use Rattle.hy_script.specs.Answers.{AnswersCheck, AnswersQuery, commits_text, snapshot_text};
-ghost use Rattle.hy_script.specs.Databases.{HasName, IsNameAt, OpenSnapshot, part_at};
+ghost use Rattle.hy_script.specs.Databases.{HasName, IsAtRest, IsNameAt, OpenSnapshot, part_at};
 ghost use Rattle.hy_script.specs.Printed.{IsAsked, IsWritten};
 ghost use Rattle.hy_script.specs.Scripts.{StartsFrom};
 ghost use Rattle.hy_script.specs.Steps.{ClosesAt, Opens, OpensFrom, RunsAcross, is_crossing};
 
 use crate::answer::{Request, grant, write_answer, write_refused};
-use crate::named::{Named, place_of_name};
+use crate::named::{Named, copy_of, place_of_name};
 use crate::terminal::{Terminal, terminals_of};
 use hy_commands::{Command, Commit, Reply};
 use hy_events::{QueryText, SnapshotName};
 use hy_loads::Load;
 use hy_output::Output;
-use hy_passes::{Journal, PartitionSeat, Pass};
+use hy_passes::{Cursor, Journal, PartitionSeat, Pass};
 use hy_schema::Refusal;
 use hy_session::Session;
-use hy_session::hy_forks::OwnPartitions;
+use hy_session::hy_forks::{Batch, OwnPartitions};
 use hy_session::hy_partition::{Job, Loaded, Snapshot};
 use std::alloc::Global;
 use std::io;
@@ -35,16 +39,16 @@ use std::marker::Model;
 /// The partitions of the warehouses in order, each with its terminal; the snapshots that are open, in the order of
 /// their forks; the journal of the commits, and the pass of the client who takes the snapshots and runs the commands
 /// over several warehouses, which is always here between calls. It is given up by `end`.
-pub struct Database<'a, const N: usize, K: Loaded> {
+pub struct Database<const N: usize, K: Loaded> {
     partitions: OwnPartitions<N, K>,
     terminals: Vec<Terminal<K>>,
-    snapshots: Vec<Named<'a, N>>,
+    snapshots: Vec<Named<N>>,
     journal: Journal<Commit, K>,
     pass: Option<Pass<Commit, K>>,
 }
 
 // Clauses see all but the terminals and the pass; `specs/Databases.antt` has the words.
-impl<'a, const N: usize, K: Loaded> Model for Database<'a, N, K> {
+impl<const N: usize, K: Loaded> Model for Database<N, K> {
     ghost use Rattle.hy_script.specs.Databases.{DatabaseState};
     ghost use Rattle.hy_script.specs.inside.Invariants.{IsDatabase};
 
@@ -60,7 +64,7 @@ impl<'a, const N: usize, K: Loaded> Model for Database<'a, N, K> {
         database.snapshots.items database.pass };
 }
 
-impl<'a, const N: usize, K: Loaded> Database<'a, N, K> {
+impl<const N: usize, K: Loaded> Database<N, K> {
     /// The partitions of the load, and no snapshot: each with a seat, and with the pass of the client whose commands it
     /// runs. E2 only where `max_frames` is no more than the frames that the rows of one and their entries take at most;
     /// E1.
@@ -69,10 +73,10 @@ impl<'a, const N: usize, K: Loaded> Database<'a, N, K> {
         load: &Load,
         journal: Journal<Commit, K>,
         seats: Vec<PartitionSeat<Commit, K>>,
-        mut passes: Vec<Pass<Commit, K>>,
+        passes: Vec<Pass<Commit, K>>,
         max_frames: u64,
         max_kept: u64,
-    ) -> Result<Database<'a, N, K>, Refusal>
+    ) -> Result<Database<N, K>, Refusal>
         requires size { IsPageSize N }
         requires some_frames { 1 ≤ max_frames }
         requires frames { max_frames ≤ most_frames }
@@ -86,6 +90,24 @@ impl<'a, const N: usize, K: Loaded> Database<'a, N, K> {
         ensures refused { IfErr result (IsWhyNoneMade N load.now max_frames) }
     {
         let partitions = OwnPartitions::of_load(alloc, load, seats, max_frames, max_kept)?;
+        Database::over(alloc, partitions, journal, passes, max_frames)
+    }
+
+    /// These partitions, at rest and under one limit on frames, and no snapshot: each gets the pass of a client whose commands
+    /// it runs, and there is one more. E1.
+    pub fn over(
+        alloc: Global,
+        partitions: OwnPartitions<N, K>,
+        journal: Journal<Commit, K>,
+        mut passes: Vec<Pass<Commit, K>>,
+        max_frames: u64,
+    ) -> Result<Database<N, K>, Refusal>
+        requires rest { All (IsAtRest max_frames) partitions }
+        requires passes { length passes.items ≡ length partitions + 1 }
+        ensures over { IfOk result (λ database. database
+            ≡ record { parts = partitions; snapshots = []; log = journal.list.log }) }
+        ensures refused { IfErr result (λ refusal. refusal ≡ Refusal.NoMemory) }
+    {
         let terminals = terminals_of(alloc, &mut passes, partitions.len(), max_frames)?;
         Ok(Database {
             partitions,
@@ -94,6 +116,25 @@ impl<'a, const N: usize, K: Loaded> Database<'a, N, K> {
             journal,
             pass: Some(passes.take_last()),
         })
+    }
+
+    /// The commits of each warehouse behind the place of a cursor, as a batch of the second edition; the cursor then stands at
+    /// the end of the serial list. Refused with E1, and then it stays where it was. Each partition is told of the whole list.
+    pub fn drain(&mut self, alloc: Global, cursor: &mut Cursor<Commit, K>) -> Result<Batch, Refusal>
+        ensures drained { IfOk result (λ batch. batch ≡ drained_of cursor.old self.new.parts) }
+        ensures new { IfOk result (λ batch. are_new batch ≡ true) }
+        ensures follows { IfOk result (λ batch. K.passes.partitions ≡ length K.load.tables.warehouses
+            → (batches : List BatchState) → SaySame K.load batches cursor.old
+            → SaySame K.load (batches ++ batch ∷ []) self.old.log) }
+        ensures moved { OnOk result (cursor.new ≡ self.old.log) }
+        ensures begins { IsPrefix cursor.old self.old.log }
+        ensures refused { IfErr result (λ refusal. refusal ≡ Refusal.NoMemory) }
+        ensures err { OnErr result (cursor.new ≡ cursor.old) }
+        ensures told { Pairwise (TellsHere self.old.log) 1 self.old.parts self.new.parts }
+        ensures snapshots { self.new.snapshots ≡ self.old.snapshots }
+        ensures log { self.new.log ≡ self.old.log }
+    {
+        self.partitions.drain(alloc, &mut self.journal, cursor)
     }
 
     /// Asks something of the warehouse of a number, and writes the answer.
@@ -160,38 +201,40 @@ impl<'a, const N: usize, K: Loaded> Database<'a, N, K> {
     }
 
     /// Opens a snapshot of this name: forks each partition. Where one is refused, no snapshot is left.
-    pub fn fork(&mut self, name: SnapshotName<'a>) -> Result<(), Refusal>
-        ensures opens { OnOk result (Opens N name.entry self.old self.new) }
+    pub fn fork(&mut self, name: &SnapshotName<'_>) -> Result<(), Refusal>
+        ensures opens { OnOk result (Opens N name.now self.old self.new) }
         ensures refused { IfErr result (IsWhyUnforked self.old.parts) }
         ensures stays { OnErr result (Pairwise (λ number. IsUnforked self.old.log) 1 self.old.parts self.new.parts) }
         ensures snapshots { OnErr result (self.new.snapshots ≡ self.old.snapshots) }
         ensures log { self.new.log ≡ self.old.log }
     {
+        let alloc = *self.snapshots.allocator();
+        let copy = copy_of(alloc, name)?;
         self.snapshots.reserve(1)?;
         let Some(pass) = &mut self.pass else {
             unreachable!();
         };
-        let alloc = *self.snapshots.allocator();
         self.partitions.sound();
         let snapshot = self.partitions.fork_all(alloc, &mut self.journal, pass)?;
         self.partitions.sound();
         let session = Session::new(snapshot);
-        self.snapshots.push_reserved(Named::new(name, session));
+        self.snapshots.push_reserved(Named::new(copy, session));
         Ok(())
     }
 
     /// Opens a snapshot of this name, of what the one at a place sees, in each partition. Where that is refused, no snapshot
     /// is left of it.
-    pub fn fork_from(&mut self, name: SnapshotName<'a>, place: usize) -> Result<(), Refusal>
+    pub fn fork_from(&mut self, name: &SnapshotName<'_>, place: usize) -> Result<(), Refusal>
         requires { place < length self.old.snapshots }
-        ensures opens { OnOk result (OpensFrom place name.entry self.old self.new) }
+        ensures opens { OnOk result (OpensFrom place name.now self.old self.new) }
         ensures refused { IfErr result (λ why. why ≡ Refusal.NoMemory) }
         ensures stays { OnErr result (Pairwise (λ number. IsUnforkedUntold) 1 self.old.parts self.new.parts) }
         ensures snapshots { OnErr result (self.new.snapshots ≡ self.old.snapshots) }
         ensures log { self.new.log ≡ self.old.log }
     {
-        self.snapshots.reserve(1)?;
         let alloc = *self.snapshots.allocator();
+        let copy = copy_of(alloc, name)?;
+        self.snapshots.reserve(1)?;
         self.partitions.sound();
         match self.snapshots[place]
             .session()
@@ -199,7 +242,7 @@ impl<'a, const N: usize, K: Loaded> Database<'a, N, K> {
         {
             Ok(session) => {
                 self.partitions.sound();
-                self.snapshots.push_reserved(Named::new(name, session));
+                self.snapshots.push_reserved(Named::new(copy, session));
                 Ok(())
             }
             Err(refusal) => Err(refusal),

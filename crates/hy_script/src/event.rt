@@ -5,15 +5,17 @@ ghost use Rattle.hy_events.specs.declared.event.Event.TheVariants as events;
 ghost use Rattle.hy_script.specs.declared.event.Unanswered.TheVariants as unanswered;
 ghost use Rattle.std.specs.Io.KnownBytes.{Appends};
 ghost use Rattle.hy_script.specs.Answers.{closed_text};
-ghost use Rattle.hy_script.specs.Printed.{IsAnswered, IsUnanswered};
+ghost use Rattle.hy_script.specs.Printed.{IsAnswered, IsLineAnswered, IsUnanswered};
+ghost use Rattle.hy_script.specs.Ends.{IsLineFault};
 
 use crate::answer::{Request, write_refused};
 use crate::database::Database;
 use hy_commands::Command;
-use hy_events::{Event, QueryText, SnapshotName, write_reply};
+use hy_events::{Event, EventFault, QueryText, SnapshotName, read_event, write_reply};
 use hy_output::Output;
 use hy_schema::Refusal;
 use hy_session::hy_partition::Loaded;
+use std::alloc::Global;
 use std::io;
 
 /// Why an event has no answer.
@@ -33,16 +35,38 @@ impl From<io::Error> for Unanswered {
     }
 }
 
+/// Does the event that a line says, and writes its answer; an empty line has none. A bad event changes nothing, and nothing is
+/// written for it. `refused E1 NoMemory` is the answer where there is no memory to read the event.
+pub fn answer_line<const N: usize, K: Loaded, O: Output>(
+    alloc: Global,
+    database: &mut Database<N, K>,
+    line: &[u8],
+    out: &mut O,
+) -> Result<(), Unanswered>
+    ensures answered { OnOk result
+        (IsLineAnswered N line.now database.old database.new (O.contents out.old) (O.contents out.new)) }
+    ensures fault { IfErr result
+        (IsLineFault database.old line.now
+        ((O.contents out.new ≡ O.contents out.old) × (database.new ≡ database.old)) (IsTrue (O.has_failed out.new))) }
+{
+    match read_event(alloc, line) {
+        Ok(None) => Ok(()),
+        Ok(Some(event)) => answer(database, event, out),
+        Err(EventFault::BadEvent) => Err(Unanswered::BadEvent),
+        Err(EventFault::NoMemory) => Ok(write_refused(out, Refusal::NoMemory)?),
+    }
+}
+
 /// Does an event, and writes its answer.
-pub fn answer<'a, const N: usize, K: Loaded, O: Output>(
-    database: &mut Database<'a, N, K>,
-    event: Event<'a>,
+fn answer<const N: usize, K: Loaded, O: Output>(
+    database: &mut Database<N, K>,
+    event: Event<'_>,
     out: &mut O,
 ) -> Result<(), Unanswered>
     ensures answered { OnOk result
         (IsAnswered N event.entry database.old database.new (O.contents out.old) (O.contents out.new)) }
     ensures unanswered { IfErr result
-        (IsUnanswered database.old event.entry (O.contents out.new ≡ O.contents out.old)
+        (IsUnanswered database.old event.entry ((O.contents out.new ≡ O.contents out.old) × (database.new ≡ database.old))
         (IsTrue (O.has_failed out.new))) }
 {
     match event {
@@ -59,8 +83,8 @@ pub fn answer<'a, const N: usize, K: Loaded, O: Output>(
         Event::Limit { warehouse, frames } => {
             database.ask(warehouse, Request::Limit(frames), out)?;
         }
-        Event::Fork(name) => return fork(database, name, out),
-        Event::ForkFrom(name, from) => return fork_from(database, name, &from, out),
+        Event::Fork(name) => return fork(database, &name, out),
+        Event::ForkFrom(name, from) => return fork_from(database, &name, &from, out),
         Event::Close(name) => return close(database, name, out),
         Event::Query(name, text) => return query(database, &name, &text, out),
         Event::Check(name) => return check(database, &name, out),
@@ -71,7 +95,7 @@ pub fn answer<'a, const N: usize, K: Loaded, O: Output>(
 /// Runs a command as a whole, over several warehouses where it names several, else in its home, and writes its reply. A
 /// home that isn't there comes before all else.
 fn run<const N: usize, K: Loaded, O: Output>(
-    database: &mut Database<'_, N, K>,
+    database: &mut Database<N, K>,
     command: Command,
     out: &mut O,
 ) -> io::Result<()>
@@ -92,62 +116,60 @@ fn run<const N: usize, K: Loaded, O: Output>(
 
 /// Opens a snapshot of a name, and writes behind how many commits each warehouse is in it. Where that is refused, no
 /// snapshot is left of it.
-fn fork<'a, const N: usize, K: Loaded, O: Output>(
-    database: &mut Database<'a, N, K>,
-    name: SnapshotName<'a>,
+fn fork<const N: usize, K: Loaded, O: Output>(
+    database: &mut Database<N, K>,
+    name: &SnapshotName<'_>,
     out: &mut O,
 ) -> Result<(), Unanswered>
     ensures answered { OnOk result
-        (IsAnswered N (events.Fork name.entry) database.old database.new (O.contents out.old) (O.contents out.new)) }
+        (IsAnswered N (events.Fork name.now) database.old database.new (O.contents out.old) (O.contents out.new)) }
     ensures unanswered { IfErr result
-        (IsUnanswered database.old (events.Fork name.entry) (O.contents out.new ≡ O.contents out.old)
+        (IsUnanswered database.old (events.Fork name.now) ((O.contents out.new ≡ O.contents out.old) × (database.new ≡ database.old))
         (IsTrue (O.has_failed out.new))) }
 {
-    if database.place_of_name(&name).is_some() {
+    if database.place_of_name(name).is_some() {
         return Err(Unanswered::BadEvent);
     }
-    let bytes = name.as_bytes();
     match database.fork(name) {
-        Ok(()) => database.write_opened(bytes, out)?,
+        Ok(()) => database.write_opened(name.as_bytes(), out)?,
         Err(refusal) => write_refused(out, refusal)?,
     }
     Ok(())
 }
 
 /// Opens a snapshot of a name, of what the one of another name sees, and writes the same.
-fn fork_from<'a, const N: usize, K: Loaded, O: Output>(
-    database: &mut Database<'a, N, K>,
-    name: SnapshotName<'a>,
+fn fork_from<const N: usize, K: Loaded, O: Output>(
+    database: &mut Database<N, K>,
+    name: &SnapshotName<'_>,
     from: &SnapshotName<'_>,
     out: &mut O,
 ) -> Result<(), Unanswered>
-    ensures answered { OnOk result (IsAnswered N (events.ForkFrom name.entry from.now) database.old database.new
+    ensures answered { OnOk result (IsAnswered N (events.ForkFrom name.now from.now) database.old database.new
         (O.contents out.old) (O.contents out.new)) }
-    ensures unanswered { IfErr result (IsUnanswered database.old (events.ForkFrom name.entry from.now)
-        (O.contents out.new ≡ O.contents out.old) (IsTrue (O.has_failed out.new))) }
+    ensures unanswered { IfErr result (IsUnanswered database.old (events.ForkFrom name.now from.now)
+        ((O.contents out.new ≡ O.contents out.old) × (database.new ≡ database.old)) (IsTrue (O.has_failed out.new))) }
 {
-    let (None, Some(place)) = (database.place_of_name(&name), database.place_of_name(from)) else {
+    let (None, Some(place)) = (database.place_of_name(name), database.place_of_name(from)) else {
         return Err(Unanswered::BadEvent);
     };
-    let bytes = name.as_bytes();
     if let Err(refusal) = database.fork_from(name, place) {
         write_refused(out, refusal)?;
         return Ok(());
     }
-    database.write_opened(bytes, out)?;
+    database.write_opened(name.as_bytes(), out)?;
     Ok(())
 }
 
 /// Closes the snapshot of a name, and writes that it did.
 fn close<const N: usize, K: Loaded, O: Output>(
-    database: &mut Database<'_, N, K>,
+    database: &mut Database<N, K>,
     name: SnapshotName<'_>,
     out: &mut O,
 ) -> Result<(), Unanswered>
     ensures answered { OnOk result
         (IsAnswered N (events.Close name.entry) database.old database.new (O.contents out.old) (O.contents out.new)) }
     ensures unanswered { IfErr result
-        (IsUnanswered database.old (events.Close name.entry) (O.contents out.new ≡ O.contents out.old)
+        (IsUnanswered database.old (events.Close name.entry) ((O.contents out.new ≡ O.contents out.old) × (database.new ≡ database.old))
         (IsTrue (O.has_failed out.new))) }
 {
     let Some(place) = database.place_of_name(&name) else {
@@ -160,7 +182,7 @@ fn close<const N: usize, K: Loaded, O: Output>(
 
 /// Asks a query of the snapshot of a name, and writes its answer.
 fn query<const N: usize, K: Loaded, O: Output>(
-    database: &mut Database<'_, N, K>,
+    database: &mut Database<N, K>,
     name: &SnapshotName<'_>,
     text: &QueryText<'_>,
     out: &mut O,
@@ -168,7 +190,7 @@ fn query<const N: usize, K: Loaded, O: Output>(
     ensures answered { OnOk result (IsAnswered N (events.Query name.now text.now) database.old database.new
         (O.contents out.old) (O.contents out.new)) }
     ensures unanswered { IfErr result (IsUnanswered database.old (events.Query name.now text.now)
-        (O.contents out.new ≡ O.contents out.old) (IsTrue (O.has_failed out.new))) }
+        ((O.contents out.new ≡ O.contents out.old) × (database.new ≡ database.old)) (IsTrue (O.has_failed out.new))) }
 {
     let Some(place) = database.place_of_name(name) else {
         return Err(Unanswered::BadEvent);
@@ -179,14 +201,14 @@ fn query<const N: usize, K: Loaded, O: Output>(
 
 /// Tests the consistency conditions in the snapshot of a name, and writes what was found.
 fn check<const N: usize, K: Loaded, O: Output>(
-    database: &mut Database<'_, N, K>,
+    database: &mut Database<N, K>,
     name: &SnapshotName<'_>,
     out: &mut O,
 ) -> Result<(), Unanswered>
     ensures answered { OnOk result (IsAnswered N (events.Check name.now) database.old database.new
         (O.contents out.old) (O.contents out.new)) }
     ensures unanswered { IfErr result (IsUnanswered database.old (events.Check name.now)
-        (O.contents out.new ≡ O.contents out.old) (IsTrue (O.has_failed out.new))) }
+        ((O.contents out.new ≡ O.contents out.old) × (database.new ≡ database.old)) (IsTrue (O.has_failed out.new))) }
 {
     let Some(place) = database.place_of_name(name) else {
         return Err(Unanswered::BadEvent);

@@ -10,4 +10,6 @@ mod named;
 mod script;
 mod terminal;
 
+pub use database::Database;
+pub use event::{Unanswered, answer_line};
 pub use script::{ScriptFault, run_script};

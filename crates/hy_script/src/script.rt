@@ -5,17 +5,16 @@ ghost use Rattle.hy_frames.specs.FrameTable.{IsPageSize, max_frames as most_fram
 ghost use Rattle.hy_session.specs.of_partition.Limits.{most_kept};
 ghost use Rattle.hy_events.specs.Lines.{lines, numbered};
 ghost use Rattle.hy_script.specs.declared.script.ScriptFault.TheVariants as faults;
-ghost use Rattle.hy_script.specs.Printed.{ArePrinted, IsLineAnswered};
+ghost use Rattle.hy_script.specs.Printed.{ArePrinted};
 ghost use Rattle.hy_script.specs.Scripts.{IsPrinted};
-ghost use Rattle.hy_script.specs.Ends.{IsLineFault, IsLinesFault, IsRunFault, IsScriptFault};
+ghost use Rattle.hy_script.specs.Ends.{IsLinesFault, IsRunFault, IsScriptFault};
 ghost use Rattle.hy_script.specs.inside.Held.{contents_behind, failed_behind, output_behind};
 
-use crate::answer::write_refused;
 use crate::database::Database;
-use crate::event::{Unanswered, answer};
+use crate::event::{Unanswered, answer_line};
 use crate::held::{HELD_BYTES, Held};
 use crate::kit::{Pages, kit_for, run_over};
-use hy_events::{EventFault, Lines, ScriptLine, read_event};
+use hy_events::{Lines, ScriptLine};
 use hy_loads::Load;
 use hy_output::{Output, Take};
 use hy_schema::Refusal;
@@ -86,16 +85,16 @@ pub fn run_script<const N: usize, O: Output + Take + Drop>(
 }
 
 /// The same on partitions that are there. Answers are held back, and handed on many at a time.
-pub fn run_buffered<'a, const N: usize, K: Loaded, O: Output + Take + Drop>(
+pub fn run_buffered<const N: usize, K: Loaded, O: Output + Take + Drop>(
     alloc: Global,
-    database: &mut Database<'a, N, K>,
-    script: &'a [u8],
+    database: &mut Database<N, K>,
+    script: &[u8],
     out: &mut O,
 ) -> Result<(), ScriptFault>
     ensures done { OnOk result
-        (ArePrinted N (numbered 1 (lines script.entry.now)) database.old (O.contents out.old) (O.contents out.new) None) }
+        (ArePrinted N (numbered 1 (lines script.now)) database.old (O.contents out.old) (O.contents out.new) None) }
     ensures fault { IfErr result
-        (IsRunFault N (numbered 1 (lines script.entry.now)) database.old (O.contents out.old) (O.contents out.new)
+        (IsRunFault N (numbered 1 (lines script.now)) database.old (O.contents out.old) (O.contents out.new)
         (out.new ≡ out.old) (IsTrue (O.has_failed out.new))) }
 {
     let Ok(room) = Vec::with_capacity(alloc, HELD_BYTES + ANSWER_BYTES) else {
@@ -108,15 +107,15 @@ pub fn run_buffered<'a, const N: usize, K: Loaded, O: Output + Take + Drop>(
 }
 
 /// The same with an output that holds answers back, and hands on the last of them at the end.
-fn run_held<'a, const N: usize, K: Loaded, O: Output>(
+fn run_held<const N: usize, K: Loaded, O: Output>(
     alloc: Global,
-    database: &mut Database<'a, N, K>,
-    script: &'a [u8],
+    database: &mut Database<N, K>,
+    script: &[u8],
     held: &mut Held<O>,
 ) -> Result<(), ScriptFault>
-    ensures done { OnOk result (ArePrinted N (numbered 1 (lines script.entry.now)) database.old
+    ensures done { OnOk result (ArePrinted N (numbered 1 (lines script.now)) database.old
         (contents_behind O.contents held.old) (O.contents (output_behind held.new)) None) }
-    ensures fault { IfErr result (IsLinesFault N (numbered 1 (lines script.entry.now)) database.old
+    ensures fault { IfErr result (IsLinesFault N (numbered 1 (lines script.now)) database.old
         (contents_behind O.contents held.old) (O.contents (output_behind held.new))
         (IsTrue (O.has_failed (output_behind held.new)))) }
 {
@@ -126,15 +125,15 @@ fn run_held<'a, const N: usize, K: Loaded, O: Output>(
 }
 
 /// Does what the lines say, one after the other, up to the first bad event. The last answers are still held at the end.
-fn run_lines<'a, const N: usize, K: Loaded, O: Output>(
+fn run_lines<const N: usize, K: Loaded, O: Output>(
     alloc: Global,
-    database: &mut Database<'a, N, K>,
-    script: &'a [u8],
+    database: &mut Database<N, K>,
+    script: &[u8],
     held: &mut Held<O>,
 ) -> Result<(), ScriptFault>
-    ensures done { OnOk result (ArePrinted N (numbered 1 (lines script.entry.now)) database.old
+    ensures done { OnOk result (ArePrinted N (numbered 1 (lines script.now)) database.old
         (contents_behind O.contents held.old) (contents_behind O.contents held.new) None) }
-    ensures fault { IfErr result (IsLinesFault N (numbered 1 (lines script.entry.now)) database.old
+    ensures fault { IfErr result (IsLinesFault N (numbered 1 (lines script.now)) database.old
         (contents_behind O.contents held.old) (contents_behind O.contents held.new)
         (IsTrue (failed_behind O.has_failed held.new))) }
 {
@@ -146,25 +145,4 @@ fn run_lines<'a, const N: usize, K: Loaded, O: Output>(
         }
     }
     Ok(())
-}
-
-/// Does the event that a line says, and writes its answer.
-fn answer_line<'a, const N: usize, K: Loaded, O: Output>(
-    alloc: Global,
-    database: &mut Database<'a, N, K>,
-    line: &'a [u8],
-    out: &mut O,
-) -> Result<(), Unanswered>
-    ensures answered { OnOk result
-        (IsLineAnswered N line.entry.now database.old database.new (O.contents out.old) (O.contents out.new)) }
-    ensures fault { IfErr result
-        (IsLineFault database.old line.entry.now (O.contents out.new ≡ O.contents out.old)
-        (IsTrue (O.has_failed out.new))) }
-{
-    match read_event(alloc, line) {
-        Ok(None) => Ok(()),
-        Ok(Some(event)) => answer(database, event, out),
-        Err(EventFault::BadEvent) => Err(Unanswered::BadEvent),
-        Err(EventFault::NoMemory) => Ok(write_refused(out, Refusal::NoMemory)?),
-    }
 }

@@ -21,7 +21,8 @@ use Rattle.hy_commands.proofs.KeptByDelivery.{oldest-other, sound-delivered_in}
 use Rattle.hy_commands.proofs.KeptByPayment.{sound-paid, sound-paid_in}
 use Rattle.hy_slices.specs.Begun.{Begins}
 use Rattle.hy_slices.specs.Between.{IsWholeWarehouse}
-use Rattle.hy_slices.specs.Slices.{after_slices, has_item_at, has_items_before, line_behind, slice_count, with_line}
+use Rattle.hy_commands.specs.Commands.{slice_count}
+use Rattle.hy_slices.specs.Slices.{after_slices, has_item_at, has_items_before, line_behind, with_line}
 use Rattle.hy_slices.proofs.BegunLaws.{alone-delivery, alone-payment, begun-delivery, begun-payment, begun-purchase}
 use Rattle.hy_slices.proofs.WholeLaws.{IsPlacing, number-headed_next, placing-headed, placing-with_line, whole-sound}
 

@@ -22,7 +22,7 @@ use Rattle.hy_commands.specs.declared.command.Payment.{Payment}
 use Rattle.hy_commands.specs.declared.command.Purchase.{Purchase}
 use Rattle.hy_commands.specs.declared.command.PurchaseLine.{PurchaseLine}
 use Rattle.hy_commands.specs.declared.edition.Edition.{Edition}
-use Rattle.hy_commands.specs.Commands.{is_line_in_range}
+use Rattle.hy_commands.specs.Commands.{is_line_in_range, slice_count}
 use Rattle.hy_commands.specs.Growth.{HasGrownBy, IsDistrictUpTo}
 use Rattle.hy_commands.specs.Invariant.{IsSoundWarehouse}
 use Rattle.hy_commands.specs.NewOrders.{order_number}
@@ -34,7 +34,7 @@ use Rattle.hy_commands.proofs.Kept.{sound-rows}
 use Rattle.hy_commands.proofs.ListLaws.{All-find}
 use Rattle.hy_commands.proofs.SoundLoad.{all-by_place}
 use Rattle.hy_slices.specs.Begun.{Begins}
-use Rattle.hy_slices.specs.Slices.{after_slices, has_item_at, has_items_before, headed_number, is_known, line_behind, lined, slice_count, with_line}
+use Rattle.hy_slices.specs.Slices.{after_slices, has_item_at, has_items_before, headed_number, is_known, line_behind, lined, with_line}
 use Rattle.hy_slices.proofs.BegunLaws.{alone-delivery, alone-payment, begun-delivery, begun-payment, begun-purchase, begun-suppliers}
 use Rattle.hy_slices.proofs.BetweenSlices.{level-slices, number-slices, sound-slices, status-slices}
 use Rattle.hy_slices.proofs.GrowingLaws.{IsGrowing, growing-delivered_in, growing-end, growing-headed, growing-later, growing-lined, growing-start}

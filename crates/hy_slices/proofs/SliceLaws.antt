@@ -1,5 +1,5 @@
 -- The slices of a command together are the command.
-use Rattle.std.proofs.Common.{◌≡◌, ◌≢◌, ℕ, zero, suc, ◌+◌, ◌-◌, ◌≤◌, ◌<◌, ◌==◌, ◌&&◌, Bool, true, false, cond, List, [], ◌∷◌, ◌++◌, filter, length, slice_get, take, Option, Some, None, refl, sym, ap, ap₂, ◌∙◌, arith, append_assoc}
+use Rattle.std.proofs.Common.{◌≡◌, ◌≢◌, ℕ, zero, suc, ◌+◌, ◌-◌, ◌≤◌, ◌<◌, ◌==◌, ◌&&◌, Bool, true, false, cond, List, [], ◌∷◌, ◌++◌, filter, length, slice_get, take, Option, Some, None, refl, sym, ap, ap₂, ◌∙◌, arith, append_assoc, lit<}
 use Rattle.std.specs.Prelude.{fold, unwrap_or}
 use Rattle.std.specs.List.{find, list_all}
 use Rattle.std.specs.Option.{option_map}
@@ -25,7 +25,8 @@ use Rattle.hy_commands.specs.NewOrders.{has_item, line_row, line_rows, order_num
 use Rattle.hy_commands.specs.Parts.{part}
 use Rattle.hy_commands.specs.Transactions.{accepted, act, begin_refusal_of, has_items, outcome_of, refusal_of}
 use Rattle.hy_slices.specs.Begun.{BeginsPart}
-use Rattle.hy_slices.specs.Slices.{after_slices, has_item_at, has_items_before, headed, headed_number, is_known, lined, slice_count, with_line}
+use Rattle.hy_commands.specs.Commands.{slice_count}
+use Rattle.hy_slices.specs.Slices.{after_slices, has_item_at, has_items_before, headed, headed_number, is_known, lined, with_line}
 use Rattle.hy_slices.proofs.BegunLaws.{refusal-begun}
 
 -- ---- lists
@@ -181,6 +182,14 @@ slices-accepted items number edition (commands.Payment payment) tables = refl
 slices-accepted items number edition (commands.OrderStatus status) tables = refl
 slices-accepted items number edition (commands.Delivery delivery) tables = refl
 slices-accepted items number edition (commands.StockLevel level) tables = refl
+
+-- each command has a slice
+pub first_slice : (command : Command) → 0 < slice_count command
+first_slice (commands.NewOrder order) = omega arith
+first_slice (commands.Payment payment) = lit< tt
+first_slice (commands.OrderStatus status) = lit< tt
+first_slice (commands.Delivery delivery) = lit< tt
+first_slice (commands.StockLevel level) = lit< tt
 
 slices-known : (items : List Item) (number : ℕ) (command : Command) (tables : Tables)
     → has_items_before items command (slice_count command) ≡ has_items items command

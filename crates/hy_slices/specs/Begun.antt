@@ -11,13 +11,13 @@ use Rattle.hy_commands.specs.declared.command.Commit.{Commit}
 use Rattle.hy_commands.specs.declared.command.Delivery.{Delivery}
 use Rattle.hy_commands.specs.declared.command.Purchase.{Purchase}
 use Rattle.hy_commands.specs.declared.edition.Edition.{Edition}
-use Rattle.hy_commands.specs.Commands.{is_in_range}
+use Rattle.hy_commands.specs.Commands.{has_districts, is_in_range, slice_count}
 use Rattle.hy_commands.specs.Invariant.{IsSoundWarehouse}
 use Rattle.hy_commands.specs.NewOrders.{order_number}
 use Rattle.hy_commands.specs.Replay.{HasWarehouse, rows_after}
-use Rattle.hy_commands.specs.Transactions.{begin_refusal_of, has_customer, has_districts}
+use Rattle.hy_commands.specs.Transactions.{begin_refusal_of, has_customer}
 use Rattle.hy_slices.specs.Between.{IsLineBefore}
-use Rattle.hy_slices.specs.Slices.{after_slices, has_item_at, has_items_before, slice_count}
+use Rattle.hy_slices.specs.Slices.{after_slices, has_item_at, has_items_before}
 
 -- the warehouse begins the command by itself: if anything refuses it then, it is an item that isn't there
 abbrev pub BeginsAlone : ℕ → Command → Tables → Type 0

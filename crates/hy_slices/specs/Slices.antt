@@ -1,9 +1,8 @@
 -- A transaction in slices: what each of them does to the rows of its warehouse. Between two slices other work may be
 -- done, as a fork; all slices of a command together do what an accepted command does (`hy_commands`, `Transactions`).
-use Rattle.std.specs.Prelude.{ℕ, zero, suc, ◌+◌, ◌-◌, ◌==◌, ◌&&◌, Bool, true, if◌then◌else◌, Option, None, Some, List, [], ◌∷◌, ◌++◌, length, slice_get}
+use Rattle.std.specs.Prelude.{ℕ, zero, suc, ◌+◌, ◌-◌, ◌==◌, ◌&&◌, Bool, true, if◌then◌else◌, Option, None, Some, List, [], ◌∷◌, ◌++◌, slice_get}
 use Rattle.hy_rows.specs.declared.item.Item.{Item}
 use Rattle.hy_rows.specs.Finding.{is_district, with_changed}
-use Rattle.hy_rows.specs.Limits.{districts_per_warehouse}
 use Rattle.hy_rows.specs.Tables.{Tables}
 use Rattle.hy_commands.specs.declared.command.Command.{Command}
 use Rattle.hy_commands.specs.declared.command.Command.TheVariants as commands
@@ -14,15 +13,6 @@ use Rattle.hy_commands.specs.Deliveries.{delivered_in}
 use Rattle.hy_commands.specs.NewOrders.{has_item, line_row, new_order_row, order_number, order_row, sold_line, with_next_order}
 use Rattle.hy_commands.specs.Payments.{paid_by, paid_in}
 use Rattle.hy_commands.specs.Transactions.{payer}
-
--- how many slices a command has: a purchase a head and one for each line; a payment one for the warehouse, the district
--- and the history, and one for the customer; a delivery one for each district
-abbrev pub slice_count : Command → ℕ
-slice_count (commands.NewOrder order) = length order.lines + 1
-slice_count (commands.Payment payment) = 2
-slice_count (commands.OrderStatus status) = 1
-slice_count (commands.Delivery delivery) = districts_per_warehouse
-slice_count (commands.StockLevel level) = 1
 
 -- ---- New-Order
 

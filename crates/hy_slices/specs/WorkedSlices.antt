@@ -28,7 +28,8 @@ use Rattle.hy_commands.specs.Parts.{part}
 use Rattle.hy_commands.specs.Transactions.{act, begin_refusal_of}
 use Rattle.hy_commands.specs.WorkedSample.{after, bought, customers, delivery, five_of_each, items, level, payment, purchase, sample, status, stock_columns}
 use Rattle.hy_slices.specs.Begun.{Begins}
-use Rattle.hy_slices.specs.Slices.{after_slices, has_item_at, has_items_before, slice_count}
+use Rattle.hy_commands.specs.Commands.{slice_count}
+use Rattle.hy_slices.specs.Slices.{after_slices, has_item_at, has_items_before}
 
 -- ---- how many
 

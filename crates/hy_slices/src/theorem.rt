@@ -17,7 +17,8 @@ ghost use Rattle.hy_commands.specs.Replay.{rows_after};
 ghost use Rattle.hy_commands.specs.Transactions.{accepted, act, refusal_of};
 ghost use Rattle.hy_slices.specs.Begun.{AreLinesBefore, BeginsAlone, BeginsPart, DeliversBefore, HasAllItems, HasItemsOfLines, IsBegunBehind, IsUnderWay, LacksItemAt, PlacesLines, after_districts, after_lines};
 ghost use Rattle.hy_slices.specs.Between.{IsWholeWarehouse};
-ghost use Rattle.hy_slices.specs.Slices.{after_slices, slice_count};
+ghost use Rattle.hy_commands.specs.Commands.{slice_count};
+ghost use Rattle.hy_slices.specs.Slices.{after_slices};
 
 /// Does nothing: its contract says that all slices of a command leave the rows of the accepted command. So those of a
 /// command that a warehouse begins by itself, where the items of all its lines are there, leave the rows that the

@@ -1,8 +1,8 @@
 -- The customers of a load, looked at one after the other: those of a district stand one behind another, and some passes a
 -- test exactly where the customer who is meant is there.
-use Rattle.std.proofs.Common.{◌≡◌, ◌+◌, ◌-◌, ◌/◌, ◌<◌, ◌≤◌, ◌==◌, ◌&&◌, ◌||◌, ℕ, zero, suc, Bool, true, false, cond, List, [], ◌∷◌, length, filter, get_or, Option, Some, is_some, inl, inr, refl, sym, ap, ◌∙◌, subst, arith}
+use Rattle.std.proofs.Common.{◌≡◌, ◌+◌, ◌-◌, ◌/◌, ◌<◌, ◌≤◌, ◌==◌, ◌&&◌, ◌||◌, ℕ, zero, suc, Bool, true, false, cond, List, [], ◌∷◌, length, filter, get_or, Option, None, Some, is_some, inl, inr, refl, sym, ap, ◌∙◌, subst, arith}
 use Rattle.std.specs.Prelude.{IfSome, slice_get}
-use Rattle.std.specs.List.{list_all, list_any}
+use Rattle.std.specs.List.{list_any}
 use Rattle.std.specs.List.Sorted.{IsNonDecreasingBy}
 use Rattle.std.specs.Str.{bytes_eq}
 use Rattle.std.proofs.lemmas.Bool.{and_parts, eq-eqb, eqb-true}
@@ -17,16 +17,14 @@ use Rattle.hy_rows.specs.declared.customer.Customer.{Customer}
 use Rattle.hy_rows.proofs.BetweenLaws.{bounds}
 use Rattle.hy_schema.specs.Loads.{IsCustomerAfter, IsCustomerAt, IsLoad, row_before}
 use Rattle.hy_commands.specs.declared.command.Command.{Command}
-use Rattle.hy_commands.specs.declared.command.Command.TheVariants as commands
-use Rattle.hy_commands.specs.declared.command.OrderStatus.{OrderStatus}
-use Rattle.hy_commands.specs.declared.command.Payment.{Payment}
-use Rattle.hy_commands.specs.declared.command.Purchase.{Purchase}
 use Rattle.hy_commands.specs.declared.command.Who.TheVariants as who
-use Rattle.hy_commands.specs.Commands.{warehouses_of}
+use Rattle.hy_commands.specs.Commands.{CustomerName, customer_home_of, customer_named, home_of, home_or, is_district_number, refusal_of_numbers}
+use Rattle.hy_commands.specs.inside.Kinds.{named-district}
 use Rattle.hy_commands.specs.Customers.{customer_meant, is_earlier, is_named, middle_of}
-use Rattle.hy_commands.specs.Parts.{customer_home_of, database_of, rows_of}
+use Rattle.hy_commands.specs.Parts.{database_of, rows_of}
 use Rattle.hy_commands.specs.Sorting.{inserted, sorted}
-use Rattle.hy_commands.specs.Transactions.{has_customer}
+use Rattle.hy_commands.specs.Transactions.{is_customer_there}
+use Rattle.hy_commands.proofs.AcceptedLaws.{passed-numbers}
 use Rattle.hy_commands.proofs.DatabaseLaws.{rows-load}
 use Rattle.hy_commands.proofs.ListLaws.{found-any}
 use Rattle.hy_loads.proofs.ThereLaws.{few_warehouses}
@@ -166,46 +164,40 @@ module _ (warehouse district : ℕ) (rows : List Customer) where
 -- ---- what a command asks for
 
 module _ (lists : Lists) (command : Command)
-    (there : list_all (is_between 1 (length lists.tables.warehouses)) (warehouses_of command) ≡ true) where
+    (passed : refusal_of_numbers (is_between 1 (length lists.tables.warehouses)) command ≡ None) where
   abbrev home : ℕ
   home = customer_home_of command
 
   rows-are : of_warehouse home lists.tables ≡ rows_of home (database_of lists)
-  rows-are = sym (rows-load lists home (home-there lists command there))
+  rows-are = sym (rows-load lists home (home-there lists command passed))
 
+  -- a warehouse that is there has a small number, and so has a district
   pub small-home : IsLoad lists → home ≤ 255
   small-home is =
-      let last = (bounds 1 (length lists.tables.warehouses) home (home-there lists command there)).1 in
+      let last = (bounds 1 (length lists.tables.warehouses) home (home-there lists command passed)).1 in
       omega (arith, last, few_warehouses lists.tables.warehouses is.warehouses)
 
-  pub knows-purchase : (order : Purchase) → command ≡ commands.NewOrder order
-      → list_any (is_customer order.warehouse order.district order.customer) lists.tables.customers
-      ≡ knows_customer lists command
-  knows-purchase order is =
-      let here : home ≡ order.warehouse = ap customer_home_of is in
-      meant-number order.warehouse order.district lists.tables.customers order.customer
-      ∙ ap (λ w. has_customer (commands.NewOrder order) (of_warehouse w lists.tables)) (sym here)
-      ∙ ap (has_customer (commands.NewOrder order)) rows-are
-      ∙ ap (λ c. has_customer c (rows_of home (database_of lists))) (sym is)
+  module _ (customer : CustomerName) (named : customer_named command ≡ Some customer) where
+    pub small-warehouse : IsLoad lists → customer.warehouse ≤ 255
+    small-warehouse is = subst (λ n. n ≤ 255) (ap (home_or (home_of command)) named) (small-home is)
 
-  pub knows-payment : (payment : Payment) → command ≡ commands.Payment payment
-      → is_some (customer_meant payment.customer_warehouse payment.customer_district payment.who
-      (of_warehouse payment.customer_warehouse lists.tables).customers) ≡ knows_customer lists command
-  knows-payment payment is =
-      let here : home ≡ payment.customer_warehouse = ap customer_home_of is in
-      ap (λ w. has_customer (commands.Payment payment) (of_warehouse w lists.tables)) (sym here)
-      ∙ ap (has_customer (commands.Payment payment)) rows-are
-      ∙ ap (λ c. has_customer c (rows_of home (database_of lists))) (sym is)
+    pub small-district : customer.district ≤ 255
+    small-district =
+        let districts = (passed-numbers (is_between 1 (length lists.tables.warehouses)) command passed).districts in
+        let is : is_district_number customer.district ≡ true =
+        subst (λ (named : Option CustomerName). IfSome named (λ customer. is_district_number customer.district ≡ true)) named
+        (named-district command districts) in
+        let last = (bounds 1 10 customer.district is).1 in
+        omega (arith, last)
 
-  pub knows-status : (status : OrderStatus) → command ≡ commands.OrderStatus status
-      → is_some (customer_meant status.warehouse status.district status.who
-      (of_warehouse status.warehouse lists.tables).customers) ≡ knows_customer lists command
-  knows-status status is =
-      let here : home ≡ status.warehouse = ap customer_home_of is in
-      ap (λ w. has_customer (commands.OrderStatus status) (of_warehouse w lists.tables)) (sym here)
-      ∙ ap (has_customer (commands.OrderStatus status)) rows-are
-      ∙ ap (λ c. has_customer c (rows_of home (database_of lists))) (sym is)
+    pub knows-customer : is_some (customer_meant customer.warehouse customer.district customer.who
+        (of_warehouse customer.warehouse lists.tables).customers) ≡ knows_customer lists command
+    knows-customer =
+        let here : home ≡ customer.warehouse = ap (home_or (home_of command)) named in
+        ap (λ w. is_customer_there (of_warehouse w lists.tables) (Some customer)) (sym here)
+        ∙ ap (λ tables. is_customer_there tables (Some customer)) rows-are
+        ∙ ap (is_customer_there (rows_of home (database_of lists))) (sym named)
 
--- a district that is there has a small number
-pub small-district : (number : ℕ) → is_between 1 10 number ≡ true → number ≤ 255
-small-district number is = let last = (bounds 1 10 number is).1 in omega (arith, last)
+pub knows-nobody : (lists : Lists) (command : Command) → customer_named command ≡ None → true ≡ knows_customer lists command
+knows-nobody lists command none =
+    ap (is_customer_there (rows_of (customer_home_of command) (database_of lists))) (sym none)

@@ -1,30 +1,22 @@
 -- What a load says of a command.
 use Rattle.std.proofs.Common.{◌≡◌, ◌-◌, ◌<◌, ◌≤◌, ◌&&◌, ℕ, suc, Bool, true, false, not, cond, List, length, Option, Some, None, is_none, is_some, refl, sym, ap, ◌∙◌, arith, subst}
 use Rattle.std.specs.Prelude.{IfSome, MatchOption, slice_index_or}
-use Rattle.std.specs.List.{list_all, list_any}
-use Rattle.std.proofs.lemmas.Bool.{false≢true}
+use Rattle.std.specs.List.{list_all}
 use Rattle.hy_rows.specs.Ranges.{is_between}
 use Rattle.hy_rows.proofs.BetweenLaws.{bounds}
 use Rattle.hy_rows.specs.Tables.{Lists, Tables}
-use Rattle.hy_rows.specs.declared.item.Item.{Item}
+use Rattle.hy_schema.specs.declared.refusal.Refusal.{Refusal}
 use Rattle.hy_schema.specs.declared.refusal.Refusal.TheVariants as refusals
-use Rattle.hy_schema.specs.Loads.{HasSome, IsItemAt, IsRight}
-use Rattle.hy_schema.specs.Related.{is_item}
 use Rattle.hy_commands.specs.declared.command.Command.{Command}
-use Rattle.hy_commands.specs.declared.command.Command.TheVariants as commands
-use Rattle.hy_commands.specs.declared.command.OrderStatus.{OrderStatus}
-use Rattle.hy_commands.specs.declared.command.Payment.{Payment}
-use Rattle.hy_commands.specs.declared.command.Purchase.{Purchase}
 use Rattle.hy_commands.specs.declared.command.Who.{Who}
-use Rattle.hy_commands.specs.declared.command.Who.TheVariants as who
-use Rattle.hy_commands.specs.Commands.{is_in_range, warehouses_of}
+use Rattle.hy_commands.specs.Commands.{CustomerName, customer_home_of, customer_named, home_of, home_or, refusal_of_numbers, warehouses_of}
 use Rattle.hy_commands.specs.Customers.{customer_meant}
-use Rattle.hy_commands.specs.Parts.{customer_home_of, database_of, is_there}
-use Rattle.hy_commands.specs.Transactions.{has_customer, has_districts, has_items}
+use Rattle.hy_commands.specs.Parts.{database_of, is_there}
+use Rattle.hy_commands.specs.Transactions.{has_customer, has_items, is_customer_there}
+use Rattle.hy_commands.proofs.AcceptedLaws.{passed-numbers}
 use Rattle.hy_commands.proofs.DatabaseLaws.{length-database, rows-load}
-use Rattle.hy_database.proofs.PartLaws.{named-customer_home}
+use Rattle.hy_commands.proofs.NamedLaws.{named-customer_home}
 use Rattle.hy_layout.specs.Layout.{IsMeantAt, LayoutState, own_rows}
-use Rattle.hy_loads.proofs.ThereLaws.{HasItems-right}
 use Rattle.hy_sound.specs.Sound.{is_known}
 use Rattle.hy_sound.specs.inside.Places.{AreLayouts, knows_customer}
 use Rattle.hy_sound.proofs.ListLaws.{get-there}
@@ -41,51 +33,17 @@ module _ (warehouse district : ℕ) (whom : Who) (tables : Tables) where
   is-meant None none = sym (ap is_some none)
   is-meant (Some place) meant = sym (ap is_some meant.meant)
 
-pub known-purchase : (command : Command) (order : Purchase) (warehouse : ℕ) (tables : Tables) (found : Option ℕ)
-    → command ≡ commands.NewOrder order → customer_home_of command ≡ warehouse
-    → Meant warehouse order.district (who.Number order.customer) tables found
-    → is_some found ≡ has_customer command tables
-known-purchase command order warehouse tables found is home meant =
-    let here : order.warehouse ≡ warehouse = sym (ap customer_home_of is) ∙ home in
-    is-meant warehouse order.district (who.Number order.customer) tables found meant
-    ∙ ap (λ w. is_some (customer_meant w order.district (who.Number order.customer) tables.customers)) (sym here)
-    ∙ ap (λ command. has_customer command tables) (sym is)
+pub known-customer : (command : Command) (customer : CustomerName) (warehouse : ℕ) (tables : Tables) (found : Option ℕ)
+    → customer_named command ≡ Some customer → customer_home_of command ≡ warehouse
+    → Meant warehouse customer.district customer.who tables found → is_some found ≡ has_customer command tables
+known-customer command customer warehouse tables found is home meant =
+    let here : customer.warehouse ≡ warehouse = sym (ap (home_or (home_of command)) is) ∙ home in
+    is-meant warehouse customer.district customer.who tables found meant
+    ∙ ap (λ w. is_some (customer_meant w customer.district customer.who tables.customers)) (sym here)
+    ∙ ap (is_customer_there tables) (sym is)
 
-pub known-payment : (command : Command) (payment : Payment) (warehouse : ℕ) (tables : Tables) (found : Option ℕ)
-    → command ≡ commands.Payment payment → customer_home_of command ≡ warehouse
-    → Meant warehouse payment.customer_district payment.who tables found
-    → is_some found ≡ has_customer command tables
-known-payment command payment warehouse tables found is home meant =
-    let here : payment.customer_warehouse ≡ warehouse = sym (ap customer_home_of is) ∙ home in
-    is-meant warehouse payment.customer_district payment.who tables found meant
-    ∙ ap (λ w. is_some (customer_meant w payment.customer_district payment.who tables.customers)) (sym here)
-    ∙ ap (λ command. has_customer command tables) (sym is)
-
-pub known-status : (command : Command) (status : OrderStatus) (warehouse : ℕ) (tables : Tables) (found : Option ℕ)
-    → command ≡ commands.OrderStatus status → customer_home_of command ≡ warehouse
-    → Meant warehouse status.district status.who tables found
-    → is_some found ≡ has_customer command tables
-known-status command status warehouse tables found is home meant =
-    let here : status.warehouse ≡ warehouse = sym (ap customer_home_of is) ∙ home in
-    is-meant warehouse status.district status.who tables found meant
-    ∙ ap (λ w. is_some (customer_meant w status.district status.who tables.customers)) (sym here)
-    ∙ ap (λ command. has_customer command tables) (sym is)
-
--- ---- an item
-
--- the items of a load have the numbers 1, 2, 3 and so on
-pub item-there : (items : List Item) (number : ℕ) → IsRight IsItemAt (HasSome items) items
-    → is_between 1 (length items) number ≡ list_any (is_item number) items
-item-there items number right = by (is_between 1 (length items) number) refl (list_any (is_item number) items) refl
-  where
-    by : (between : Bool) → is_between 1 (length items) number ≡ between → (found : Bool)
-        → list_any (is_item number) items ≡ found → between ≡ found
-    by true one true other = refl
-    by false one false other = refl
-    by true one false other =
-        let has = HasItems-right items right number in absurd (false≢true (sym other ∙ has.1 one))
-    by false one true other =
-        let has = HasItems-right items right number in absurd (false≢true (sym one ∙ has.0 other))
+pub known-nobody : (command : Command) (tables : Tables) → customer_named command ≡ None → true ≡ has_customer command tables
+known-nobody command tables is = ap (is_customer_there tables) (sym is)
 
 -- ---- the layout of a warehouse
 
@@ -98,7 +56,10 @@ made-layouts {Made = Made} items_of load lists found made same is are =
     (subst (λ (found : Option Made). IfSome found (λ made. AreLayouts load (items_of made))) is are)
 
 module _ (lists : Lists) (command : Command)
-    (there : list_all (is_between 1 (length lists.tables.warehouses)) (warehouses_of command) ≡ true) where
+    (passed : refusal_of_numbers (is_between 1 (length lists.tables.warehouses)) command ≡ None) where
+  there : list_all (is_between 1 (length lists.tables.warehouses)) (warehouses_of command) ≡ true
+  there = (passed-numbers (is_between 1 (length lists.tables.warehouses)) command passed).named
+
   abbrev home : ℕ
   home = customer_home_of command
 
@@ -134,32 +95,34 @@ module _ (lists : Lists) (command : Command)
 
 -- ---- all tests
 
-all-there : (lists : Lists) (command : Command)
-    → list_all (is_there (database_of lists)) (warehouses_of command)
-    ≡ list_all (is_between 1 (length lists.tables.warehouses)) (warehouses_of command)
-all-there lists command = ap (λ n. list_all (is_between 1 n) (warehouses_of command)) (length-database lists)
+-- the database of a load has as many warehouses as the load
+same-numbers : (lists : Lists) (command : Command)
+    → refusal_of_numbers (is_there (database_of lists)) command
+    ≡ refusal_of_numbers (is_between 1 (length lists.tables.warehouses)) command
+same-numbers lists command = ap (λ n. refusal_of_numbers (is_between 1 n) command) (length-database lists)
 
-chain : (districts customer items : Bool)
-    → is_none (cond (not districts) (Some refusals.NoSuchDistrict) (cond (not customer) (Some refusals.NoSuchCustomer)
-    (cond (not items) (Some refusals.NoSuchItem) None))) ≡ (districts && customer && items)
-chain true true true = refl
-chain true true false = refl
-chain true false items = refl
-chain false customer items = refl
+chain : (customer items : Bool)
+    → is_none (cond (not customer) (Some refusals.NoSuchCustomer) (cond (not items) (Some refusals.NoSuchItem) None))
+    ≡ (customer && items)
+chain true true = refl
+chain true false = refl
+chain false items = refl
 
 module _ (lists : Lists) (command : Command) where
-  pub unknown-range : is_in_range command ≡ false → is_known lists command ≡ false
-  unknown-range range = rw range refl
+  pub unknown-numbers : (why : Refusal)
+      → refusal_of_numbers (is_between 1 (length lists.tables.warehouses)) command ≡ Some why
+      → false ≡ is_known lists command
+  unknown-numbers why refused = sym (rw (same-numbers lists command ∙ refused) refl)
 
-  module _ (range : is_in_range command ≡ true) where
-    pub unknown-elsewhere : list_all (is_between 1 (length lists.tables.warehouses)) (warehouses_of command) ≡ false
-        → is_known lists command ≡ false
-    unknown-elsewhere away = let there = all-there lists command ∙ away in rw (range, there) refl
+  module _ (passed : refusal_of_numbers (is_between 1 (length lists.tables.warehouses)) command ≡ None) where
+    known-all : is_known lists command ≡ (knows_customer lists command && has_items lists.items command)
+    known-all =
+        rw (same-numbers lists command ∙ passed)
+        (chain (knows_customer lists command) (has_items lists.items command))
 
-    pub known-all : list_all (is_between 1 (length lists.tables.warehouses)) (warehouses_of command) ≡ true
-        → is_known lists command
-        ≡ (has_districts command && knows_customer lists command && has_items lists.items command)
-    known-all here =
-        let there = all-there lists command ∙ here in
-        rw (range, there)
-        (chain (has_districts command) (knows_customer lists command) (has_items lists.items command))
+    -- a customer who is there leaves it to the items
+    pub known-rest : knows_customer lists command ≡ true → is_known lists command ≡ has_items lists.items command
+    known-rest knows = known-all ∙ ap (λ b. b && has_items lists.items command) knows
+
+    pub unknown-customer : knows_customer lists command ≡ false → false ≡ is_known lists command
+    unknown-customer unknown = sym (known-all ∙ ap (λ b. b && has_items lists.items command) unknown)

@@ -1,17 +1,17 @@
 //! The customers of a load, looked at one after the other.
 
-ghost use Rattle.std.specs.Prelude.{◌≡◌, ◌≤◌, ◌==◌, ◌&&◌, true, false, nat_lt, nat_le, filter, is_some, length};
-ghost use Rattle.std.specs.List.{list_all, list_any};
+ghost use Rattle.std.specs.Prelude.{◌≡◌, ◌≤◌, ◌==◌, ◌&&◌, None, true, false, nat_lt, nat_le, filter, is_some, length};
+ghost use Rattle.std.specs.List.{list_any};
 ghost use Rattle.std.specs.List.Sorted.{IsNonDecreasingBy, IsPartitionPoint};
 ghost use Rattle.hy_rows.specs.Finding.{is_customer};
 ghost use Rattle.hy_rows.specs.Ranges.{is_between};
 ghost use Rattle.hy_rows.specs.Tables.{of_warehouse};
-ghost use Rattle.hy_commands.specs.Commands.{warehouses_of};
+ghost use Rattle.hy_commands.specs.Commands.{refusal_of_numbers};
+ghost use Rattle.hy_commands.specs.inside.Named.{who_of};
 ghost use Rattle.hy_commands.specs.Customers.{customer_meant, is_named};
-ghost use Rattle.hy_commands.specs.Transactions.{has_districts};
 ghost use Rattle.hy_sound.specs.inside.Places.{district_place, knows_customer, stands_at};
 
-use hy_commands::{Command, Who};
+use hy_commands::{Command, CustomerRef, WhoRef};
 use hy_loads::Load;
 use hy_rows::Customer;
 
@@ -19,38 +19,30 @@ use hy_rows::Customer;
 #[cold]
 #[inline(never)]
 pub(crate) fn is_customer_among(load: &Load, command: &Command) -> bool
-    requires warehouses { list_all (is_between 1 (length load.now.tables.warehouses)) (warehouses_of command.now) ≡ true }
-    requires districts { has_districts command.now ≡ true }
+    requires { refusal_of_numbers (is_between 1 (length load.now.tables.warehouses)) command.now ≡ None }
     ensures { result ≡ knows_customer load.now command.now }
 {
     load.sound();
-    match command {
-        Command::NewOrder(order) => {
-            is_number_among(load, order.warehouse, order.district, order.customer)
-        }
-        Command::Payment(payment) => is_meant_among(
-            load,
-            payment.customer_warehouse,
-            payment.customer_district,
-            &payment.who,
-        ),
-        Command::OrderStatus(status) => {
-            is_meant_among(load, status.warehouse, status.district, &status.who)
-        }
-        Command::Delivery(_) | Command::StockLevel(_) => true,
+    match command.customer() {
+        Some(customer) => is_meant_among(load, customer),
+        None => true,
     }
 }
 
 /// Whether some customer of a district is meant.
-fn is_meant_among(load: &Load, warehouse: u64, district: u64, who: &Who) -> bool
-    requires warehouse { warehouse ≤ 255 }
-    requires district { district ≤ 255 }
-    ensures { result
-        ≡ is_some (customer_meant warehouse district who.now (of_warehouse warehouse load.now.tables).customers) }
+fn is_meant_among(load: &Load, customer: CustomerRef<'_>) -> bool
+    requires warehouse { customer.warehouse ≤ 255 }
+    requires district { customer.district ≤ 255 }
+    ensures { result ≡ is_some (customer_meant customer.entry.warehouse customer.entry.district
+        (who_of customer.entry.who) (of_warehouse customer.entry.warehouse load.now.tables).customers) }
 {
-    match who {
-        Who::Number(number) => is_number_among(load, warehouse, district, *number),
-        Who::Last(name) => is_name_among(load, warehouse, district, name.as_bytes()),
+    match customer.who {
+        WhoRef::Number(number) => {
+            is_number_among(load, customer.warehouse, customer.district, number)
+        }
+        WhoRef::Last(name) => {
+            is_name_among(load, customer.warehouse, customer.district, name.as_bytes())
+        }
     }
 }
 

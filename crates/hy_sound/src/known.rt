@@ -1,23 +1,19 @@
 //! What a load says of commands.
 
-ghost use Rattle.std.specs.Prelude.{◌≡◌, ◌≤◌, ◌&&◌, true, IfOk, IfSome, length};
-ghost use Rattle.std.specs.List.{list_all, list_any};
+ghost use Rattle.std.specs.Prelude.{◌≡◌, ◌≤◌, None, IfOk, IfSome, length};
 ghost use Rattle.hy_rows.specs.Limits.{max_warehouses};
 ghost use Rattle.hy_rows.specs.Ranges.{is_between};
-ghost use Rattle.hy_schema.specs.Related.{is_item};
-ghost use Rattle.hy_commands.specs.Commands.{warehouses_of};
-ghost use Rattle.hy_commands.specs.Parts.{customer_home_of};
-ghost use Rattle.hy_commands.specs.NewOrders.{has_item};
-ghost use Rattle.hy_commands.specs.Transactions.{has_customer, has_districts, has_items, is_district_number};
+ghost use Rattle.hy_commands.specs.Commands.{customer_home_of, refusal_of_numbers};
+ghost use Rattle.hy_commands.specs.Transactions.{has_customer};
 ghost use Rattle.hy_layout.specs.Layout.{own_rows};
 ghost use Rattle.hy_sound.specs.Sound.{is_known};
 ghost use Rattle.hy_sound.specs.inside.Places.{AreLayouts, knows_customer};
 
 use crate::customers::is_customer_among;
-use hy_commands::{Command, PurchaseLines};
-use hy_layout::Layout;
+use hy_commands::Command;
+use hy_layout::{Layout, has_items};
 use hy_loads::Load;
-use hy_rows::{DISTRICTS_PER_WAREHOUSE, Item, Warehouse};
+use hy_rows::Warehouse;
 use std::alloc::{AllocError, Global};
 use std::marker::Model;
 
@@ -77,28 +73,15 @@ impl<'a> Known<'a> {
     pub(crate) fn accepts(&self, command: &Command) -> bool
         ensures { result ≡ is_known self.now command.now }
     {
-        if command.check().is_err() {
-            return false;
+        match command.check_within(self.count() as u64) {
+            Ok(()) => self.has_customer(command) && has_items(self.load, command),
+            Err(_) => false,
         }
-        if !command.names_up_to(self.count() as u64) {
-            return false;
-        }
-        self.has_all(command)
-    }
-
-    /// Whether the districts, the customer and the items that a command names are there; a command whose warehouses are.
-    fn has_all(&self, command: &Command) -> bool
-        requires { list_all (is_between 1 (length self.now.tables.warehouses)) (warehouses_of command.now) ≡ true }
-        ensures { result ≡ (has_districts command.now && knows_customer self.now command.now
-            && has_items self.now.items command.now) }
-    {
-        has_districts(command) && self.has_customer(command) && has_items(self.load, command)
     }
 
     /// Whether the customer whom a command names is there; a command whose warehouses and districts are.
     fn has_customer(&self, command: &Command) -> bool
-        requires warehouses { list_all (is_between 1 (length self.now.tables.warehouses)) (warehouses_of command.now) ≡ true }
-        requires districts { has_districts command.now ≡ true }
+        requires { refusal_of_numbers (is_between 1 (length self.now.tables.warehouses)) command.now ≡ None }
         ensures { result ≡ knows_customer self.now command.now }
     {
         match self.layout_for(command) {
@@ -110,7 +93,7 @@ impl<'a> Known<'a> {
     /// The warehouse of the customer whom a command names; a command whose warehouses are there. None where there was no
     /// memory for it.
     fn layout_for(&self, command: &Command) -> Option<&Layout>
-        requires { list_all (is_between 1 (length self.now.tables.warehouses)) (warehouses_of command.now) ≡ true }
+        requires { refusal_of_numbers (is_between 1 (length self.now.tables.warehouses)) command.now ≡ None }
         ensures layout { IfSome result (λ layout.
             layout.now ≡ record { load = self.now; warehouse = customer_home_of command.now }) }
         ensures rows { IfSome result (λ layout.
@@ -144,81 +127,14 @@ fn count_of(load: &Load) -> u8
     load.list::<Warehouse>().len() as u8
 }
 
-/// Whether a district has this number.
-fn is_district(number: u64) -> bool
-    ensures { result ≡ is_district_number number }
-{
-    (1..=u64::from(DISTRICTS_PER_WAREHOUSE)).contains(&number)
-}
-
-/// Whether the districts that a command names are there.
-fn has_districts(command: &Command) -> bool
-    ensures { result ≡ has_districts command.now }
-{
-    match command {
-        Command::NewOrder(order) => is_district(order.district),
-        Command::Payment(payment) => {
-            is_district(payment.district) && is_district(payment.customer_district)
-        }
-        Command::OrderStatus(status) => is_district(status.district),
-        Command::Delivery(_) => true,
-        Command::StockLevel(level) => is_district(level.district),
-    }
-}
-
 /// Whether the customer whom a command names is one of a warehouse, which is the customer's.
 fn is_customer_of(layout: &Layout, command: &Command) -> bool
     requires { customer_home_of command.now ≡ layout.now.warehouse }
     ensures { result ≡ has_customer command.now (own_rows layout.now) }
 {
     layout.know_places();
-    match command {
-        Command::NewOrder(order) => layout
-            .place_of_number(order.district, order.customer)
-            .is_some(),
-        Command::Payment(payment) => layout
-            .place_of_customer(payment.customer_district, &payment.who)
-            .is_some(),
-        Command::OrderStatus(status) => layout
-            .place_of_customer(status.district, &status.who)
-            .is_some(),
-        Command::Delivery(_) | Command::StockLevel(_) => true,
+    match command.customer() {
+        Some(customer) => layout.place_of_customer(customer).is_some(),
+        None => true,
     }
-}
-
-/// Whether the items that a command names are there.
-fn has_items(load: &Load, command: &Command) -> bool
-    ensures { result ≡ has_items load.now.items command.now }
-{
-    match command {
-        Command::NewOrder(order) => has_lines(load, &order.lines),
-        _ => true,
-    }
-}
-
-/// Whether the items of all lines are there.
-fn has_lines(load: &Load, lines: &PurchaseLines) -> bool
-    ensures { result ≡ list_all (has_item load.now.items) lines.now }
-{
-    for place in 0..lines.len() {
-        if !has_number(load, lines.line(place).item) {
-            return false;
-        }
-    }
-    true
-}
-
-/// Whether an item has a number; the items of a load have the numbers 1, 2, 3 and so on.
-fn has_number(load: &Load, number: u64) -> bool
-    ensures { result ≡ list_any (is_item number) load.now.items }
-{
-    load.sound();
-    is_up_to(load.list::<Item>().len(), number)
-}
-
-/// Whether a number is one from 1 up to a count.
-fn is_up_to(count: usize, number: u64) -> bool
-    ensures { result ≡ is_between 1 count number }
-{
-    (1..=count as u64).contains(&number)
 }

@@ -6,7 +6,6 @@ mod known;
 mod lengths;
 mod looking;
 mod merge;
-mod same;
 
 pub use looking::check_log;
 pub use merge::Merge;

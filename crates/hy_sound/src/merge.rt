@@ -4,7 +4,6 @@ ghost use Rattle.std.specs.Prelude.{◌≡◌, ◌↔◌, suc, IsTrue, Some};
 ghost use Rattle.std.specs.Option.{option_copied};
 ghost use Rattle.hy_commands.specs.declared.command.Commit.TheVariants as commits;
 
-use crate::same::same_command;
 use hy_batches::Batch;
 use hy_commands::{Command, Commit, Edition};
 use hy_rows::MAX_WAREHOUSES;
@@ -87,7 +86,7 @@ fn is_crossing(commit: &Commit, edition: Edition, number: u64, command: &Command
     match commit {
         Commit::Local(_, _) => false,
         Commit::Cross(by, other, same) => {
-            *by == edition && *other == number && same_command(same, command)
+            *by == edition && *other == number && same.is_same(command)
         }
     }
 }

@@ -1,20 +1,19 @@
 //! The sums at the end of a storm.
 
-ghost use Rattle.std.specs.Prelude.{◌≡◌, ◌≤◌, ◌+◌, IfOk, IsTrue, None, length};
+ghost use Rattle.std.specs.Prelude.{◌≡◌, IfOk, IsTrue, None};
 ghost use Rattle.hy_schema.specs.Conditions.{first_broken};
-ghost use Rattle.hy_ledger.specs.Books.{no_totals, totals_of, with_book};
-ghost use Rattle.hy_session.specs.of_partition.Accounts.{IsBookOf};
+ghost use Rattle.hy_ledger.specs.Books.{totals_of};
 ghost use Rattle.hy_session.specs.of_partition.Jobs.{Log};
-ghost use Rattle.hy_session.specs.of_crossing.Crossings.{ArePartitions, database_behind};
+ghost use Rattle.hy_session.specs.of_crossing.Crossings.{database_behind};
 ghost use Rattle.hy_database.specs.Database.{all_rows};
 ghost use Rattle.hy_session.specs.of_forks.Forks.{AreOfKit, are_from};
 ghost use Rattle.hy_session.specs.Reports.{broken_condition};
-ghost use Rattle.hy_storm.specs.Storms.{AreFiguresBehind, HaveBooks, HaveKept, warehouses_of_load};
+ghost use Rattle.hy_session.specs.of_forks.Accounts.{warehouses_of_load};
+ghost use Rattle.hy_storm.specs.Storms.{AreFiguresBehind};
 
 use crate::PAGE_BYTES;
 use crate::threads::Gathered;
 use hy_commands::Commit;
-use hy_ledger::Balance;
 use hy_passes::{Journal, Pass};
 use hy_schema::Refusal;
 use hy_session::Session;
@@ -59,53 +58,17 @@ pub fn figures_of<K: Loaded>(
 {
     let broken = broken_at_the_end(alloc, &mut partitions, &mut journal, &mut pass)?;
     partitions.find_history(&mut journal);
-    partitions.sound();
-    let mut parts = partitions.into_parts();
-    let mut balance = Balance::new(gathered.purse);
-    audit_all(&mut parts, &mut balance);
-    balance.settle();
-    let (purses, books) = (balance.purses(), balance.books());
+    let sums = partitions.gather(gathered.purse);
     Ok(Figures {
-        commits: purses.commits,
-        cents: purses.cents,
-        kept: books.commits,
-        growth: i128::from(books.cents),
+        commits: sums.purses.commits,
+        cents: sums.purses.cents,
+        kept: sums.books.commits,
+        growth: i128::from(sums.books.cents),
         rounds: gathered.held,
-        shared: shared_of(&parts),
+        shared: shared_of(&partitions.into_parts()),
         broken,
         refusal: gathered.refusal.or(gathered.unlogged),
     })
-}
-
-/// Lays the books of all warehouses beside the purses: they have the commits of the serial list, each at its home, and
-/// what W_YTD has grown by.
-fn audit_all<K: Loaded>(parts: &mut Vec<Partition<PAGE_BYTES, K>>, balance: &mut Balance<K>)
-    requires parts { ArePartitions K.load parts.old.items }
-    requires first { (balance.old.audited ≡ 0) × (balance.old.books ≡ no_totals) }
-    ensures same { parts.new.items ≡ parts.old.items }
-    ensures all { balance.new.audited ≡ warehouses_of_load K.load }
-    ensures shares { balance.new.shares ≡ balance.old.shares }
-    ensures books { (log : Log) → HaveKept log parts.old.items
-        → HaveBooks K.load log (warehouses_of_load K.load) balance.new.books }
-{
-    for place in 0..parts.as_slice().len() {
-        audit(&mut parts[place], balance);
-    }
-}
-
-/// Lays the book of the next warehouse beside the purses.
-fn audit<K: Loaded>(part: &mut Partition<PAGE_BYTES, K>, balance: &mut Balance<K>)
-    requires next { part.old.warehouse ≡ balance.old.audited + 1 }
-    ensures same { part.new ≡ part.old }
-    ensures balance { balance.new ≡ record {
-      shares = balance.old.shares;
-      audited = balance.old.audited + 1;
-      books = with_book balance.old.books part.old.book;
-    } }
-    ensures book { IsBookOf part.old.load part.old.warehouse part.old.kept part.old.book }
-{
-    part.ties();
-    part.audit(balance);
 }
 
 /// The first consistency condition that the database at the end breaks: there is none.

@@ -2,7 +2,8 @@
 
 ghost use Rattle.std.specs.Prelude.{◌≡◌, [], false, IfSome, IsSome, None, OnOk};
 ghost use Rattle.hy_redo.specs.Disk.{BeginsBehind};
-ghost use Rattle.hy_storm.specs.Storms.{HasAll, warehouses_of_load};
+ghost use Rattle.hy_session.specs.of_forks.Accounts.{warehouses_of_load};
+ghost use Rattle.hy_storm.specs.Storms.{HasAll};
 
 use crate::PAGE_BYTES;
 use crate::kept::Kept;

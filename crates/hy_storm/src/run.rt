@@ -2,7 +2,8 @@
 
 ghost use Rattle.std.specs.Prelude.{◌≡◌, ◌+◌, ◌≤◌, [], IfOk, IfSome, IsSome, length};
 ghost use Rattle.hy_redo.specs.Disk.{BeginsBehind};
-ghost use Rattle.hy_storm.specs.Storms.{AreFigures, AreLogged, warehouses_of_load};
+ghost use Rattle.hy_session.specs.of_forks.Accounts.{warehouses_of_load};
+ghost use Rattle.hy_storm.specs.Storms.{AreFigures, AreLogged};
 
 use crate::PAGE_BYTES;
 use crate::ending::{Figures, figures_of};

@@ -1,65 +1,72 @@
 -- What a command has passed that a warehouse begins.
-use Rattle.std.proofs.Common.{◌≡◌, ℕ, ◌==◌, true, false, Option, Some, None, refl, ap, ◌∙◌}
-use Rattle.std.specs.Prelude.{find, is_some, MatchOption}
-use Rattle.std.specs.List.{list_all}
-use Rattle.std.proofs.lemmas.Bool.{and_parts, eqb-true}
-use Rattle.hy_commands.specs.declared.command.Purchase.{Purchase}
-use Rattle.hy_rows.specs.Finding.{is_customer}
+use Rattle.std.proofs.Common.{◌≡◌, ℕ, ◌==◌, true, false, Option, Some, None, refl, sym, ap, subst, ◌∙◌}
+use Rattle.std.specs.Prelude.{Err, IfErr, IfSome, is_some, MatchOption, Ok, Result}
+use Rattle.std.specs.Result.{IsErrAnd}
+use Rattle.std.proofs.lemmas.Bool.{eqb-true}
 use Rattle.hy_rows.specs.Tables.{Tables}
-use Rattle.hy_commands.specs.declared.command.Command.TheVariants as commands
-use Rattle.hy_commands.specs.declared.command.Who.TheVariants as who
-use Rattle.hy_commands.specs.Customers.{customer_meant}
-use Rattle.hy_commands.specs.Parts.{customer_home_of}
-use Rattle.hy_commands.specs.Transactions.{begin_refusal_of, has_customer, has_districts}
-use Rattle.hy_layout.specs.Layout.{IsMeantAt}
-use Rattle.hy_tpcc.specs.Executor.{HasCustomerAt}
 use Rattle.hy_schema.specs.declared.refusal.Refusal.TheVariants as refusals
+use Rattle.hy_schema.specs.declared.refusal.Refusal.{Refusal}
 use Rattle.hy_commands.specs.declared.command.Command.{Command}
-use Rattle.hy_commands.specs.Commands.{is_in_range, warehouses_of}
-use Rattle.hy_commands.proofs.AcceptedLaws.{named-purchase, own-payer}
+use Rattle.hy_commands.specs.Commands.{CustomerName, customer_home_of, customer_named, home_of, home_or, refusal_of_numbers}
+use Rattle.hy_commands.specs.Customers.{customer_meant}
+use Rattle.hy_commands.specs.Transactions.{begin_refusal_of, has_customer, is_customer_there}
+use Rattle.hy_commands.proofs.AcceptedLaws.{passed-numbers}
+use Rattle.hy_commands.proofs.NamedLaws.{named-customer_home}
+use Rattle.hy_layout.specs.Layout.{IsMeantAt}
+use Rattle.hy_tpcc.specs.Executor.{FindsCustomer}
 
--- the customer whom a command names that names one warehouse is one of it
-pub customer-home : (warehouse : ℕ) (command : Command)
-    → list_all (λ named. named == warehouse) (warehouses_of command) ≡ true → customer_home_of command ≡ warehouse
-customer-home warehouse (commands.NewOrder order) all =
-    eqb-true order.warehouse warehouse (named-purchase (λ named. named == warehouse) order all).0
-customer-home warehouse (commands.Payment payment) all = own-payer warehouse payment all
-customer-home warehouse (commands.OrderStatus status) all =
-    eqb-true status.warehouse warehouse (and_parts (status.warehouse == warehouse) true all).0
-customer-home warehouse (commands.Delivery delivery) all =
-    eqb-true delivery.warehouse warehouse (and_parts (delivery.warehouse == warehouse) true all).0
-customer-home warehouse (commands.StockLevel level) all =
-    eqb-true level.warehouse warehouse (and_parts (level.warehouse == warehouse) true all).0
+-- where the customer stands whom a command names
+module _ (warehouse : ℕ) (command : Command) (customer : CustomerName) (tables : Tables)
+    (named : customer_named command ≡ Some customer) (home : customer_home_of command ≡ warehouse) where
+  here : customer.warehouse ≡ warehouse
+  here = sym (ap (home_or (home_of command)) named) ∙ home
 
-pub begin-purchase : (warehouse : ℕ) (order : Purchase) (tables : Tables) (found : Option ℕ)
-    → order.warehouse ≡ warehouse
-    → MatchOption found (customer_meant warehouse order.district (who.Number order.customer) tables.customers ≡ None)
-    (IsMeantAt warehouse order.district (who.Number order.customer) tables.customers)
-    → MatchOption found (has_customer (commands.NewOrder order) tables ≡ false)
-    (λ place. (has_customer (commands.NewOrder order) tables ≡ true)
-    × HasCustomerAt warehouse (commands.NewOrder order) tables place)
-begin-purchase warehouse order tables None home none =
-    ap (λ w. is_some (find (is_customer w order.district order.customer) tables.customers)) home ∙ ap is_some none
-begin-purchase warehouse order tables (Some place) home meant = (
-  ap (λ w. is_some (find (is_customer w order.district order.customer) tables.customers)) home ∙ ap is_some meant.meant,
-  meant,
+  there : has_customer command tables
+      ≡ is_some (customer_meant warehouse customer.district customer.who tables.customers)
+  there = ap (is_customer_there tables) named
+      ∙ ap (λ w. is_some (customer_meant w customer.district customer.who tables.customers)) here
+
+  pub begin-found : (found : Option ℕ)
+      → MatchOption found (customer_meant warehouse customer.district customer.who tables.customers ≡ None)
+      (IsMeantAt warehouse customer.district customer.who tables.customers)
+      → FindsCustomer warehouse command tables found
+  begin-found None none = there ∙ ap is_some none
+  begin-found (Some place) meant = (
+    there ∙ ap is_some meant.meant,
+    subst (λ named. IfSome named (λ customer. IsMeantAt warehouse customer.district customer.who tables.customers place))
+        (sym named) meant,
+  )
+
+-- a command that names none has none to be found
+pub begin-nobody : (warehouse : ℕ) (command : Command) (tables : Tables) → customer_named command ≡ None
+    → FindsCustomer warehouse command tables (Some 0)
+begin-nobody warehouse command tables none = (
+  ap (is_customer_there tables) none,
+  subst (λ named. IfSome named (λ customer. IsMeantAt warehouse customer.district customer.who tables.customers 0))
+      (sym none) tt,
 )
 
+-- who is named by a command that its numbers don't refuse is one of the warehouse
+pub customer-home : (warehouse : ℕ) (command : Command)
+    → refusal_of_numbers (λ named. named == warehouse) command ≡ None → customer_home_of command ≡ warehouse
+customer-home warehouse command passed =
+    eqb-true (customer_home_of command) warehouse
+    (named-customer_home (λ named. named == warehouse) command
+    (passed-numbers (λ named. named == warehouse) command passed).named)
+
 -- why a command isn't begun, test by test
-module _ (warehouse : ℕ) (command : Command) (tables : Tables) (in_range : is_in_range command ≡ true) where
-  pub refused-elsewhere : list_all (λ named. named == warehouse) (warehouses_of command) ≡ false
-      → begin_refusal_of warehouse command tables ≡ Some refusals.NoSuchWarehouse
-  refused-elsewhere named = rw (in_range, named) refl
+module _ (warehouse : ℕ) (command : Command) (tables : Tables) where
+  pub refused-numbers : {Value : Type 0} (answer : Result Value Refusal) (why : Refusal)
+      → IsErrAnd answer (λ error. error ≡ why)
+      → refusal_of_numbers (λ named. named == warehouse) command ≡ Some why
+      → IfErr answer (λ why. begin_refusal_of warehouse command tables ≡ Some why)
+  refused-numbers (Ok value) why is refused = tt
+  refused-numbers (Err error) why is refused = rw refused (ap Some (sym is))
 
-  module _ (named : list_all (λ named. named == warehouse) (warehouses_of command) ≡ true) where
-    pub refused-district : has_districts command ≡ false
-        → begin_refusal_of warehouse command tables ≡ Some refusals.NoSuchDistrict
-    refused-district districts = rw (in_range, named, districts) refl
-
-    pub refused-customer : has_districts command ≡ true → has_customer command tables ≡ false
+  module _ (passed : refusal_of_numbers (λ named. named == warehouse) command ≡ None) where
+    pub refused-customer : has_customer command tables ≡ false
         → begin_refusal_of warehouse command tables ≡ Some refusals.NoSuchCustomer
-    refused-customer districts customer = rw (in_range, named, districts, customer) refl
+    refused-customer customer = rw (passed, customer) refl
 
-    pub not-refused : has_districts command ≡ true → has_customer command tables ≡ true
-        → begin_refusal_of warehouse command tables ≡ None
-    not-refused districts customer = rw (in_range, named, districts, customer) refl
+    pub not-refused : has_customer command tables ≡ true → begin_refusal_of warehouse command tables ≡ None
+    not-refused customer = rw (passed, customer) refl

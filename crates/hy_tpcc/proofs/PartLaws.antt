@@ -29,15 +29,15 @@ use Rattle.hy_commands.specs.declared.command.Who.{Who}
 use Rattle.hy_commands.specs.declared.edition.Edition.{Edition}
 use Rattle.hy_commands.specs.declared.command.Who.TheVariants as who
 use Rattle.hy_commands.specs.declared.reply.Reply.{Reply}
-use Rattle.hy_commands.specs.Commands.{is_line_in_range}
+use Rattle.hy_commands.specs.Commands.{customer_home_of, is_district_number, is_line_in_range}
 use Rattle.hy_commands.specs.Customers.{customer_meant}
 use Rattle.hy_commands.specs.Growth.{HasGrownBy, IsCustomerUpTo, IsStockUpTo}
 use Rattle.hy_commands.specs.Invariant.{stock_key}
 use Rattle.hy_commands.specs.NewOrders.{has_item, is_stock, ordered, sold, sold_line, supplied}
-use Rattle.hy_commands.specs.Parts.{customer_home_of, database_of, is_number, is_there, number_in}
+use Rattle.hy_commands.specs.Parts.{database_of, is_number, is_there, number_in}
 use Rattle.hy_commands.specs.Payments.{paid_by, paid_in}
 use Rattle.hy_commands.specs.Replay.{HasWarehouse}
-use Rattle.hy_commands.specs.Transactions.{accepted, has_customer, is_district_number, payer}
+use Rattle.hy_commands.specs.Transactions.{accepted, has_customer, payer}
 use Rattle.hy_commands.proofs.AcceptedLaws.{IsAcceptedIn, accepted-in, named-payment, named-purchase, payment-in_range, purchase-in_range}
 use Rattle.hy_commands.proofs.DatabaseLaws.{rows-load, there-load}
 use Rattle.hy_commands.proofs.Grown.{grown-rows}

@@ -1,11 +1,9 @@
 -- What holds of a store between the slices of a command.
-use Rattle.std.proofs.Common.{◌≡◌, ◌&&◌, ◌≢◌, ℕ, ◌<◌, ◌≤◌, ◌+◌, ◌==◌, Bool, true, false, cond, Option, Some, None, refl, sym, ap, subst, ◌∙◌, zero, suc, arith}
-use Rattle.std.specs.Prelude.{not, slice_get}
-use Rattle.std.specs.List.{list_all}
+use Rattle.std.proofs.Common.{◌≡◌, ◌&&◌, ◌≢◌, ℕ, ◌<◌, ◌≤◌, ◌+◌, ◌==◌, true, Some, None, refl, sym, ap, subst, ◌∙◌, zero, suc, arith}
+use Rattle.std.specs.Prelude.{slice_get}
 use Rattle.std.proofs.lemmas.Bool.{and_parts, eqb-true}
 use Rattle.hy_rows.specs.Tables.{Tables}
 use Rattle.hy_rows.specs.declared.customer.Customer.{Customer}
-use Rattle.hy_schema.specs.declared.refusal.Refusal.{Refusal}
 use Rattle.hy_commands.specs.declared.command.Command.{Command}
 use Rattle.hy_commands.specs.declared.command.Command.TheVariants as commands
 use Rattle.hy_commands.specs.declared.command.Delivery.{Delivery}
@@ -16,14 +14,13 @@ use Rattle.hy_commands.specs.declared.command.StockLevel.{StockLevel}
 use Rattle.hy_commands.specs.declared.edition.Edition.{Edition}
 use Rattle.hy_commands.specs.Invariant.{IsSoundWarehouse}
 use Rattle.hy_writers.specs.Waiting.{IsSoundStore}
-use Rattle.hy_commands.specs.Commands.{is_in_range, warehouses_of}
+use Rattle.hy_commands.specs.Commands.{has_districts, is_district_number, refusal_of_numbers, slice_count}
 use Rattle.hy_commands.specs.Payments.{paid_by, paid_in}
-use Rattle.hy_commands.specs.Transactions.{begin_refusal_of, has_districts, is_district_number, payer}
-use Rattle.hy_commands.proofs.AcceptedLaws.{own-payer}
+use Rattle.hy_commands.specs.Transactions.{begin_refusal_of, payer}
+use Rattle.hy_commands.proofs.AcceptedLaws.{begun, neither, own-payer, passed-numbers}
 use Rattle.hy_layout.specs.Layout.{KeepsPlaces, LayoutState, own_rows}
 use Rattle.hy_slices.specs.Between.{IsWholeWarehouse}
 use Rattle.hy_slices.specs.Begun.{Begins}
-use Rattle.hy_slices.specs.Slices.{slice_count}
 use Rattle.hy_slices.proofs.BegunLaws.{alone-delivery, alone-level, alone-payment, alone-status, begun-delivery, begun-payment}
 use Rattle.hy_slices.proofs.BetweenSlices.{oldest-before, sound-slices, whole-slices}
 use Rattle.hy_writers.specs.of_store.Stored.{Stored}
@@ -36,33 +33,18 @@ use Rattle.hy_writers.proofs.PaymentLaws.{payer-at}
 use Rattle.hy_tpcc.proofs.KeepsLaws.{keeps-slices}
 use Rattle.hy_tpcc.specs.Executor.{HasDone, answer_of}
 
--- a test that a command has passed
-passed : (test : Bool) (why : Refusal) (rest : Option Refusal) → cond (not test) (Some why) rest ≡ None
-    → (test ≡ true) × (rest ≡ None)
-passed true why rest none = (refl, none)
-passed false why rest none = absurd (cc)
-
 pub districts-begun : (warehouse : ℕ) (command : Command) (tables : Tables)
     → begin_refusal_of warehouse command tables ≡ None → has_districts command ≡ true
 districts-begun warehouse command tables begins =
-    let first = passed (is_in_range command) _ _ begins in
-    let second = passed (list_all (λ named. named == warehouse) (warehouses_of command)) _ _ first.1 in
-    (passed (has_districts command) _ _ second.1).0
-
--- a command that names one warehouse alone, and no other
-pub named-begun : (warehouse : ℕ) (command : Command) (tables : Tables)
-    → begin_refusal_of warehouse command tables ≡ None
-    → list_all (λ named. named == warehouse) (warehouses_of command) ≡ true
-named-begun warehouse command tables begins =
-    let first = passed (is_in_range command) _ _ begins in
-    (passed (list_all (λ named. named == warehouse) (warehouses_of command)) _ _ first.1).0
+    (passed-numbers (λ named. named == warehouse) command
+    (neither (refusal_of_numbers (λ named. named == warehouse) command) _ begins).0).districts
 
 pub payment-home : (warehouse : ℕ) (payment : Payment) (tables : Tables) → warehouse ≤ 16
     → Begins warehouse (commands.Payment payment) tables → IsHomePayment warehouse payment
 payment-home warehouse payment tables near begins =
     let alone = alone-payment warehouse payment tables begins in
     let whole = begun-payment warehouse payment tables alone in
-    let own = own-payer warehouse payment (named-begun warehouse (commands.Payment payment) tables alone) in
+    let own = own-payer warehouse payment (begun warehouse (commands.Payment payment) tables alone) in
     record {
       home = whole.home;
       district = whole.district;
@@ -78,7 +60,7 @@ pub payment-customer : (warehouse : ℕ) (payment : Payment) (tables : Tables)
 payment-customer warehouse payment tables begins =
     let alone = alone-payment warehouse payment tables begins in
     record {
-      customer_home = own-payer warehouse payment (named-begun warehouse (commands.Payment payment) tables alone);
+      customer_home = own-payer warehouse payment (begun warehouse (commands.Payment payment) tables alone);
       amount = (begun-payment warehouse payment tables alone).amount;
     }
 
@@ -197,14 +179,14 @@ pub home-status : (warehouse : ℕ) (status : OrderStatus) (tables : Tables)
 home-status warehouse status tables begins =
     eqb-true status.warehouse warehouse
     (and_parts (status.warehouse == warehouse) true
-    (named-begun warehouse (commands.OrderStatus status) tables (alone-status warehouse status tables begins))).0
+    (begun warehouse (commands.OrderStatus status) tables (alone-status warehouse status tables begins))).0
 
 pub home-level : (warehouse : ℕ) (level : StockLevel) (tables : Tables)
     → Begins warehouse (commands.StockLevel level) tables → level.warehouse ≡ warehouse
 home-level warehouse level tables begins =
     eqb-true level.warehouse warehouse
     (and_parts (level.warehouse == warehouse) true
-    (named-begun warehouse (commands.StockLevel level) tables (alone-level warehouse level tables begins))).0
+    (begun warehouse (commands.StockLevel level) tables (alone-level warehouse level tables begins))).0
 
 -- ---- a delivery
 

@@ -11,7 +11,7 @@ use Rattle.hy_commands.specs.declared.edition.Edition.{Edition}
 use Rattle.hy_commands.specs.declared.reply.Reply.{Reply}
 use Rattle.hy_commands.specs.declared.reply.Reply.TheVariants as replies
 use Rattle.hy_commands.specs.Deliveries.{oldest}
-use Rattle.hy_slices.specs.Slices.{slice_count}
+use Rattle.hy_commands.specs.Commands.{slice_count}
 use Rattle.hy_writers.specs.of_store.Stored.{Stored}
 use Rattle.hy_tpcc.proofs.SliceLaws.{delivery-begun}
 use Rattle.hy_tpcc.specs.Executor.{ExecutorState, HasDone, IsUnderWay, NotesDelivered, answer_of, delivered_before}

@@ -1,10 +1,9 @@
 -- A command on its way through its slices.
-use Rattle.std.specs.Prelude.{◌≡◌, ℕ, ◌+◌, ◌==◌, ◌≤◌, ⊤, false, true, if◌then◌else◌, List, map, Option, None, Some, MatchOption}
+use Rattle.std.specs.Prelude.{◌≡◌, ℕ, ◌+◌, ◌==◌, ◌≤◌, ⊤, false, true, if◌then◌else◌, List, map, Option, None, Some, IfSome, MatchOption}
 use Rattle.std.specs.List.{range_with_len}
 use Rattle.hy_rows.specs.Tables.{Tables}
 use Rattle.hy_commands.specs.declared.command.Command.{Command}
 use Rattle.hy_commands.specs.declared.command.Command.TheVariants as commands
-use Rattle.hy_commands.specs.declared.command.Who.TheVariants as who
 use Rattle.hy_commands.specs.declared.edition.Edition.{Edition}
 use Rattle.hy_commands.specs.Deliveries.{oldest}
 use Rattle.hy_commands.specs.Invariant.{IsSoundWarehouse}
@@ -12,7 +11,8 @@ use Rattle.hy_commands.specs.declared.reply.Reply.{Reply}
 use Rattle.hy_commands.specs.Transactions.{accepted, has_customer}
 use Rattle.hy_layout.specs.Layout.{IsMeantAt, KeepsPlaces, LayoutState, own_rows}
 use Rattle.hy_slices.specs.Begun.{Begins, BeginsAlone}
-use Rattle.hy_slices.specs.Slices.{after_slices, has_items_before, slice_count}
+use Rattle.hy_commands.specs.Commands.{customer_named, slice_count}
+use Rattle.hy_slices.specs.Slices.{after_slices, has_items_before}
 use Rattle.hy_writers.specs.of_store.Stored.{Stored}
 use Rattle.hy_writers.specs.of_indexes.Indexes.{HasIndexes}
 use Rattle.hy_writers.specs.Limits.{AreInBounds}
@@ -26,13 +26,9 @@ pub record ExecutorState : Type 0 where
 
 -- the customer whom a command names stands at a place
 abbrev pub HasCustomerAt : ℕ → Command → Tables → ℕ → Type 0
-HasCustomerAt warehouse (commands.NewOrder order) tables place =
-    IsMeantAt warehouse order.district (who.Number order.customer) tables.customers place
-HasCustomerAt warehouse (commands.Payment payment) tables place =
-    IsMeantAt warehouse payment.customer_district payment.who tables.customers place
-HasCustomerAt warehouse (commands.OrderStatus status) tables place =
-    IsMeantAt warehouse status.district status.who tables.customers place
-HasCustomerAt warehouse command tables place = ⊤
+HasCustomerAt warehouse command tables place =
+    IfSome (customer_named command)
+    (λ customer. IsMeantAt warehouse customer.district customer.who tables.customers place)
 
 -- the place is right in all rows that keep the places of the loaded ones
 abbrev pub KnowsCustomer : LayoutState → Command → ℕ → Type 0

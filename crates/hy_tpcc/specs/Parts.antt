@@ -6,8 +6,8 @@ use Rattle.hy_commands.specs.declared.command.Command.{Command}
 use Rattle.hy_commands.specs.declared.command.PurchaseLine.{PurchaseLine}
 use Rattle.hy_commands.specs.declared.edition.Edition.{Edition}
 use Rattle.hy_commands.specs.declared.reply.Reply.{Reply}
-use Rattle.hy_commands.specs.Commands.{warehouses_of}
-use Rattle.hy_commands.specs.Parts.{customer_home_of, database_of, is_by_number, part, payer_number, refusal_in}
+use Rattle.hy_commands.specs.Commands.{customer_home_of, warehouses_of}
+use Rattle.hy_commands.specs.Parts.{database_of, is_by_number, part, payer_number, refusal_in}
 use Rattle.hy_commands.specs.Transactions.{accepted, has_customer}
 use Rattle.hy_layout.specs.Layout.{LayoutState}
 use Rattle.hy_writers.specs.of_store.Stored.{Stored}

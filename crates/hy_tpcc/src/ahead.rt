@@ -20,13 +20,14 @@ pub(crate) fn read_ahead<const N: usize>(
 ) -> u64
     requires { HasStore N (owner_bytes space.now) }
 {
-    match command {
-        Command::NewOrder(order) => {
-            let customer = glance_at::<Customer, N>(space, place);
-            customer ^ glance_at_lines(layout, space, &order.lines)
-        }
-        Command::Payment(_) | Command::OrderStatus(_) => glance_at::<Customer, N>(space, place),
-        Command::Delivery(_) | Command::StockLevel(_) => 0,
+    let lines = match command {
+        Command::NewOrder(order) => glance_at_lines(layout, space, &order.lines),
+        _ => 0,
+    };
+    if command.customer().is_some() {
+        lines ^ glance_at::<Customer, N>(space, place)
+    } else {
+        lines
     }
 }
 

@@ -3,14 +3,14 @@
 use crate::ahead::read_ahead;
 use crate::begin::begin_place;
 use crate::delivery::deliver;
-use crate::parts::{find_payer, has_items, order_part, payment_part};
+use crate::parts::{find_payer, order_part, payment_part};
 use crate::payment::pay;
 use crate::purchase::buy;
 use crate::reading::{answer_level, answer_status};
 use crate::refused::with_refusal;
 use arrayvec::ArrayVec;
 use hy_commands::{Command, Delivery, Edition, OrderStatus, Reply, StockLevel};
-use hy_layout::Layout;
+use hy_layout::{Layout, has_items};
 use hy_schema::Refusal;
 use hy_space::Space;
 use hy_undo::Undo;
@@ -50,9 +50,9 @@ impl Executor {
     ghost use Rattle.hy_space.specs.Space.{owner_bytes};
     ghost use Rattle.hy_frames.specs.FrameTable.{free_of};
     ghost use Rattle.hy_commands.specs.Growth.{HasGrownBy};
-    ghost use Rattle.hy_commands.specs.Parts.{customer_home_of};
+    ghost use Rattle.hy_commands.specs.Commands.{customer_home_of, slice_count};
     ghost use Rattle.hy_commands.specs.Transactions.{begin_refusal_of, has_items};
-    ghost use Rattle.hy_slices.specs.Slices.{has_item_at, slice_count};
+    ghost use Rattle.hy_slices.specs.Slices.{has_item_at};
     ghost use Rattle.hy_writers.specs.of_store.Stored.{HasStore};
     ghost use Rattle.hy_writers.specs.of_store.Writes.{IsWritableStore, LeavesStore, WritesStore, stored_in};
     ghost use Rattle.hy_writers.specs.Waiting.{IsSoundStore};
@@ -160,7 +160,7 @@ impl Executor {
     pub fn has_items(&self, command: &Command) -> bool
         ensures { result ≡ has_items self.now.layout.load.items command.now }
     {
-        has_items(&self.layout, command)
+        has_items(self.layout.load(), command)
     }
 
     /// The number of the customer who pays, who is one of this warehouse, and 0 where nobody does; none where the

@@ -13,6 +13,5 @@ mod reading;
 mod refused;
 mod status;
 
-pub use begin::has_districts;
 pub use executor::Executor;
 pub use refused::refusal_of_shortage;

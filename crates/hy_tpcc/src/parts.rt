@@ -1,11 +1,10 @@
 //! What one warehouse does of a command over several warehouses.
 
 ghost use Rattle.std.specs.Prelude.{◌≡◌, ◌≢◌, ◌+◌, ◌<◌, ◌⊎◌, true, length, Some, IfErr, IfOk, IsErrOf, OnOk};
-ghost use Rattle.std.specs.List.{list_all};
 ghost use Rattle.hy_frames.specs.FrameTable.{free_of};
 ghost use Rattle.hy_commands.specs.Growth.{HasGrownBy};
-ghost use Rattle.hy_commands.specs.NewOrders.{has_item};
-ghost use Rattle.hy_commands.specs.Parts.{customer_home_of, is_number, number_in, payer_number};
+ghost use Rattle.hy_commands.specs.Commands.{customer_home_of};
+ghost use Rattle.hy_commands.specs.Parts.{is_number, number_in, payer_number};
 ghost use Rattle.hy_commands.specs.Transactions.{has_items};
 ghost use Rattle.hy_space.specs.Space.{owner_bytes};
 ghost use Rattle.hy_writers.specs.of_store.Stored.{HasStore};
@@ -19,46 +18,13 @@ use crate::begin::customer_place;
 use crate::payment::number_at;
 use crate::purchase::buy;
 use crate::refused::refusal_of_shortage;
-use hy_commands::{Command, Edition, Payment, Purchase, PurchaseLine, PurchaseLines, Reply, Who};
+use hy_commands::{Command, Edition, Payment, Purchase, Reply, Who};
 use hy_frames::Shortage;
 use hy_layout::Layout;
 use hy_schema::Refusal;
 use hy_space::Space;
 use hy_undo::Undo;
 use hy_writers::{pay_customer, pay_home, sell_line};
-
-/// Whether the item of a line is there.
-fn is_known(layout: &Layout, line: &PurchaseLine) -> bool
-    ensures { result ≡ has_item layout.now.load.items line.now }
-{
-    match layout.item(line.item) {
-        Some(_) => true,
-        None => false,
-    }
-}
-
-/// Whether the items of lines are there.
-fn are_known(layout: &Layout, lines: &PurchaseLines) -> bool
-    ensures { result ≡ list_all (has_item layout.now.load.items) lines.now }
-{
-    for place in 0..lines.len() {
-        if !is_known(layout, &lines.line(place)) {
-            return false;
-        }
-    }
-    true
-}
-
-/// Whether the items that a command names are there.
-pub(crate) fn has_items(layout: &Layout, command: &Command) -> bool
-    ensures { result ≡ has_items layout.now.load.items command.now }
-{
-    match command {
-        Command::NewOrder(order) => are_known(layout, &order.lines),
-        Command::Payment(_) | Command::OrderStatus(_) => true,
-        Command::Delivery(_) | Command::StockLevel(_) => true,
-    }
-}
 
 /// The number of the customer who pays, and stands at a place; 0 where nobody pays.
 fn payer_at<const N: usize>(space: &Space<N>, command: &Command, place: u64) -> u64
@@ -68,8 +34,7 @@ fn payer_at<const N: usize>(space: &Space<N>, command: &Command, place: u64) -> 
 {
     match command {
         Command::Payment(_) => u64::from(number_at(space, place)),
-        Command::NewOrder(_) | Command::OrderStatus(_) => 0,
-        Command::Delivery(_) | Command::StockLevel(_) => 0,
+        _ => 0,
     }
 }
 
@@ -271,7 +236,7 @@ fn pay_for_customer<const N: usize>(
     ensures no_frame { IsErrOf result Shortage.NoFrame → IsOutOfFrames space.new }
 {
     layout.know_places();
-    let Some(place) = layout.place_of_customer(payment.customer_district, &payment.who) else {
+    let Some(place) = layout.place_of_customer(payment.customer()) else {
         unreachable!()
     };
     pay_customer(layout, space, undo, edition, payment, place)

@@ -1,10 +1,15 @@
--- The warehouses that a command names, as they are found in it one after the other.
+-- The warehouses that a command names, as they are found in it one after the other, and its customer, as it is lent.
 use Rattle.std.specs.Prelude.{ℕ, ◌==◌, if◌then◌else◌, List, [], ◌∷◌, ◌++◌, map, take, drop}
 use Rattle.std.specs.List.{list_any}
 use Rattle.hy_commands.specs.declared.command.Command.{Command}
 use Rattle.hy_commands.specs.declared.command.Command.TheVariants as commands
 use Rattle.hy_commands.specs.declared.command.PurchaseLine.{PurchaseLine}
-use Rattle.hy_commands.specs.Commands.{home_of}
+use Rattle.hy_commands.specs.declared.command.Who.{Who}
+use Rattle.hy_commands.specs.declared.command.Who.TheVariants as who
+use Rattle.hy_commands.specs.declared.customer.CustomerRef.{CustomerRef}
+use Rattle.hy_commands.specs.declared.customer.WhoRef.{WhoRef}
+use Rattle.hy_commands.specs.declared.customer.WhoRef.TheVariants as lent
+use Rattle.hy_commands.specs.Commands.{CustomerName, home_of}
 
 -- the numbers of warehouses that stand in a command: its home, and behind it who supplies each line, or where the customer is
 abbrev pub numbers_in : Command → List ℕ
@@ -23,3 +28,12 @@ firsts before (number ∷ later) =
 -- those of a command that are named behind its first numbers
 abbrev pub named_from : Command → ℕ → List ℕ
 named_from command place = firsts (take place (numbers_in command)) (drop place (numbers_in command))
+
+-- the customer that is lent
+abbrev pub who_of : WhoRef → Who
+who_of (lent.Number number) = who.Number number
+who_of (lent.Last name) = who.Last name.now
+
+abbrev pub name_of : CustomerRef → CustomerName
+name_of customer =
+    record { warehouse = customer.warehouse; district = customer.district; who = who_of customer.who }

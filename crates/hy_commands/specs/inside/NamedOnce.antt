@@ -1,16 +1,16 @@
 -- A command and a commit name each warehouse once.
 use Rattle.std.specs.Prelude.{◌≡◌, ◌≢◌, ℕ, ◌==◌, true, false, List, [], ◌∷◌, ◌++◌, fold, All, refl}
 use Rattle.std.specs.List.{AllPairs, list_any}
-use Rattle.std.proofs.Common.{arith, cond}
+use Rattle.std.proofs.Common.{arith, cond, subst, sym}
 use Rattle.std.proofs.lemmas.Bool.{eqb-false, or_parts}
 use Rattle.std.proofs.lemmas.List.Elements.{All-cons, All-nil}
 use Rattle.std.proofs.lemmas.List.Quantifiers.{all_pairs_push}
 use Rattle.hy_schema.specs.Keys.{AreUnique}
 use Rattle.hy_commands.specs.declared.command.Command.{Command}
-use Rattle.hy_commands.specs.declared.command.Command.TheVariants as commands
 use Rattle.hy_commands.specs.declared.command.Commit.{Commit}
 use Rattle.hy_commands.specs.declared.command.PurchaseLine.{PurchaseLine}
-use Rattle.hy_commands.specs.Commands.{command_of, warehouses_of, warehouses_of_commit, with_named}
+use Rattle.hy_commands.specs.Commands.{command_of, home_of, warehouses_of, warehouses_of_commit, with_named}
+use Rattle.hy_commands.specs.inside.Kinds.{by_several}
 
 alone : (number : ℕ) → AreUnique (number ∷ [])
 alone number = λ i j d before within. absurd (omega arith)
@@ -42,12 +42,11 @@ once-suppliers (line ∷ lines) named unique =
 
 -- each warehouse that a command names stands there once
 pub named_once : (command : Command) → AllPairs (λ one other. one ≢ other) (warehouses_of command)
-named_once (commands.NewOrder order) = once-suppliers order.lines (order.warehouse ∷ []) (alone order.warehouse)
-named_once (commands.Payment payment) =
-    once-with (payment.warehouse ∷ []) payment.customer_warehouse (alone payment.warehouse)
-named_once (commands.OrderStatus status) = alone status.warehouse
-named_once (commands.Delivery delivery) = alone delivery.warehouse
-named_once (commands.StockLevel level) = alone level.warehouse
+named_once =
+    by_several (λ command. AllPairs (λ one other. one ≢ other) (warehouses_of command))
+    (λ order. once-suppliers order.lines (order.warehouse ∷ []) (alone order.warehouse))
+    (λ payment. once-with (payment.warehouse ∷ []) payment.customer_warehouse (alone payment.warehouse))
+    (λ command home. subst (AllPairs (λ one other. one ≢ other)) (sym home.warehouses) (alone (home_of command)))
 
 pub named_once-commit : (commit : Commit) → AllPairs (λ one other. one ≢ other) (warehouses_of_commit commit)
 named_once-commit commit = named_once (command_of commit)

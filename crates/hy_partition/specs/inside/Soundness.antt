@@ -8,9 +8,8 @@ use Rattle.hy_schema.specs.Loads.{IsLoad}
 use Rattle.hy_passes.specs.Worlds.{KeptState}
 use Rattle.hy_tickets.specs.Desks.{DeskState, is_out}
 use Rattle.hy_commands.specs.declared.command.Commit.{Commit}
-use Rattle.hy_commands.specs.Commands.{is_reader}
+use Rattle.hy_commands.specs.Commands.{is_reader, slice_count}
 use Rattle.hy_commands.specs.Transactions.{begin_refusal_of}
-use Rattle.hy_slices.specs.Slices.{slice_count}
 use Rattle.hy_space.specs.Space.{SpaceState, owner_bytes}
 use Rattle.hy_undo.specs.UndoLog.{UndoLog, undone, empty_log}
 use Rattle.hy_undo.specs.PrivatePages.{IsUndoLog}

@@ -3,7 +3,8 @@ use Rattle.std.specs.Prelude.{◌≡◌, ℕ, suc, ◌+◌, ◌*◌, Bool, List,
 use Rattle.hy_rows.specs.Tables.{Lists}
 use Rattle.hy_rows.specs.declared.customer.Customer.{Customer}
 use Rattle.hy_commands.specs.declared.command.Command.{Command}
-use Rattle.hy_commands.specs.Parts.{customer_home_of, database_of, rows_of}
+use Rattle.hy_commands.specs.Commands.{customer_home_of}
+use Rattle.hy_commands.specs.Parts.{database_of, rows_of}
 use Rattle.hy_commands.specs.Transactions.{has_customer}
 use Rattle.hy_layout.specs.Layout.{LayoutState}
 

@@ -1,6 +1,7 @@
-use Rattle.std.proofs.Common.{◌≡◌, suc, ◌-◌, ◌<◌, true, length, slice_index_or, sym, ◌∙◌, subst, arith}
+use Rattle.std.proofs.Common.{◌≡◌, suc, ◌-◌, ◌<◌, true, length, slice_index_or, sym, ap, ◌∙◌, subst, arith}
 use Rattle.hy_rows.proofs.BetweenLaws.{bounds}
-use Rattle.hy_commands.specs.Parts.{customer_home_of}
+use Rattle.hy_commands.specs.declared.command.Command.{Command}
+use Rattle.hy_commands.specs.Commands.{customer_home_of}
 use Rattle.hy_partition.specs.Parts.{FindsPayer}
 use Rattle.hy_partition.specs.Partition.{PartitionState, rows_now}
 use Rattle.hy_crossing.specs.Crossings.{IsIdleIfNamed, IsPartition, is_named}
@@ -21,7 +22,7 @@ find_customer-requires g c =
     subst (λ n. is_named command n ≡ true) (sym home) (customer_home-named command) in
     let idle = holds-at (IsIdleIfNamed command (suc place)) rows place p within c.part.ensures.value (c.requires.idle place) in
     let is = holds-at (IsPartition g.K.Loaded.load (suc place)) rows place p within c.part.ensures.value (c.requires.parts.each place) in
-    (omega arith, (idle named, sym home ∙ sym is.1))
+    (omega arith, (idle named, ap customer_home_of c.command.ensures ∙ (sym home ∙ sym is.1)))
 
 pub returns-clause-found : goal.returns-clause-found
 returns-clause-found g c =
@@ -34,7 +35,9 @@ returns-clause-found g c =
     let p = c.part.result.now in
     held-at (λ (p : PartitionState). FindsPayer command (rows_now p) c.find_customer.result) rows (customer_home_of command - 1)
     p (subst (λ n. n < length rows) (omega (arith, home)) within)
-    (subst (λ n. p ≡ slice_index_or rows n p) (omega (arith, home)) c.part.ensures.value) c.find_customer.ensures
+    (subst (λ n. p ≡ slice_index_or rows n p) (omega (arith, home)) c.part.ensures.value)
+    (subst (λ (command : Command). FindsPayer command (rows_now p) c.find_customer.result) c.command.ensures
+    c.find_customer.ensures)
 
 pub returns-clause-same : goal.returns-clause-same
 returns-clause-same g c =

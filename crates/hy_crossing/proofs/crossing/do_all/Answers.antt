@@ -3,8 +3,8 @@ use Rattle.std.specs.List.{list_all}
 use Rattle.hy_rows.specs.Ranges.{IsBetween, is_between}
 use Rattle.hy_commands.specs.declared.command.Command.{Command}
 use Rattle.hy_commands.specs.declared.edition.Edition.{Edition}
-use Rattle.hy_commands.specs.Commands.{warehouses_of}
-use Rattle.hy_commands.specs.Parts.{customer_home_of, with_number}
+use Rattle.hy_commands.specs.Commands.{customer_home_of, warehouses_of}
+use Rattle.hy_commands.specs.Parts.{with_number}
 use Rattle.hy_partition.specs.Jobs.{JobState, refused_answer}
 use Rattle.hy_partition.specs.Partition.{PartitionState}
 use Rattle.hy_crossing.specs.Crossings.{AllMayRun, AreKnown, CanDoParts, DoesIfNamed, IsWhyNotDone, LeavesIfNamed}

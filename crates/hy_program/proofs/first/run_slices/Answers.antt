@@ -3,7 +3,7 @@ use Rattle.std.specs.Prelude.{IsOkAnd, IsSomeAnd, MatchOption, is_some}
 use Rattle.std.proofs.lemmas.Bool.Decides.{nat_tests}
 use Rattle.hy_schema.specs.declared.refusal.Refusal.{Refusal}
 use Rattle.hy_schema.specs.declared.refusal.Refusal.TheVariants as refusals
-use Rattle.hy_slices.specs.Slices.{slice_count}
+use Rattle.hy_commands.specs.Commands.{slice_count}
 use Rattle.hy_recovery.specs.of_partition.Jobs.{Log, RunningJob, with_slice_done}
 use Rattle.hy_recovery.specs.of_partition.Partition.{PartitionState}
 use Rattle.hy_recovery.specs.of_partition.Steps.{Accepts, Refuses, StepsTo}

@@ -10,9 +10,9 @@ returns-then-eq g c =
     let there : slice_get c.args.snapshots.now c.loop-place.place ≡ Some c.index-snapshots-place.result =
     get-at c.args.snapshots.now c.loop-place.place c.index-snapshots-place.result c.loop-place-test.true
     (search rules) in
-    let same = (bytes_eq-Decides c.as_bytes.result.now c.as_bytes-in-loop-place.result.now).0 (sym c.if-eq.ensures) in
+    let same = (bytes_eq-Decides c.name.result.now c.as_bytes.result.now).0 (sym c.if-eq.ensures) in
     name_here c.args.snapshots.now c.args.name.now c.loop-place.place c.index-snapshots-place.result there
-    (sym c.name.ensures ∙ sym c.as_bytes.ensures ∙ same ∙ c.as_bytes-in-loop-place.ensures)
+    (sym c.name.ensures ∙ same ∙ c.as_bytes.ensures)
 
 pub loop-place-preserved : goal.loop-place-preserved
 loop-place-preserved g c =
@@ -21,8 +21,8 @@ loop-place-preserved g c =
     (search rules) in
     none_more c.args.snapshots.now c.args.name.now c.loop-place.place c.index-snapshots-place.result there
     (λ same. false≢true (c.if-eq.ensures
-    ∙ (bytes_eq-Decides c.as_bytes.result.now c.as_bytes-in-loop-place.result.now).1
-    (c.as_bytes.ensures ∙ c.name.ensures ∙ same ∙ sym c.as_bytes-in-loop-place.ensures))) c.loop-place.invariant
+    ∙ (bytes_eq-Decides c.name.result.now c.as_bytes.result.now).1
+    (c.name.ensures ∙ same ∙ sym c.as_bytes.ensures))) c.loop-place.invariant
 
 pub returns : goal.returns
 returns g c =

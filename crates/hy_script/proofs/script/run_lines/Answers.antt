@@ -33,7 +33,7 @@ returns-in-Err-BadEvent-clause-fault g c =
     c.in-Some.ensures.steps c.loop-line.invariant.2 in
     let fault = rw c.in-Err-BadEvent.field-0-is at c.in-Err-BadEvent.ensures.fault in
     so_far-bad g.row.N all first bytes line c.next.new.self c.loop-line.database old
-    (contents_behind g.O.Output.contents c.answer_line.new.out) before fault.0 fault.1
+    (contents_behind g.O.Output.contents c.answer_line.new.out) before fault.0 fault.1.0
 
 pub returns-clause-done : goal.returns-clause-done
 returns-clause-done g c =

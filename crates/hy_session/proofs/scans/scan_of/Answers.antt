@@ -1,5 +1,5 @@
-use Rattle.std.proofs.Common.{◌<◌, length, ap, ◌∙◌, arith, length-append, ◌∷◌, []}
-use Rattle.hy_session.proofs.ScanLaws.{lists-are, tables-more}
+use Rattle.std.proofs.Common.{◌<◌, length, ap, arith, length-append, ◌∷◌, []}
+use Rattle.hy_session.proofs.ScanLaws.{tables-more}
 use Rattle.hy_session.proofs.scans.scan_of.Goals as goal
 
 pub loop-place-preserved : goal.loop-place-preserved

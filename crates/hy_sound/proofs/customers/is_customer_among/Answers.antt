@@ -1,30 +1,22 @@
 -- What is asked for is what the command names.
-use Rattle.std.proofs.Common.{◌≤◌, ap, ◌∙◌, subst}
-use Rattle.hy_commands.specs.Parts.{customer_home_of}
-use Rattle.hy_sound.proofs.CustomerLaws.{knows-payment, knows-purchase, knows-status, small-home}
+use Rattle.std.proofs.Common.{◌∙◌}
+use Rattle.hy_commands.specs.inside.Named.{name_of}
+use Rattle.hy_sound.proofs.CustomerLaws.{knows-customer, knows-nobody, small-district, small-warehouse}
 use Rattle.hy_sound.proofs.customers.is_customer_among.Goals as goal
-
-pub is_number_among-requires-clause-warehouse : goal.is_number_among-requires-clause-warehouse
-is_number_among-requires-clause-warehouse c =
-    subst (λ n. n ≤ 255) (ap customer_home_of c.in-NewOrder.is)
-    (small-home c.args.load.now c.args.command.now c.requires.warehouses c.sound.ensures)
 
 pub is_meant_among-requires-clause-warehouse : goal.is_meant_among-requires-clause-warehouse
 is_meant_among-requires-clause-warehouse c =
-    subst (λ n. n ≤ 255) (ap customer_home_of c.in-Payment.is)
-    (small-home c.args.load.now c.args.command.now c.requires.warehouses c.sound.ensures)
+    small-warehouse c.args.load.now c.args.command.now c.requires (name_of c.in-Some.customer) c.in-Some.ensures
+    c.sound.ensures
 
-pub returns-in-NewOrder : goal.returns-in-NewOrder
-returns-in-NewOrder c =
-    c.is_number_among.ensures
-    ∙ knows-purchase c.args.load.now c.args.command.now c.requires.warehouses c.in-NewOrder.order c.in-NewOrder.is
+pub is_meant_among-requires-clause-district : goal.is_meant_among-requires-clause-district
+is_meant_among-requires-clause-district c =
+    small-district c.args.load.now c.args.command.now c.requires (name_of c.in-Some.customer) c.in-Some.ensures
 
-pub returns-in-Payment : goal.returns-in-Payment
-returns-in-Payment c =
+pub returns-in-Some : goal.returns-in-Some
+returns-in-Some c =
     c.is_meant_among.ensures
-    ∙ knows-payment c.args.load.now c.args.command.now c.requires.warehouses c.in-Payment.payment c.in-Payment.is
+    ∙ knows-customer c.args.load.now c.args.command.now c.requires (name_of c.in-Some.customer) c.in-Some.ensures
 
-pub returns-in-OrderStatus : goal.returns-in-OrderStatus
-returns-in-OrderStatus c =
-    c.is_meant_among-in-OrderStatus.ensures
-    ∙ knows-status c.args.load.now c.args.command.now c.requires.warehouses c.in-OrderStatus.status c.in-OrderStatus.is
+pub returns-in-None : goal.returns-in-None
+returns-in-None c = knows-nobody c.args.load.now c.args.command.now c.in-None.ensures

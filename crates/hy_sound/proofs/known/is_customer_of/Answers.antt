@@ -1,27 +1,17 @@
 -- The customer is there where a place is found.
 use Rattle.std.proofs.Common.{◌∙◌}
+use Rattle.hy_commands.specs.inside.Named.{name_of}
 use Rattle.hy_layout.specs.Layout.{own_rows}
-use Rattle.hy_sound.proofs.KnownLaws.{known-payment, known-purchase, known-status}
+use Rattle.hy_sound.proofs.KnownLaws.{known-customer, known-nobody}
 use Rattle.hy_sound.proofs.known.is_customer_of.Goals as goal
 
-pub returns-in-NewOrder : goal.returns-in-NewOrder
-returns-in-NewOrder c =
+pub returns-in-Some : goal.returns-in-Some
+returns-in-Some c =
     let rows = own_rows c.args.layout.now in
     c.is_some.ensures
-    ∙ known-purchase c.args.command.now c.in-NewOrder.order c.args.layout.now.warehouse rows c.place_of_number.result
-    c.in-NewOrder.is c.requires (c.place_of_number.ensures rows c.know_places.ensures.loaded)
+    ∙ known-customer c.args.command.now (name_of c.in-Some.customer) c.args.layout.now.warehouse rows
+    c.place_of_customer.result c.in-Some.ensures c.requires
+    (c.place_of_customer.ensures rows c.know_places.ensures.loaded)
 
-pub returns-in-Payment : goal.returns-in-Payment
-returns-in-Payment c =
-    let rows = own_rows c.args.layout.now in
-    c.is_some-in-Payment.ensures
-    ∙ known-payment c.args.command.now c.in-Payment.payment c.args.layout.now.warehouse rows c.place_of_customer.result
-    c.in-Payment.is c.requires (c.place_of_customer.ensures rows c.know_places.ensures.loaded)
-
-pub returns-in-OrderStatus : goal.returns-in-OrderStatus
-returns-in-OrderStatus c =
-    let rows = own_rows c.args.layout.now in
-    c.is_some-in-OrderStatus.ensures
-    ∙ known-status c.args.command.now c.in-OrderStatus.status c.args.layout.now.warehouse rows
-    c.place_of_customer-in-OrderStatus.result c.in-OrderStatus.is c.requires
-    (c.place_of_customer-in-OrderStatus.ensures rows c.know_places.ensures.loaded)
+pub returns-in-None : goal.returns-in-None
+returns-in-None c = known-nobody c.args.command.now (own_rows c.args.layout.now) c.in-None.ensures

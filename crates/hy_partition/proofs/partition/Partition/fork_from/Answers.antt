@@ -1,6 +1,6 @@
-use Rattle.std.proofs.Common.{◌≡◌, ◌∙◌, ◌≢◌, ℕ, List, Option, None, Some, true, is_some, ap, arith, length, refl, subst, sym}
+use Rattle.std.proofs.Common.{◌≡◌, ◌∙◌, ◌≢◌, ℕ, None, Some, true, is_some, ap, arith, length, refl, subst, sym}
 use Rattle.std.specs.Arc.{arc_value}
-use Rattle.std.specs.Prelude.{IsSome, slice_index_or}
+use Rattle.std.specs.Prelude.{slice_index_or}
 use Rattle.hy_worlds.specs.Origins.{desk_of}
 use Rattle.hy_tickets.specs.Desks.{DeskState, TicketState}
 use Rattle.hy_partition.specs.Partition.{PartitionState, commits_of}

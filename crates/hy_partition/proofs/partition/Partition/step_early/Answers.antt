@@ -5,7 +5,8 @@ use Rattle.hy_passes.specs.Worlds.{PassState}
 use Rattle.hy_commands.specs.declared.command.Commit.{Commit}
 use Rattle.hy_space.specs.Space.{SameForChildren, SpaceState, owner_bytes}
 use Rattle.hy_tpcc.specs.Stored.{stored}
-use Rattle.hy_slices.specs.Slices.{has_item_at, slice_count}
+use Rattle.hy_commands.specs.Commands.{slice_count}
+use Rattle.hy_slices.specs.Slices.{has_item_at}
 use Rattle.hy_tpcc.specs.Executor.{ExecutorState, IsUnderWay, answer_of}
 use Rattle.hy_tpcc.specs.Shortages.{FindsNoFrame}
 use Rattle.hy_partition.specs.Jobs.{DoneState, Log, RunningJob, is_last, refused_answer}

@@ -11,10 +11,14 @@ use Rattle.hy_script.proofs.ResultLaws.{on_err}
 use Rattle.hy_script.proofs.SnapshotLaws.{just-taken, keeps-forked, keeps-unforked}
 use Rattle.hy_script.proofs.database.Database.fork.Goals as goal
 
+pub returns-in_err-copy-clause-stays : goal.returns-in_err-copy-clause-stays
+returns-in_err-copy-clause-stays g c =
+    on_err c.from_residual.result (unforked-all-same c.args.self.now.log c.args.self.now.parts)
+
 pub returns-in_err-reserve-clause-stays : goal.returns-in_err-reserve-clause-stays
 returns-in_err-reserve-clause-stays g c =
     let parts = c.self.inside.partitions in
-    on_err c.from_residual.result
+    on_err c.from_residual-in_err-reserve.result
     (subst (λ (now : DatabaseState). Pairwise (λ number. IsUnforked now.log) 1 now.parts parts) c.self.view_is
     (unforked-all-same c.self.inside.journal.list.log parts))
 
@@ -43,15 +47,15 @@ invariant_of-self-2 g c =
     let olds = c.self.inside.partitions in
     let news = c.fork_all.new.self in
     let snapshot = c.in_ok-snapshot.snapshot in
-    let taken = just-taken kit lists news c.args.name snapshot c.sound-2.ensures.partitions c.in_ok-snapshot.ensures.kit
+    let taken = just-taken kit lists news c.args.name.now snapshot c.sound-2.ensures.partitions c.in_ok-snapshot.ensures.kit
     c.in_ok-snapshot.ensures.mine in
     record {
       served = served-pairs 1 olds news c.self.inside.terminals.items
           (keeps-forked g.row.N kit c.self.inside.journal.list.log c.in-Some.pass.seen olds news snapshot
           c.in_ok-snapshot.ensures.forks) c.self.invariant.served;
-      taken = rw (c.push_reserved.ensures.items, c.new.ensures, c.new-session.ensures, c.reserve.ensures.items)
+      taken = rw (c.push_reserved.ensures.items, c.new.ensures, c.in_ok-copy.ensures, c.new-session.ensures, c.reserve.ensures.items)
           (All-push (IsTaken kit lists) c.self.inside.snapshots.items
-          (record { name = c.args.name; parts = snapshot }) c.self.invariant.taken taken);
+          (record { name = c.args.name.now; parts = snapshot }) c.self.invariant.taken taken);
       pass_is = refl;
     }
 
@@ -59,15 +63,15 @@ pub returns-clause-opens : goal.returns-clause-opens
 returns-clause-opens g c =
     let held = c.self.inside.snapshots.items in
     let snapshot = c.in_ok-snapshot.snapshot in
-    let opened : OpenSnapshot = record { name = c.args.name; parts = snapshot } in
+    let opened : OpenSnapshot = record { name = c.args.name.now; parts = snapshot } in
     let new : DatabaseState = record {
       parts = c.fork_all.new.self;
       snapshots = c.push_reserved.new.self.items;
       log = c.fork_all.new.journal.list.log;
     } in
     let more : c.push_reserved.new.self.items ≡ held ++ opened ∷ [] =
-    rw (c.new.ensures, c.new-session.ensures, c.reserve.ensures.items) at c.push_reserved.ensures.items in
-    subst (λ (now : DatabaseState). Opens g.row.N c.args.name now new) c.self.view_is (record {
+    rw (c.new.ensures, c.in_ok-copy.ensures, c.new-session.ensures, c.reserve.ensures.items) at c.push_reserved.ensures.items in
+    subst (λ (now : DatabaseState). Opens g.row.N c.args.name.now now new) c.self.view_is (record {
       kit = g.K.World.passes;
       known = c.in-Some.pass.seen;
       parts = snapshot;

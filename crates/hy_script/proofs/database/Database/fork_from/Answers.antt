@@ -13,15 +13,18 @@ use Rattle.hy_script.proofs.ResultLaws.{on_err}
 use Rattle.hy_script.proofs.SnapshotLaws.{just-taken, keeps-forked_from, keeps-untold, own-memory, taken-at}
 use Rattle.hy_script.proofs.database.Database.fork_from.Goals as goal
 
+pub returns-in_err-copy-clause-stays : goal.returns-in_err-copy-clause-stays
+returns-in_err-copy-clause-stays g c = on_err c.from_residual.result (all-untold-same c.args.self.now.parts)
+
 pub returns-in_err-reserve-clause-stays : goal.returns-in_err-reserve-clause-stays
 returns-in_err-reserve-clause-stays g c =
     let parts = c.self.inside.partitions in
-    on_err c.from_residual.result
+    on_err c.from_residual-in_err-reserve.result
     (subst (λ (now : DatabaseState). Pairwise (λ number. IsUnforkedUntold) 1 now.parts parts) c.self.view_is
     (all-untold-same parts))
 
-pub invariant_of-self-in-Err : goal.invariant_of-self-in-Err
-invariant_of-self-in-Err g c =
+pub invariant_of-self-in-Err-1 : goal.invariant_of-self-in-Err-1
+invariant_of-self-in-Err-1 g c =
     let olds = c.self.inside.partitions in
     let news = c.fork.new.partitions in
     record {
@@ -55,13 +58,13 @@ invariant_of-self-in-Ok g c =
     let olds = c.self.inside.partitions in
     let news = c.fork.new.partitions in
     let session = c.in-Ok.session in
-    let taken = just-taken kit lists news c.args.name session c.sound-in-Ok.ensures.partitions c.in-Ok.ensures.kit
+    let taken = just-taken kit lists news c.args.name.now session c.sound-in-Ok.ensures.partitions c.in-Ok.ensures.kit
     c.in-Ok.ensures.own in
     record {
       served = served-pairs 1 olds news c.self.inside.terminals.items
           (keeps-forked_from kit c.session.result.now olds news session c.in-Ok.ensures.forks) c.self.invariant.served;
-      taken = rw (c.push_reserved.ensures.items, c.new.ensures, c.reserve.ensures.items)
-          (All-push (IsTaken kit lists) c.self.inside.snapshots.items (record { name = c.args.name; parts = session })
+      taken = rw (c.push_reserved.ensures.items, c.new.ensures, c.in_ok-copy.ensures, c.reserve.ensures.items)
+          (All-push (IsTaken kit lists) c.self.inside.snapshots.items (record { name = c.args.name.now; parts = session })
           c.self.invariant.taken taken);
       pass_is = c.self.invariant.pass_is;
     }
@@ -73,7 +76,7 @@ returns-in-Ok-clause-opens g c =
     let news = c.fork.new.partitions in
     let held = c.self.inside.snapshots.items in
     let session = c.in-Ok.session in
-    let opened : OpenSnapshot = record { name = c.args.name; parts = session } in
+    let opened : OpenSnapshot = record { name = c.args.name.now; parts = session } in
     let within : c.args.place < length held =
     subst (λ (now : DatabaseState). c.args.place < length now.snapshots) (sym c.self.view_is) c.requires in
     let is = c.index.ensures ∙ ap (λ (all : List OpenSnapshot). slice_index_or all c.args.place c.index.result.now)
@@ -84,8 +87,8 @@ returns-in-Ok-clause-opens g c =
       log = c.self.inside.journal.list.log;
     } in
     let more : c.push_reserved.new.self.items ≡ held ++ opened ∷ [] =
-    rw (c.new.ensures, c.reserve.ensures.items) at c.push_reserved.ensures.items in
-    subst (λ (now : DatabaseState). OpensFrom c.args.place c.args.name now new) c.self.view_is (record {
+    rw (c.new.ensures, c.in_ok-copy.ensures, c.reserve.ensures.items) at c.push_reserved.ensures.items in
+    subst (λ (now : DatabaseState). OpensFrom c.args.place c.args.name.now now new) c.self.view_is (record {
       kit = kit;
       from = c.index.result.now;
       there = get-at held c.args.place c.index.result.now within is;

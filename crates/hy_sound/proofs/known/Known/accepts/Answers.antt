@@ -1,29 +1,27 @@
--- The first test that fails decides.
-use Rattle.std.proofs.Common.{◌∙◌, sym, ap, not}
-use Rattle.std.specs.List.{list_all}
-use Rattle.std.proofs.lemmas.Bool.{false_from_ne_true, true≢false}
+-- Its numbers refuse a command, or the customer and the items decide.
+use Rattle.std.proofs.Common.{◌≡◌, subst, None, Some, ap, sym, ◌∙◌}
+use Rattle.hy_rows.specs.Tables.{Lists}
 use Rattle.hy_rows.specs.Ranges.{is_between}
-use Rattle.hy_commands.specs.Commands.{is_in_range, warehouses_of}
-use Rattle.hy_sound.proofs.KnownLaws.{known-all, unknown-elsewhere, unknown-range}
+use Rattle.hy_commands.specs.Commands.{refusal_of_numbers}
+use Rattle.hy_commands.specs.Transactions.{has_items}
+use Rattle.hy_sound.proofs.KnownLaws.{known-rest, unknown-numbers}
 use Rattle.hy_sound.proofs.known.Known.accepts.Goals as goal
 
-pub returns-then-is_err : goal.returns-then-is_err
-returns-then-is_err c =
-    let none = c.is_err.ensures.negation ∙ ap not c.if-is_err.true in
-    sym (unknown-range c.args.self.now c.args.command.now
-    (false_from_ne_true (is_in_range c.args.command.now) (λ is. true≢false (sym (c.check.ensures.ok.1 is) ∙ none))))
+pub returns-in-Err : goal.returns-in-Err
+returns-in-Err c =
+    unknown-numbers c.args.self.now c.args.command.now c.in-Err.field-0
+    (subst (λ n. refusal_of_numbers (is_between 1 n) c.args.command.now ≡ Some c.in-Err.field-0) c.count.ensures.count
+    c.in-Err.ensures.refused)
 
-pub returns-then-not-names_up_to : goal.returns-then-not-names_up_to
-returns-then-not-names_up_to c =
-    let range = c.check.ensures.ok.0 (c.is_err.ensures.negation ∙ ap not c.if-is_err.false) in
-    sym (unknown-elsewhere c.args.self.now c.args.command.now range
-    (ap (λ n. list_all (is_between 1 n) (warehouses_of c.args.command.now)) (sym c.count.ensures.count)
-    ∙ (sym c.names_up_to.ensures ∙ c.if-not-names_up_to.true)))
+pub has_customer-requires : goal.has_customer-requires
+has_customer-requires c =
+    subst (λ n. refusal_of_numbers (is_between 1 n) c.args.command.now ≡ None) c.count.ensures.count
+    c.in-Ok.ensures.passed
 
-pub returns : goal.returns
-returns c =
-    let range = c.check.ensures.ok.0 (c.is_err.ensures.negation ∙ ap not c.if-is_err.false) in
-    c.has_all.ensures
-    ∙ sym (known-all c.args.self.now c.args.command.now range
-    (ap (λ n. list_all (is_between 1 n) (warehouses_of c.args.command.now)) (sym c.count.ensures.count)
-    ∙ (sym c.names_up_to.ensures ∙ c.if-not-names_up_to.false)))
+pub returns-then-has_customer : goal.returns-then-has_customer
+returns-then-has_customer c =
+    c.has_items.ensures
+    ∙ ap (λ (lists : Lists). has_items lists.items c.args.command.now) c.self.view_is
+    ∙ sym (known-rest c.args.self.now c.args.command.now
+    (subst (λ n. refusal_of_numbers (is_between 1 n) c.args.command.now ≡ None) c.count.ensures.count
+    c.in-Ok.ensures.passed) (sym c.if-has_customer.ensures))

@@ -1,7 +1,7 @@
 -- The layout at the customer's place is that of the customer's warehouse.
 use Rattle.std.proofs.Common.{◌≡◌, ◌-◌, ◌<◌, ◌≤◌, length, sym, subst, rules}
 use Rattle.std.specs.Prelude.{slice_index_or}
-use Rattle.hy_commands.specs.Parts.{customer_home_of}
+use Rattle.hy_commands.specs.Commands.{customer_home_of}
 use Rattle.hy_sound.proofs.KnownLaws.{first-home, layout-is, made-layouts, rows-home, within-layouts}
 use Rattle.hy_sound.proofs.known.Known.layout_for.Goals as goal
 

@@ -7,7 +7,7 @@ use Rattle.hy_commands.specs.declared.command.StockLevel.{StockLevel}
 use Rattle.hy_commands.specs.declared.edition.Edition.{Edition}
 use Rattle.hy_layout.specs.Layout.{LayoutState}
 use Rattle.hy_rows.specs.Tables.{Tables}
-use Rattle.hy_slices.specs.Slices.{slice_count}
+use Rattle.hy_commands.specs.Commands.{slice_count}
 use Rattle.hy_writers.specs.of_store.Stored.{Stored}
 use Rattle.hy_writers.specs.of_store.Writes.{LeavesStore, stored_in}
 use Rattle.hy_writers.proofs.WritesLaws.{on_ok-then}

@@ -1,0 +1,5 @@
+pub mod BytesLaws
+pub mod EndLaws
+pub mod TakesLaws
+pub mod FillsLaws
+pub mod ReceivedLaws
