@@ -1,10 +1,12 @@
 -- The forms of commands.
-use Rattle.std.proofs.Common.{◌≡◌, ℕ, zero, suc, true, false, ltb, List, [], ◌∷◌, ◌++◌, length, Some, refl, sym, ap, subst, ◌∙◌, append_assoc}
+use Rattle.std.proofs.Common.{◌≡◌, ℕ, ◌+◌, ◌*◌, ◌≤◌, zero, suc, Bool, true, false, ltb, List, [], ◌∷◌, ◌++◌, length, Some, refl, sym, ap, subst, ◌∙◌, append_assoc, arith, length-append}
 use Rattle.std.specs.Prelude.{nat_le}
 use Rattle.std.specs.List.{flat_map, list_all}
 use Rattle.std.proofs.lemmas.Bool.{and_parts, le-ltb, leb-true}
+use Rattle.std.proofs.lemmas.List.Concat.{flat_map-cons}
+use Rattle.hy_page.proofs.ByteLaws.{length-bytes_of}
 use Rattle.hy_page.specs.Bytes.{AreBytes}
-use Rattle.hy_rows.specs.Limits.{max_lines, min_lines}
+use Rattle.hy_rows.specs.Limits.{max_lines, max_payment, min_lines, min_payment}
 use Rattle.hy_rows.specs.Ranges.{is_between}
 use Rattle.hy_commands.specs.declared.command.Command.{Command}
 use Rattle.hy_commands.specs.declared.command.Command.TheVariants as commands
@@ -14,7 +16,7 @@ use Rattle.hy_commands.specs.declared.command.Purchase.{Purchase}
 use Rattle.hy_commands.specs.declared.command.PurchaseLine.{PurchaseLine}
 use Rattle.hy_commands.specs.declared.command.Who.{Who}
 use Rattle.hy_commands.specs.declared.command.Who.TheVariants as who
-use Rattle.hy_commands.specs.Commands.{is_in_range, is_line_in_range, is_moment}
+use Rattle.hy_commands.specs.Commands.{is_in_range, is_line_in_range, is_moment, is_who, max_name}
 use Rattle.hy_batches.specs.Encoding.{command_bytes, delivery_bytes, line_bytes, number_bytes, payment_bytes, purchase_bytes, who_bytes}
 use Rattle.hy_batches.specs.Grammar.{command_fits, fits, line_fits, who_fits}
 use Rattle.hy_batches.specs.inside.Reading.{command_at, counted_lines_at, delivery_at, front_at, line_at, lines_at, payment_at, purchase_at, who_at}
@@ -286,3 +288,53 @@ command_again (commands.Payment payment) rest fit in_range = rw (payment_again p
 command_again (commands.Delivery delivery) rest fit in_range = rw (delivery_again delivery rest fit) refl
 command_again (commands.OrderStatus status) rest fit in_range = absurd cc
 command_again (commands.StockLevel level) rest fit in_range = absurd cc
+
+-- ---- how long they are
+
+pub length-number_bytes : (width number : ℕ) → length (number_bytes width number) ≡ width
+unfolding number_bytes
+length-number_bytes width number = length-bytes_of width number
+
+-- where each row has no more than so many bytes
+pub length-rows : {Row : Type 0} (text : Row → List ℕ) (fit : Row → Bool) (most : ℕ)
+    → ((row : Row) → fit row ≡ true → length (text row) ≤ most) → (rows : List Row) → list_all fit rows ≡ true
+    → length (flat_map text rows) ≤ most * length rows
+length-rows text fit most each [] fits = omega arith
+length-rows text fit most each (row ∷ rows) fits =
+    let parts = and_parts (fit row) (list_all fit rows) fits in
+    let one = each row parts.0 in
+    let others = length-rows text fit most each rows parts.1 in
+    let whole : length (flat_map text (row ∷ rows)) ≡ length (text row) + length (flat_map text rows) =
+    ap length (flat_map-cons text row rows) ∙ length-append (text row) (flat_map text rows) in
+    omega arith
+
+length-line : (line : PurchaseLine) → length (line_bytes line) ≡ 6
+length-line line =
+    simp (length-append, length-number_bytes) refl
+
+length-who : (customer : Who) → is_who customer ≡ true → length (who_bytes customer) ≤ 18
+length-who (who.Number number) in_range = omega (arith, length-number_bytes 2 number)
+length-who (who.Last name) in_range =
+    let short = leb-true _ _ (and_parts (nat_le (length name) max_name) (list_all (is_between 32 126) name) in_range).0 in
+    omega (arith, length-append (number_bytes 1 (length name)) name, length-number_bytes 1 (length name))
+
+pub length-command : (command : Command) → is_in_range command ≡ true → length (command_bytes command) ≤ 104
+length-command (commands.NewOrder order) in_range =
+    let parts = three (is_between min_lines max_lines (length order.lines)) (list_all is_line_in_range order.lines)
+    (is_moment order.at) in_range in
+    let few = leb-true _ _ (and_parts (nat_le min_lines (length order.lines)) (nat_le (length order.lines) max_lines) parts.0).1 in
+    let lines = length-rows line_bytes is_line_in_range 6 (λ line fit. omega (arith, length-line line)) order.lines parts.1 in
+    let whole : length (purchase_bytes order) ≡ 13 + length (flat_map line_bytes order.lines) =
+    simp (length-append, length-number_bytes) refl in
+    omega arith
+length-command (commands.Payment payment) in_range =
+    let parts = three (is_between min_payment max_payment payment.amount) (is_moment payment.at) (is_who payment.who) in_range in
+    let customer = length-who payment.who parts.2 in
+    let whole : length (payment_bytes payment) ≡ 4 + length (who_bytes payment.who) + 4 + 8 =
+    simp (length-append, length-number_bytes) refl in
+    omega arith
+length-command (commands.Delivery delivery) in_range =
+    let whole : length (delivery_bytes delivery) ≡ 10 = simp (length-append, length-number_bytes) refl in
+    omega arith
+length-command (commands.OrderStatus status) in_range = omega arith
+length-command (commands.StockLevel level) in_range = omega arith

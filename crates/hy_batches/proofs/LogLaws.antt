@@ -20,7 +20,8 @@ use Rattle.hy_batches.specs.inside.Nexts.{BeginsNoBatch}
 use Rattle.hy_batches.specs.inside.Reading.{batch_at}
 use Rattle.hy_batches.proofs.BatchForms.{batch_again, batch_takes, length-mark}
 use Rattle.hy_batches.proofs.FormLaws.{all_three, same_some, three}
-use Rattle.hy_batches.proofs.LengthLaws.{length-content, length-number_bytes}
+use Rattle.hy_batches.proofs.CommandForms.{length-number_bytes}
+use Rattle.hy_batches.proofs.LengthLaws.{length-content}
 
 -- ---- the next batch
 

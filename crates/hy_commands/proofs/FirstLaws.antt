@@ -13,7 +13,7 @@ use Rattle.hy_commands.specs.Commands.{warehouses_of, with_named}
 use Rattle.hy_commands.specs.inside.Named.{firsts, named_from, numbers_in}
 use Rattle.hy_commands.specs.inside.Kinds.{by_several}
 use Rattle.hy_commands.proofs.LineLaws.{drop-row, take-next}
-use Rattle.hy_commands.proofs.NamedLaws.{named-with}
+use Rattle.hy_commands.proofs.NamedLaws.{named-with, or-false}
 
 -- whether a number is among some
 abbrev is_in : ℕ → List ℕ → Bool
@@ -22,10 +22,6 @@ is_in number numbers = list_any (λ other. other == number) numbers
 -- two lists have the same numbers
 abbrev HaveTheSame : List ℕ → List ℕ → Type 0
 HaveTheSame one other = (number : ℕ) → is_in number one ≡ is_in number other
-
-or-nothing : (b : Bool) → (b || false) ≡ b
-or-nothing true = refl
-or-nothing false = refl
 
 or-all : (b : Bool) → (b || true) ≡ true
 or-all true = refl
@@ -37,7 +33,7 @@ same-with : (one other : List ℕ) (number : ℕ) → HaveTheSame one other
 same-with one other number same sought =
     named-with sought one number
     ∙ ap (λ b. b || (number == sought)) (same sought)
-    ∙ ap (λ b. is_in sought other || b) (sym (or-nothing (number == sought)))
+    ∙ ap (λ b. is_in sought other || b) (sym (or-false (number == sought)))
     ∙ sym (list_any-append (λ it. it == sought) other (number ∷ []))
 
 -- the suppliers that are named behind some warehouses are those that stand first
@@ -142,3 +138,24 @@ named-end command place none =
     nothing [] (suc place) none = refl
     nothing (first ∷ numbers) zero none = absurd (cc)
     nothing (first ∷ numbers) (suc place) none = nothing numbers place none
+
+-- ---- all numbers
+
+-- those before a place, with the number at it
+pub among-more : (numbers : List ℕ) (place number sought : ℕ) → slice_get numbers place ≡ Some number
+    → is_in sought (take (place + 1) numbers) ≡ (is_in sought (take place numbers) || (number == sought))
+among-more numbers place number sought at =
+    ap (is_in sought) (take-next numbers place number at)
+    ∙ list_any-append (λ it. it == sought) (take place numbers) (number ∷ [])
+    ∙ ap (λ b. is_in sought (take place numbers) || b) (or-false (number == sought))
+
+-- behind the last number they are all before
+pub among-all : (numbers : List ℕ) (place sought : ℕ) → slice_get numbers place ≡ None
+    → is_in sought (take place numbers) ≡ is_in sought numbers
+among-all numbers place sought none = ap (is_in sought) (whole numbers place none)
+  where
+    whole : (numbers : List ℕ) (place : ℕ) → slice_get numbers place ≡ None → take place numbers ≡ numbers
+    whole [] zero none = refl
+    whole [] (suc place) none = refl
+    whole (first ∷ numbers) zero none = absurd (cc)
+    whole (first ∷ numbers) (suc place) none = ap (λ rest. first ∷ rest) (whole numbers place none)

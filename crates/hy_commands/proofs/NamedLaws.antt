@@ -1,5 +1,5 @@
 -- Which warehouses a command names, and that one which a warehouse begins names this warehouse alone.
-use Rattle.std.proofs.Common.{◌≡◌, ℕ, ◌+◌, ◌≤◌, ◌==◌, ◌&&◌, ◌||◌, Bool, true, false, cond, not, List, [], ◌∷◌, ◌++◌, length, None, refl, sym, ap, subst, ◌∙◌, arith, length-append}
+use Rattle.std.proofs.Common.{◌≡◌, ℕ, ◌+◌, ◌≤◌, ◌==◌, ◌&&◌, ◌||◌, Bool, true, false, cond, not, List, [], ◌∷◌, ◌++◌, length, map, None, refl, sym, ap, subst, ◌∙◌, arith, length-append}
 use Rattle.std.proofs.Math.Bool.{or_assoc}
 use Rattle.std.specs.Prelude.{fold, nat_lt}
 use Rattle.std.specs.List.{list_all, list_any}
@@ -14,13 +14,14 @@ use Rattle.hy_commands.specs.declared.command.Payment.{Payment}
 use Rattle.hy_commands.specs.declared.command.PurchaseLine.{PurchaseLine}
 use Rattle.hy_commands.specs.Commands.{customer_home_of, home_of, is_reader, warehouses_of, with_named}
 use Rattle.hy_commands.specs.Transactions.{begin_refusal_of, refusal_of}
+use Rattle.hy_commands.specs.inside.Named.{numbers_in}
 use Rattle.hy_commands.specs.inside.NamedOnce.{named_once}
 use Rattle.hy_commands.proofs.AcceptedLaws.{begun, named-payment, neither}
 use Rattle.hy_commands.specs.inside.Kinds.{by_payment, by_several}
 
 -- ---- which are there
 
-or-false : (b : Bool) → (b || false) ≡ b
+pub or-false : (b : Bool) → (b || false) ≡ b
 or-false true = refl
 or-false false = refl
 
@@ -72,6 +73,27 @@ pub named-purchase : (warehouse home : ℕ) (lines : List PurchaseLine)
 named-purchase warehouse home lines =
     named-suppliers warehouse lines (home ∷ [])
     ∙ ap (λ b. b || list_any (λ line. line.supply_warehouse == warehouse) lines) (or-false (home == warehouse))
+
+-- those of a command are the numbers that stand in it
+pub named-numbers : (warehouse : ℕ) (command : Command)
+    → list_any (λ number. number == warehouse) (numbers_in command)
+    ≡ list_any (λ named. named == warehouse) (warehouses_of command)
+named-numbers warehouse =
+    by_several (λ command. list_any (λ number. number == warehouse) (numbers_in command)
+    ≡ list_any (λ named. named == warehouse) (warehouses_of command))
+    (λ order. ap (λ b. (order.warehouse == warehouse) || b) (supplied warehouse order.lines)
+    ∙ sym (named-purchase warehouse order.warehouse order.lines))
+    (λ payment. sym (named-with warehouse (payment.warehouse ∷ []) payment.customer_warehouse
+    ∙ ap (λ b. b || (payment.customer_warehouse == warehouse)) (or-false (payment.warehouse == warehouse))
+    ∙ ap (λ b. (payment.warehouse == warehouse) || b) (sym (or-false (payment.customer_warehouse == warehouse)))))
+    (λ command home. ap (list_any (λ number. number == warehouse)) (home.numbers ∙ sym home.warehouses))
+  where
+    supplied : (warehouse : ℕ) (lines : List PurchaseLine)
+        → list_any (λ number. number == warehouse) (map (λ (line : PurchaseLine). line.supply_warehouse) lines)
+        ≡ list_any (λ line. line.supply_warehouse == warehouse) lines
+    supplied warehouse [] = refl
+    supplied warehouse (line ∷ lines) =
+        ap (λ b. (line.supply_warehouse == warehouse) || b) (supplied warehouse lines)
 
 -- ---- whether there are several
 

@@ -1,5 +1,5 @@
 -- Commands: the ranges of their values, what they name, and what an accepted one adds to the kept list.
-use Rattle.std.specs.Prelude.{ℕ, ◌+◌, Bool, true, false, nat_le, ◌==◌, ◌&&◌, not, if◌then◌else◌, Option, Some, None, List, [], ◌∷◌, ◌++◌, length, fold}
+use Rattle.std.specs.Prelude.{◌≡◌, ℕ, ◌+◌, ◌<◌, suc, Bool, true, false, nat_le, ◌==◌, ◌&&◌, not, if◌then◌else◌, Option, Some, None, List, [], ◌∷◌, ◌++◌, length, fold, slice_index_or}
 use Rattle.std.specs.List.{list_all, list_any}
 use Rattle.hy_rows.specs.Limits.{districts_per_warehouse, max_carriers, max_lines, max_moment, max_payment, max_quantity, min_lines, min_payment}
 use Rattle.hy_rows.specs.Ranges.{is_between}
@@ -113,6 +113,18 @@ warehouses_of (commands.NewOrder order) =
     fold (λ named line. with_named named line.supply_warehouse) (order.warehouse ∷ []) order.lines
 warehouses_of (commands.Payment payment) = with_named (payment.warehouse ∷ []) payment.customer_warehouse
 warehouses_of command = home_of command ∷ []
+
+-- whether the warehouse of a place is marked, of the sixteen that there may be
+abbrev pub is_marked : List Bool → ℕ → Bool
+is_marked places place = slice_index_or places place false
+
+-- whether a command names the warehouse of a place, that of number 1 at place 0
+abbrev pub is_named_at : Command → ℕ → Bool
+is_named_at command place = list_any (λ named. named == suc place) (warehouses_of command)
+
+-- the warehouses that a command names are marked at their places, and no others
+abbrev pub AreNamedPlaces : Command → List Bool → Type 0
+AreNamedPlaces command places = (place : ℕ) → place < 16 → is_marked places place ≡ is_named_at command place
 
 -- the warehouse of the customer whom a command names; its home, where it names none
 abbrev pub home_or : ℕ → Option CustomerName → ℕ

@@ -6,7 +6,7 @@ use Rattle.hy_commands.specs.declared.command.Command.TheVariants as commands
 use Rattle.hy_commands.specs.declared.command.Commit.TheVariants as commits
 use Rattle.hy_commands.specs.declared.command.Who.TheVariants as who
 use Rattle.hy_commands.specs.declared.edition.Edition.TheVariants as editions
-use Rattle.hy_commands.specs.Commands.{are_items_up_to, cents_of, customer_home_of, customer_named, has_districts, is_in_range, is_line_in_range, is_moment, is_name, kept_of, number_of, slice_count, warehouses_of, warehouses_of_commit}
+use Rattle.hy_commands.specs.Commands.{are_items_up_to, cents_of, customer_home_of, customer_named, has_districts, is_in_range, is_line_in_range, is_marked, is_moment, is_name, is_named_at, kept_of, number_of, slice_count, warehouses_of, warehouses_of_commit}
 use Rattle.hy_commands.specs.WorkedSample.{bought, level, payment, purchase}
 
 -- ---- ranges
@@ -76,6 +76,15 @@ remote_purchase = commands.NewOrder record {
 
 abbrev named_warehouses : warehouses_of remote_purchase ≡ 3 ∷ 2 ∷ 1 ∷ []
 named_warehouses = refl
+
+abbrev named_places : map (is_named_at remote_purchase) (0 ∷ 1 ∷ 2 ∷ 3 ∷ []) ≡ true ∷ true ∷ true ∷ false ∷ []
+named_places = refl
+
+abbrev place_of_level : map (is_named_at level) (0 ∷ 1 ∷ []) ≡ true ∷ false ∷ []
+place_of_level = refl
+
+abbrev marked_places : map (is_marked (false ∷ true ∷ [])) (0 ∷ 1 ∷ 2 ∷ []) ≡ false ∷ true ∷ false ∷ []
+marked_places = refl
 
 -- a customer of another warehouse pays here, and one asks for the last order
 abbrev remote_payment : Command

@@ -87,7 +87,7 @@ impl Command {
             Command::NewOrder(order) => Some(order.customer()),
             Command::Payment(payment) => Some(payment.customer()),
             Command::OrderStatus(status) => Some(status.customer()),
-            Command::Delivery(_) | Command::StockLevel(_) => None,
+            _ => None,
         }
     }
 

@@ -9,7 +9,6 @@ mod lines;
 mod named;
 mod numbers;
 mod reply;
-mod same;
 mod theorem;
 
 pub use command::{

@@ -1,13 +1,14 @@
 //! The warehouses that a command names, one after the other.
 
-ghost use Rattle.std.specs.Prelude.{◌≡◌, ◌≤◌, ◌==◌, ◌^◌, IfSome, slice_get, take};
+ghost use Rattle.std.specs.Prelude.{◌≡◌, ◌≤◌, ◌<◌, ◌==◌, ◌||◌, ◌^◌, ℕ, suc, IfSome, slice_get, take};
 ghost use Rattle.std.specs.Iterator.{YieldsFirst, item_count};
 ghost use Rattle.std.specs.List.{list_all, list_any};
 ghost use Rattle.hy_rows.specs.Ranges.{is_between};
-ghost use Rattle.hy_commands.specs.Commands.{warehouses_of};
+ghost use Rattle.hy_commands.specs.Commands.{AreNamedPlaces, is_marked, warehouses_of};
 ghost use Rattle.hy_commands.specs.inside.Named.{numbers_in};
 
 use crate::Command;
+use hy_rows::MAX_WAREHOUSES;
 use std::marker::Model;
 
 /// The warehouses that a command names, its home first, each once.
@@ -59,6 +60,20 @@ impl Command {
         }
     }
 
+    /// Which of the warehouses that there may be the command names, the one with number 1 at place 0. Takes no memory, and a
+    /// step for each number that stands in the command.
+    pub fn named_places(&self) -> [bool; MAX_WAREHOUSES as usize]
+        ensures { AreNamedPlaces self.now result }
+    {
+        let mut places = [false; MAX_WAREHOUSES as usize];
+        let mut place = 0;
+        while let Some(number) = self.number_at(place) {
+            mark(&mut places, number);
+            place += 1;
+        }
+        places
+    }
+
     /// Whether the warehouses that the command names have the numbers from 1 to another one. Takes no memory.
     pub fn names_up_to(&self, last: u64) -> bool
         ensures { result ≡ list_all (is_between 1 last) (warehouses_of self.now) }
@@ -99,5 +114,15 @@ impl Command {
             }
         }
         false
+    }
+}
+
+/// Notes that the warehouse of a number is named, where there may be one.
+fn mark(places: &mut [bool; MAX_WAREHOUSES as usize], number: u64)
+    ensures { (place : ℕ) → place < 16
+        → is_marked places.new place ≡ (is_marked places.old place || (number == suc place)) }
+{
+    if 1 <= number && number <= u64::from(MAX_WAREHOUSES) {
+        places[number as usize - 1] = true;
     }
 }

@@ -1,4 +1,3 @@
 pub mod HeldPlaces
 pub mod Held
 pub mod Guards
-pub mod Named

@@ -1,10 +1,9 @@
 //! Which warehouses a command names, found once.
 
-ghost use Rattle.std.specs.Prelude.{◌≡◌, ◌==◌, ◌||◌, ◌<◌, suc, ℕ, None, Some, IfErr, IfOk, OnOk};
+ghost use Rattle.std.specs.Prelude.{◌≡◌, ◌==◌, None, Some, IfErr, IfOk, OnOk};
 ghost use Rattle.std.specs.List.{list_any};
 ghost use Rattle.hy_rows.specs.Ranges.{is_between};
 ghost use Rattle.hy_commands.specs.Commands.{customer_home_of, refusal_of_numbers, warehouses_of};
-ghost use Rattle.hy_crossing.specs.inside.Named.{is_marked};
 
 use hy_commands::Command;
 use hy_rows::MAX_WAREHOUSES;
@@ -23,13 +22,13 @@ pub struct NamedCommand<'a> {
 // Clauses see the command.
 impl<'a> Model for NamedCommand<'a> {
     ghost use Rattle.hy_commands.specs.declared.command.Command.{Command};
-    ghost use Rattle.hy_crossing.specs.inside.Named.{KnowsNamed};
+    ghost use Rattle.hy_commands.specs.Commands.{AreNamedPlaces};
 
     ghost Value = { Command };
 
     ghost view = { λ named. named.command.now };
 
-    ghost invariant = { λ named. KnowsNamed named.command.now named.places };
+    ghost invariant = { λ named. AreNamedPlaces named.command.now named.places };
 }
 
 impl<'a> NamedCommand<'a> {
@@ -37,12 +36,10 @@ impl<'a> NamedCommand<'a> {
     pub fn new(command: &'a Command) -> NamedCommand<'a>
         ensures { result ≡ command.entry.now }
     {
-        let mut places = [false; MAX_WAREHOUSES as usize];
-        let mut named = command.warehouses();
-        while let Some(number) = named.next() {
-            mark(&mut places, number);
+        NamedCommand {
+            command,
+            places: command.named_places(),
         }
-        NamedCommand { command, places }
     }
 
     /// The command.
@@ -83,15 +80,5 @@ impl<'a> NamedCommand<'a> {
         } else {
             self.command.names(number)
         }
-    }
-}
-
-/// Notes that the warehouse of a number is named, where there may be one.
-fn mark(places: &mut [bool; MAX_WAREHOUSES as usize], number: u64)
-    ensures { (place : ℕ) → place < 16
-        → is_marked places.new place ≡ (is_marked places.old place || (number == suc place)) }
-{
-    if 1 <= number && number <= u64::from(MAX_WAREHOUSES) {
-        places[number as usize - 1] = true;
     }
 }

@@ -1,5 +1,5 @@
 -- Where no child is open, each frame in use is a page of the owner, and the owner's pages are those of its rows.
-use Rattle.std.proofs.Common.{◌≡◌, ℕ, zero, suc, ◌+◌, ◌*◌, ◌<◌, ◌≤◌, inl, inr, List, [], ◌∷◌, Option, length, get_or, map, drop, refl, ap, ◌∙◌, arith, lit≤, count_by, sum_by, option_to_list}
+use Rattle.std.proofs.Common.{◌≡◌, ℕ, zero, suc, ◌+◌, ◌<◌, ◌≤◌, inl, inr, List, [], ◌∷◌, Option, length, get_or, map, drop, refl, ap, ◌∙◌, arith, lit≤, count_by, sum_by, option_to_list}
 use Rattle.std.specs.List.{flat_map}
 use Rattle.std.proofs.lemmas.Bool.{cases_eq, cases_lt}
 use Rattle.std.proofs.lemmas.List.{length-drop, length-map}

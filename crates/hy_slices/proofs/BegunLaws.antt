@@ -1,9 +1,9 @@
 -- What is known of a command that a warehouse begins, where items of its lines may be missing.
-use Rattle.std.proofs.Common.{◌≡◌, ℕ, ◌≤◌, ◌&&◌, inl, inr, Bool, true, cond, List, [], ◌∷◌, map, Option, Some, None, refl, sym, ap₂, ◌∙◌, arith}
+use Rattle.std.proofs.Common.{◌≡◌, ℕ, ◌≤◌, ◌&&◌, ◌==◌, inl, inr, Bool, true, cond, List, [], ◌∷◌, map, Option, Some, None, refl, sym, ap₂, ◌∙◌, arith}
 use Rattle.std.specs.Prelude.{All}
 use Rattle.std.specs.List.{list_all, list_any}
 use Rattle.std.specs.Option.{option_or}
-use Rattle.std.proofs.lemmas.Bool.{and_parts, eq-eqb, or_left, or_right}
+use Rattle.std.proofs.lemmas.Bool.{and_parts, eq-eqb, eqb-true, or_left, or_right}
 use Rattle.std.proofs.lemmas.List.Elements.{All-weaker}
 use Rattle.hy_rows.specs.Finding.{is_customer}
 use Rattle.hy_rows.specs.Tables.{Tables}
@@ -14,16 +14,16 @@ use Rattle.hy_schema.specs.Related.{is_item}
 use Rattle.hy_commands.specs.declared.command.Command.{Command}
 use Rattle.hy_commands.specs.declared.command.Command.TheVariants as commands
 use Rattle.hy_commands.specs.declared.command.Delivery.{Delivery}
-use Rattle.hy_commands.specs.declared.command.OrderStatus.{OrderStatus}
 use Rattle.hy_commands.specs.declared.command.Payment.{Payment}
 use Rattle.hy_commands.specs.declared.command.Purchase.{Purchase}
 use Rattle.hy_commands.specs.declared.command.PurchaseLine.{PurchaseLine}
-use Rattle.hy_commands.specs.declared.command.StockLevel.{StockLevel}
+use Rattle.hy_commands.specs.Commands.{home_of}
 use Rattle.hy_commands.specs.NewOrders.{has_item}
 use Rattle.hy_commands.specs.Transactions.{begin_refusal_of, has_items, refusal_of}
 use Rattle.hy_commands.proofs.AcceptedLaws.{IsAccepted, IsAcceptedDelivery, IsAcceptedPayment, IsAcceptedPurchase, accepted-delivery, accepted-not_refused, accepted-payment, accepted-purchase, begun as names-one, own-suppliers, purchase-in_range}
 use Rattle.hy_commands.proofs.ListLaws.{found-any}
-use Rattle.hy_slices.specs.Begun.{Begins, BeginsAlone}
+use Rattle.hy_commands.proofs.NamedLaws.{named-home}
+use Rattle.hy_slices.specs.Begun.{Begins, BeginsAlone, BeginsPart}
 
 -- a command that a warehouse begins is refused exactly where an item isn't there
 pub refusal-begun : (items : List Item) (number : ℕ) (command : Command) (tables : Tables) (known : Bool)
@@ -93,23 +93,21 @@ pub begun-delivery : (number : ℕ) (delivery : Delivery) (tables : Tables)
 begun-delivery number delivery tables begins =
     accepted-delivery [] number delivery tables (begun [] number (commands.Delivery delivery) tables begins refl)
 
--- no other command than a purchase is begun as a part of it
-pub alone-payment : (number : ℕ) (payment : Payment) (tables : Tables)
-    → Begins number (commands.Payment payment) tables → BeginsAlone number (commands.Payment payment) tables
-alone-payment number payment tables (inl begins) = begins
-alone-payment number payment tables (inr never) = absurd never
+-- a command of which the warehouse has no part is begun by itself
+pub alone : (number : ℕ) (command : Command) (tables : Tables) → (BeginsPart number command tables → ⊥)
+    → Begins number command tables → BeginsAlone number command tables
+alone number command tables never (inl begins) = begins
+alone number command tables never (inr part) = absurd (never part)
 
-pub alone-delivery : (number : ℕ) (delivery : Delivery) (tables : Tables)
-    → Begins number (commands.Delivery delivery) tables → BeginsAlone number (commands.Delivery delivery) tables
-alone-delivery number delivery tables (inl begins) = begins
-alone-delivery number delivery tables (inr never) = absurd never
+part-home : (number : ℕ) (command : Command) (tables : Tables) → BeginsPart number command tables
+    → home_of command ≡ number
+part-home number (commands.NewOrder order) tables home = home.home
+part-home number command tables never = absurd never
 
-pub alone-status : (number : ℕ) (status : OrderStatus) (tables : Tables)
-    → Begins number (commands.OrderStatus status) tables → BeginsAlone number (commands.OrderStatus status) tables
-alone-status number status tables (inl begins) = begins
-alone-status number status tables (inr never) = absurd never
-
-pub alone-level : (number : ℕ) (level : StockLevel) (tables : Tables)
-    → Begins number (commands.StockLevel level) tables → BeginsAlone number (commands.StockLevel level) tables
-alone-level number level tables (inl begins) = begins
-alone-level number level tables (inr never) = absurd never
+-- a warehouse begins commands of which it is the home
+pub home-begun : (number : ℕ) (command : Command) (tables : Tables) → Begins number command tables
+    → home_of command ≡ number
+home-begun number command tables (inl begins) =
+    eqb-true (home_of command) number
+    (named-home (λ named. named == number) command (names-one number command tables begins))
+home-begun number command tables (inr part) = part-home number command tables part

@@ -1,9 +1,8 @@
 -- What holds between the slices of a command that a warehouse begins.
-use Rattle.std.proofs.Common.{◌≡◌, ℕ, zero, suc, ◌+◌, ◌<◌, ◌≤◌, true, List, Option, Some, None, refl, sym, subst, ◌∙◌, arith}
+use Rattle.std.proofs.Common.{◌≡◌, ℕ, zero, suc, ◌+◌, ◌<◌, ◌≤◌, true, List, Option, Some, None, refl, subst, ◌∙◌, arith}
 use Rattle.std.proofs.lemmas.Bool.{and_parts, ne_eqb}
 use Rattle.hy_rows.specs.Tables.{Tables}
 use Rattle.hy_rows.specs.declared.item.Item.{Item}
-use Rattle.hy_commands.specs.declared.command.Command.{Command}
 use Rattle.hy_commands.specs.declared.command.Command.TheVariants as commands
 use Rattle.hy_commands.specs.declared.command.Delivery.{Delivery}
 use Rattle.hy_commands.specs.declared.command.OrderStatus.{OrderStatus}
@@ -21,9 +20,8 @@ use Rattle.hy_commands.proofs.KeptByDelivery.{oldest-other, sound-delivered_in}
 use Rattle.hy_commands.proofs.KeptByPayment.{sound-paid, sound-paid_in}
 use Rattle.hy_slices.specs.Begun.{Begins}
 use Rattle.hy_slices.specs.Between.{IsWholeWarehouse}
-use Rattle.hy_commands.specs.Commands.{slice_count}
 use Rattle.hy_slices.specs.Slices.{after_slices, has_item_at, has_items_before, line_behind, with_line}
-use Rattle.hy_slices.proofs.BegunLaws.{alone-delivery, alone-payment, begun-delivery, begun-payment, begun-purchase}
+use Rattle.hy_slices.proofs.BegunLaws.{begun-delivery, begun-payment, begun-purchase}
 use Rattle.hy_slices.proofs.WholeLaws.{IsPlacing, number-headed_next, placing-headed, placing-with_line, whole-sound}
 
 -- ---- a purchase
@@ -56,7 +54,7 @@ module _ (items : List Item) (number : ℕ) (edition : Edition) (order : Purchas
 
 -- ---- a payment
 
-whole-payment : (items : List Item) (number : ℕ) (edition : Edition) (payment : Payment) (tables : Tables) (done : ℕ)
+pub whole-payment : (items : List Item) (number : ℕ) (edition : Edition) (payment : Payment) (tables : Tables) (done : ℕ)
     → IsSoundWarehouse items number tables → begin_refusal_of number (commands.Payment payment) tables ≡ None
     → done ≤ 2
     → IsWholeWarehouse items number (after_slices items number edition (commands.Payment payment) done tables)
@@ -112,25 +110,3 @@ pub level-slices : (items : List Item) (number : ℕ) (edition : Edition) (level
     → after_slices items number edition (commands.StockLevel level) done tables ≡ tables
 level-slices items number edition level tables zero = refl
 level-slices items number edition level tables (suc done) = level-slices items number edition level tables done
-
--- ---- all commands
-
-pub whole-slices : (items : List Item) (number : ℕ) (edition : Edition) (command : Command) (tables : Tables) (done : ℕ)
-    → IsSoundWarehouse items number tables → Begins number command tables
-    → done ≤ slice_count command → has_items_before items command done ≡ true
-    → IsWholeWarehouse items number (after_slices items number edition command done tables)
-whole-slices items number edition (commands.NewOrder order) tables zero sound begins within known =
-    whole-sound items number tables sound
-whole-slices items number edition (commands.NewOrder order) tables (suc done) sound begins within known =
-    (placing-slices items number edition order tables sound begins done known).whole
-whole-slices items number edition (commands.Payment payment) tables done sound begins within known =
-    whole-payment items number edition payment tables done sound (alone-payment number payment tables begins) within
-whole-slices items number edition (commands.OrderStatus status) tables done sound begins within known =
-    subst (IsWholeWarehouse items number) (sym (status-slices items number edition status tables done))
-    (whole-sound items number tables sound)
-whole-slices items number edition (commands.Delivery delivery) tables done sound begins within known =
-    whole-sound items number (after_slices items number edition (commands.Delivery delivery) done tables)
-    (sound-slices items number edition delivery tables sound (alone-delivery number delivery tables begins) done)
-whole-slices items number edition (commands.StockLevel level) tables done sound begins within known =
-    subst (IsWholeWarehouse items number) (sym (level-slices items number edition level tables done))
-    (whole-sound items number tables sound)

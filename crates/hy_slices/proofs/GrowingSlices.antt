@@ -1,4 +1,4 @@
--- The numbers of a warehouse between the slices of a command.
+-- The numbers and the rows of a warehouse between the slices of any command.
 use Rattle.std.proofs.Common.{◌≡◌, ℕ, zero, suc, ◌+◌, ◌-◌, ◌*◌, ◌≤◌, true, List, length, slice_get, Option, Some, None, refl, sym, subst, arith}
 use Rattle.std.specs.Prelude.{All}
 use Rattle.std.specs.Option.{IfSome}
@@ -34,9 +34,10 @@ use Rattle.hy_commands.proofs.Kept.{sound-rows}
 use Rattle.hy_commands.proofs.ListLaws.{All-find}
 use Rattle.hy_commands.proofs.SoundLoad.{all-by_place}
 use Rattle.hy_slices.specs.Begun.{Begins}
+use Rattle.hy_slices.specs.Between.{IsWholeWarehouse}
 use Rattle.hy_slices.specs.Slices.{after_slices, has_item_at, has_items_before, headed_number, is_known, line_behind, lined, with_line}
-use Rattle.hy_slices.proofs.BegunLaws.{alone-delivery, alone-payment, begun-delivery, begun-payment, begun-purchase, begun-suppliers}
-use Rattle.hy_slices.proofs.BetweenSlices.{level-slices, number-slices, sound-slices, status-slices}
+use Rattle.hy_slices.proofs.BegunLaws.{alone, begun-delivery, begun-payment, begun-purchase, begun-suppliers}
+use Rattle.hy_slices.proofs.BetweenSlices.{level-slices, number-slices, placing-slices, sound-slices, status-slices, whole-payment}
 use Rattle.hy_slices.proofs.GrowingLaws.{IsGrowing, growing-delivered_in, growing-end, growing-headed, growing-later, growing-lined, growing-start}
 use Rattle.hy_slices.proofs.SliceLaws.{take-more}
 use Rattle.hy_slices.proofs.WholeLaws.{home-district, number-is, whole-sound}
@@ -172,15 +173,37 @@ module _ (items : List Item) (fits : ItemsFit items) (number : ℕ) (near : numb
   grown-slices edition (commands.NewOrder order) done begins within known =
       grown-purchase edition order begins done within known
   grown-slices edition (commands.Payment payment) done begins within known =
-      grown-payment edition payment done (alone-payment number payment tables begins) within
+      grown-payment edition payment done (alone number (commands.Payment payment) tables (λ never. never) begins) within
   grown-slices edition (commands.OrderStatus status) done begins within known =
       subst (HasGrownBy (n + 1)) (sym (status-slices items number edition status tables done))
       (grown-later n tables grown)
   grown-slices edition (commands.Delivery delivery) done begins within known =
-      grown-delivery edition delivery (alone-delivery number delivery tables begins) done within
+      grown-delivery edition delivery (alone number (commands.Delivery delivery) tables (λ never. never) begins) done within
   grown-slices edition (commands.StockLevel level) done begins within known =
       subst (HasGrownBy (n + 1)) (sym (level-slices items number edition level tables done))
       (grown-later n tables grown)
+
+-- ---- the rows of any command
+
+pub whole-slices : (items : List Item) (number : ℕ) (edition : Edition) (command : Command) (tables : Tables) (done : ℕ)
+    → IsSoundWarehouse items number tables → Begins number command tables
+    → done ≤ slice_count command → has_items_before items command done ≡ true
+    → IsWholeWarehouse items number (after_slices items number edition command done tables)
+whole-slices items number edition (commands.NewOrder order) tables zero sound begins within known =
+    whole-sound items number tables sound
+whole-slices items number edition (commands.NewOrder order) tables (suc done) sound begins within known =
+    (placing-slices items number edition order tables sound begins done known).whole
+whole-slices items number edition (commands.Payment payment) tables done sound begins within known =
+    whole-payment items number edition payment tables done sound (alone number (commands.Payment payment) tables (λ never. never) begins) within
+whole-slices items number edition (commands.OrderStatus status) tables done sound begins within known =
+    subst (IsWholeWarehouse items number) (sym (status-slices items number edition status tables done))
+    (whole-sound items number tables sound)
+whole-slices items number edition (commands.Delivery delivery) tables done sound begins within known =
+    whole-sound items number (after_slices items number edition (commands.Delivery delivery) done tables)
+    (sound-slices items number edition delivery tables sound (alone number (commands.Delivery delivery) tables (λ never. never) begins) done)
+whole-slices items number edition (commands.StockLevel level) tables done sound begins within known =
+    subst (IsWholeWarehouse items number) (sym (level-slices items number edition level tables done))
+    (whole-sound items number tables sound)
 
 -- ---- loads
 

@@ -3,19 +3,7 @@ use Rattle.std.proofs.Common.{◌≡◌, ◌≢◌, false, ℕ, zero, suc, ◌+�
 use Rattle.std.specs.Prelude.{IfSome, nat_lt, replicate, slice_index, slice_set, slice_index_or}
 use Rattle.std.specs.Option.{is_some, option_map}
 use Rattle.std.proofs.lemmas.Bool.{ltb-false, ltb-true}
-
--- the row at a place comes behind those before it, and before the others
-pub take-next : {Row : Type 0} (rows : List Row) (place : ℕ) (row : Row) → slice_get rows place ≡ Some row
-    → take (place + 1) rows ≡ take place rows ++ row ∷ []
-take-next {Row = Row} rows place row at =
-    let after : place + 1 ≡ suc place = omega arith in
-    ap (λ n. take n rows) after ∙ from rows place at
-  where
-    from : (rows : List Row) (place : ℕ) → slice_get rows place ≡ Some row
-        → take (suc place) rows ≡ take place rows ++ row ∷ []
-    from [] place at = absurd (cc)
-    from (first ∷ rows) zero at = let same : first ≡ row = cc in ap (λ first. first ∷ []) same
-    from (first ∷ rows) (suc place) at = ap (λ rows. first ∷ rows) (from rows place at)
+use Rattle.hy_commands.proofs.LineLaws.{take-next}
 
 pub split-at : {Row : Type 0} (rows : List Row) (place : ℕ) (row : Row) → slice_get rows place ≡ Some row
     → rows ≡ take place rows ++ row ∷ drop (suc place) rows

@@ -6,7 +6,8 @@ use Rattle.hy_rows.specs.Tables.{Lists}
 use Rattle.hy_batches.specs.Batches.{Batch}
 use Rattle.hy_batches.specs.Encoding.{batch_bytes, log_bytes}
 use Rattle.hy_sound.specs.Sound.{AreSound, IsFirstUnsound, IsSoundBatch}
-use Rattle.hy_sound.proofs.ListLaws.{split-at, take-next}
+use Rattle.hy_commands.proofs.LineLaws.{take-next}
+use Rattle.hy_sound.proofs.ListLaws.{split-at}
 use Rattle.hy_sound.proofs.SoundLaws.{sound-more}
 
 length-cons : (batch : Batch) (batches : List Batch)

@@ -1,16 +1,14 @@
 -- What holds of a store between the slices of a command.
 use Rattle.std.proofs.Common.{◌≡◌, ◌&&◌, ◌≢◌, ℕ, ◌<◌, ◌≤◌, ◌+◌, ◌==◌, true, Some, None, refl, sym, ap, subst, ◌∙◌, zero, suc, arith}
 use Rattle.std.specs.Prelude.{slice_get}
-use Rattle.std.proofs.lemmas.Bool.{and_parts, eqb-true}
+use Rattle.std.proofs.lemmas.Bool.{and_parts}
 use Rattle.hy_rows.specs.Tables.{Tables}
 use Rattle.hy_rows.specs.declared.customer.Customer.{Customer}
 use Rattle.hy_commands.specs.declared.command.Command.{Command}
 use Rattle.hy_commands.specs.declared.command.Command.TheVariants as commands
 use Rattle.hy_commands.specs.declared.command.Delivery.{Delivery}
 use Rattle.hy_commands.specs.Deliveries.{delivered_in, oldest}
-use Rattle.hy_commands.specs.declared.command.OrderStatus.{OrderStatus}
 use Rattle.hy_commands.specs.declared.command.Payment.{Payment}
-use Rattle.hy_commands.specs.declared.command.StockLevel.{StockLevel}
 use Rattle.hy_commands.specs.declared.edition.Edition.{Edition}
 use Rattle.hy_commands.specs.Invariant.{IsSoundWarehouse}
 use Rattle.hy_writers.specs.Waiting.{IsSoundStore}
@@ -21,8 +19,9 @@ use Rattle.hy_commands.proofs.AcceptedLaws.{begun, neither, own-payer, passed-nu
 use Rattle.hy_layout.specs.Layout.{KeepsPlaces, LayoutState, own_rows}
 use Rattle.hy_slices.specs.Between.{IsWholeWarehouse}
 use Rattle.hy_slices.specs.Begun.{Begins}
-use Rattle.hy_slices.proofs.BegunLaws.{alone-delivery, alone-level, alone-payment, alone-status, begun-delivery, begun-payment}
-use Rattle.hy_slices.proofs.BetweenSlices.{oldest-before, sound-slices, whole-slices}
+use Rattle.hy_slices.proofs.BegunLaws.{alone, begun-delivery, begun-payment}
+use Rattle.hy_slices.proofs.BetweenSlices.{oldest-before, sound-slices}
+use Rattle.hy_slices.proofs.GrowingSlices.{whole-slices}
 use Rattle.hy_writers.specs.of_store.Stored.{Stored}
 use Rattle.hy_writers.specs.Begun.{IsBegunDelivery, IsCustomerPayment, IsHomePayment}
 use Rattle.hy_writers.specs.Limits.{AreInBounds}
@@ -42,15 +41,15 @@ districts-begun warehouse command tables begins =
 pub payment-home : (warehouse : ℕ) (payment : Payment) (tables : Tables) → warehouse ≤ 16
     → Begins warehouse (commands.Payment payment) tables → IsHomePayment warehouse payment
 payment-home warehouse payment tables near begins =
-    let alone = alone-payment warehouse payment tables begins in
-    let whole = begun-payment warehouse payment tables alone in
-    let own = own-payer warehouse payment (begun warehouse (commands.Payment payment) tables alone) in
+    let by_itself = alone warehouse (commands.Payment payment) tables (λ never. never) begins in
+    let whole = begun-payment warehouse payment tables by_itself in
+    let own = own-payer warehouse payment (begun warehouse (commands.Payment payment) tables by_itself) in
     record {
       home = whole.home;
       district = whole.district;
       customer_warehouse = omega (arith, own, near);
       customer_district = (and_parts (is_district_number payment.district) (is_district_number payment.customer_district)
-          (districts-begun warehouse (commands.Payment payment) tables alone)).1;
+          (districts-begun warehouse (commands.Payment payment) tables by_itself)).1;
       amount = whole.amount;
       moment = whole.moment;
     }
@@ -58,10 +57,10 @@ payment-home warehouse payment tables near begins =
 pub payment-customer : (warehouse : ℕ) (payment : Payment) (tables : Tables)
     → Begins warehouse (commands.Payment payment) tables → IsCustomerPayment warehouse payment
 payment-customer warehouse payment tables begins =
-    let alone = alone-payment warehouse payment tables begins in
+    let by_itself = alone warehouse (commands.Payment payment) tables (λ never. never) begins in
     record {
-      customer_home = own-payer warehouse payment (begun warehouse (commands.Payment payment) tables alone);
-      amount = (begun-payment warehouse payment tables alone).amount;
+      customer_home = own-payer warehouse payment (begun warehouse (commands.Payment payment) tables by_itself);
+      amount = (begun-payment warehouse payment tables by_itself).amount;
     }
 
 module _ (layout : LayoutState) (edition : Edition) (command : Command) (place done : ℕ) (before : Tables) (s : Stored)
@@ -174,26 +173,12 @@ sound-begun layout edition command place before s now = record {
   indexes = now.indexes;
 }
 
-pub home-status : (warehouse : ℕ) (status : OrderStatus) (tables : Tables)
-    → Begins warehouse (commands.OrderStatus status) tables → status.warehouse ≡ warehouse
-home-status warehouse status tables begins =
-    eqb-true status.warehouse warehouse
-    (and_parts (status.warehouse == warehouse) true
-    (begun warehouse (commands.OrderStatus status) tables (alone-status warehouse status tables begins))).0
-
-pub home-level : (warehouse : ℕ) (level : StockLevel) (tables : Tables)
-    → Begins warehouse (commands.StockLevel level) tables → level.warehouse ≡ warehouse
-home-level warehouse level tables begins =
-    eqb-true level.warehouse warehouse
-    (and_parts (level.warehouse == warehouse) true
-    (begun warehouse (commands.StockLevel level) tables (alone-level warehouse level tables begins))).0
-
 -- ---- a delivery
 
 pub delivery-begun : (warehouse : ℕ) (delivery : Delivery) (tables : Tables)
     → Begins warehouse (commands.Delivery delivery) tables → IsBegunDelivery warehouse delivery
 delivery-begun warehouse delivery tables begins =
-    let whole = begun-delivery warehouse delivery tables (alone-delivery warehouse delivery tables begins) in
+    let whole = begun-delivery warehouse delivery tables (alone warehouse (commands.Delivery delivery) tables (λ never. never) begins) in
     record { home = whole.home; carrier = whole.carrier; moment = whole.moment }
 
 -- between its slices the rows are sound
@@ -204,7 +189,7 @@ sound-delivering layout edition delivery place done before s next now =
     record {
       sound = subst (IsSoundWarehouse layout.load.items layout.warehouse) (sym now.rows)
           (sound-slices layout.load.items layout.warehouse edition delivery before now.begun.sound
-          (alone-delivery layout.warehouse delivery before now.begun.begun) done);
+          (alone layout.warehouse (commands.Delivery delivery) before (λ never. never) now.begun.begun) done);
       places = places-done layout edition (commands.Delivery delivery) place done before s now within;
       bounds = bounds-done layout edition (commands.Delivery delivery) place done before s now within;
       indexes = now.indexes;
@@ -231,4 +216,4 @@ pub oldest-delivered : (layout : LayoutState) (edition : Edition) (delivery : De
 oldest-delivered layout edition delivery place done before s now =
     ap (oldest layout.warehouse (done + 1)) now.rows
     ∙ oldest-before layout.load.items layout.warehouse edition delivery before now.begun.sound
-    (alone-delivery layout.warehouse delivery before now.begun.begun) done (done + 1) (omega arith)
+    (alone layout.warehouse (commands.Delivery delivery) before (λ never. never) now.begun.begun) done (done + 1) (omega arith)

@@ -6,10 +6,10 @@ use Rattle.hy_commands.specs.declared.command.Commit.{Commit}
 use Rattle.hy_crossing.specs.of_partition.Partition.{PartitionState, projection_of}
 use Rattle.hy_crossing.specs.Crossings.{IsPartition}
 use Rattle.hy_crossing.proofs.FullLaws.{set-same}
+use Rattle.hy_commands.proofs.LineLaws.{take-next}
 use Rattle.hy_crossing.proofs.PlaceLaws.{get-at, holds-at}
 use Rattle.hy_forks.specs.Drains.{kept_behind}
 use Rattle.hy_forks.specs.inside.Copies.{are_drained, is_drained}
-use Rattle.hy_forks.proofs.DrainLaws.{take-more}
 use Rattle.hy_forks.proofs.LoggedLaws.{drained-batch, drained-pushed}
 use Rattle.hy_forks.proofs.drains.copy_behind.Goals as goal
 
@@ -71,7 +71,7 @@ loop-place-preserved g c =
       ap (map items_of) push.items ∙ map-append items_of c.loop-place.copies.items (one ∷ [])
           ∙ ap₂ (λ (before : List (List Commit)) (last : List Commit). before ++ last ∷ []) c.loop-place.invariant.0 items
           ∙ sym (map-append (kept_behind cursor) (take place olds) (p ∷ []))
-          ∙ ap (map (kept_behind cursor)) (sym (take-more olds place p (get-at olds place p within here))),
+          ∙ ap (map (kept_behind cursor)) (sym (take-next olds place p (get-at olds place p within here))),
       subst (λ (rows : List (List Commit)). are_drained lists 1 rows ≡ true)
           (sym (ap (map items_of) push.items ∙ map-append items_of c.loop-place.copies.items (one ∷ [])))
           (drained-pushed lists 1 (map items_of c.loop-place.copies.items) one.items c.loop-place.invariant.1 drained),

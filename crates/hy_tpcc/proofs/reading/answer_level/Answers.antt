@@ -1,8 +1,8 @@
 use Rattle.std.proofs.Common.{lit<}
 use Rattle.hy_commands.specs.declared.command.Command.TheVariants as commands
 use Rattle.hy_writers.specs.of_store.Writes.{stored_in}
-use Rattle.hy_slices.proofs.BegunLaws.{alone-level}
-use Rattle.hy_tpcc.proofs.SliceLaws.{districts-begun, home-level, sound-begun}
+use Rattle.hy_slices.proofs.BegunLaws.{alone, home-begun}
+use Rattle.hy_tpcc.proofs.SliceLaws.{districts-begun, sound-begun}
 use Rattle.hy_tpcc.proofs.reading.answer_level.Goals as goal
 
 pub stock_level-requires : goal.stock_level-requires
@@ -18,9 +18,9 @@ stock_level-requires g c =
         (
           sound-begun layout edition command c.args.place before (stored_in g.row.N c.args.space.now) now,
           (
-            home-level layout.warehouse c.args.level.now before now.begun.begun,
+            home-begun layout.warehouse command before now.begun.begun,
             districts-begun layout.warehouse command before
-                (alone-level layout.warehouse c.args.level.now before now.begun.begun),
+                (alone layout.warehouse command before (λ never. never) now.begun.begun),
           ),
         ),
       ),
