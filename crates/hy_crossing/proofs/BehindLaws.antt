@@ -40,12 +40,13 @@ and_true : (b : Bool) → (b && true) ≡ b
 and_true true = refl
 and_true false = refl
 
-filter-unnamed : (place : ℕ) (ws : List ℕ) → list_any (λ named. named == place + 1) ws ≡ false
+-- a number that isn't among them
+pub told-same : (place : ℕ) (ws : List ℕ) → list_any (λ named. named == place + 1) ws ≡ false
     → filter (λ w. nat_lt place w) ws ≡ filter (λ w. nat_lt (place + 1) w) ws
-filter-unnamed place [] none = refl
-filter-unnamed place (w ∷ ws) none =
+told-same place [] none = refl
+told-same place (w ∷ ws) none =
     let parts = or_parts (w == place + 1) (list_any (λ named. named == place + 1) ws) none in
-    let rest = filter-unnamed place ws parts.1 in
+    let rest = told-same place ws parts.1 in
     let same : nat_lt place w ≡ nat_lt (place + 1) w =
     sym (later-split place w ∙ ap (λ (b : Bool). nat_lt place w && not b) parts.0 ∙ and_true (nat_lt place w)) in
     ap (λ (b : Bool). cond b (w ∷ filter (λ w. nat_lt place w) ws) (filter (λ w. nat_lt place w) ws)) same
@@ -53,18 +54,9 @@ filter-unnamed place (w ∷ ws) none =
 
 -- one number more
 pub told-more : (place : ℕ) (ws : List ℕ)
-    → cond (list_any (λ named. named == place + 1) ws)
-    (filter (λ w. not (w == place + 1)) (filter (λ w. nat_lt place w) ws)) (filter (λ w. nat_lt place w) ws)
-    ≡ filter (λ w. nat_lt (place + 1) w) ws
+    → filter (λ w. not (w == place + 1)) (filter (λ w. nat_lt place w) ws) ≡ filter (λ w. nat_lt (place + 1) w) ws
 told-more place ws =
-    elim (list_any (λ named. named == place + 1) ws) as (λ b. list_any (λ named. named == place + 1) ws ≡ b
-    → cond b (filter (λ w. not (w == place + 1)) (filter (λ w. nat_lt place w) ws)) (filter (λ w. nat_lt place w) ws)
-    ≡ filter (λ w. nat_lt (place + 1) w) ws) [
-      | true ↦ λ named.
-          filter-both (λ w. not (w == place + 1)) (λ w. nat_lt place w) (λ w. nat_lt (place + 1) w) (later-split place)
-          ws
-      | false ↦ λ unnamed. filter-unnamed place ws unnamed
-    ] refl
+    filter-both (λ w. not (w == place + 1)) (λ w. nat_lt place w) (λ w. nat_lt (place + 1) w) (later-split place) ws
 
 -- none at first, and all in the end
 pub told-none : (count : ℕ) (ws : List ℕ) → list_all (is_between 1 count) ws ≡ true

@@ -24,6 +24,11 @@ before-more command place =
     let next : suc place ≡ place + 1 = omega arith in
     subst (λ n. named_before command n ≡ named_before command place + one_if_named command n) next refl
 
+-- the same behind a place that isn't named
+pub before-same : (command : Command) (place : ℕ) → is_named command (place + 1) ≡ false
+    → named_before command (place + 1) ≡ named_before command place
+before-same command place unnamed = omega (arith, before-more command place, one-other command (place + 1) unnamed)
+
 -- no more than there are
 pub before-few : (command : Command) (place : ℕ) → named_before command place ≤ place
 before-few command zero = omega arith

@@ -35,7 +35,7 @@ turn-hold step one other leads number before after (old ∷ olds) (new ∷ news)
 turn-hold step one other leads number before after [] (new ∷ news) turn holds place = absurd turn
 turn-hold step one other leads number before after (old ∷ olds) [] turn holds place = absurd turn
 
-turn-count : {State Row : Type 0} (step : ℕ → State → State → Row → Row → Type 0) (number : ℕ) (before after : State)
+pub turn-count : {State Row : Type 0} (step : ℕ → State → State → Row → Row → Type 0) (number : ℕ) (before after : State)
     (olds news : List Row) → InTurn step number before after olds news → length news ≡ length olds
 turn-count step number before after [] [] turn = refl
 turn-count step number before after (old ∷ olds) (new ∷ news) turn =

@@ -19,7 +19,7 @@ use Rattle.hy_crossing.proofs.PlaceLaws.{all-apart, holds-at}
 use Rattle.hy_crossing.proofs.TurnLaws.{done-here, done-more}
 
 -- a command names its home
-home-named : (command : Command) → is_named command (home_of command) ≡ true
+pub home-named : (command : Command) → is_named command (home_of command) ≡ true
 home-named command =
     elim (is_named command home) as (λ b. is_named command home ≡ b → b ≡ true) [
       | true ↦ λ is. refl

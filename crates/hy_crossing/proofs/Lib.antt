@@ -2,6 +2,9 @@
 pub use Rattle.hy_partition.proofs as of_partition
 pub use Rattle.hy_partition.proofs.of_tpcc as of_tpcc
 pub mod TurnLaws
+pub mod WalkLaws
+pub mod NamedWalkLaws
+pub mod StillLaws
 pub mod FullLaws
 pub mod PlaceLaws
 pub mod RefusedLaws

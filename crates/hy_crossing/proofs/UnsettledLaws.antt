@@ -10,7 +10,7 @@ use Rattle.hy_partition.specs.Partition.{PartitionState}
 use Rattle.hy_partition.specs.Unsettled.{UnsettledState, with_part_done, with_part_kept, with_part_undone}
 use Rattle.hy_crossing.specs.Crossings.{is_named}
 use Rattle.hy_crossing.specs.Unsettled.{AreAllDone, AreCounted, named_before, one_if_named, unsettled_of}
-use Rattle.hy_crossing.proofs.CountLaws.{before-grows, before-more, one-here, one-other}
+use Rattle.hy_crossing.proofs.CountLaws.{before-grows, before-more, before-same, one-here, one-other}
 
 -- two things that are said of a success
 pub on_ok-both : {T E : Type 0} (A B C : Type 0) (result : Result T E) → OnOk result A → OnOk result B → (A → B → C)
@@ -21,24 +21,12 @@ on_ok-both A B C (Err error) one other joins = tt
 -- ---- at one place
 
 module _ (command : Command) (number : ℕ) (now : UnsettledState) where
-  pub done-other : is_named command number ≡ false
-      → now ≡ record now { count = now.count + one_if_named command number; reply = option_or None now.reply }
-  done-other unnamed =
-      let same : now.count ≡ now.count + one_if_named command number = omega (arith, one-other command number unnamed) in
-      ap (λ n. record now { count = n }) same
-
   pub done-here : (new : UnsettledState) (reply : Option Reply) → is_named command number ≡ true
       → new ≡ with_part_done now reply
       → new ≡ record now { count = now.count + one_if_named command number; reply = option_or reply now.reply }
   done-here new reply named is =
       is ∙ ap (λ n. record now { count = now.count + n; reply = option_or reply now.reply })
       (sym (one-here command number named))
-
-  pub kept-other : is_named command number ≡ false
-      → now ≡ record now { count = now.count - one_if_named command number; share = option_or None now.share }
-  kept-other unnamed =
-      let same : now.count ≡ now.count - one_if_named command number = omega (arith, one-other command number unnamed) in
-      ap (λ n. record now { count = n }) same
 
   pub kept-here : (new : UnsettledState) (share : Option ShareState) → is_named command number ≡ true
       → new ≡ with_part_kept now share
@@ -65,6 +53,13 @@ counted-more edition command place old new reply is more =
           reply = option_or reply old.reply;
         }) is
         ∙ ap (λ n. unsettled_of edition command n (option_or reply old.reply) None) (sym (before-more command place))
+
+-- none more where the warehouse isn't named
+pub counted-other : (edition : Edition) (command : Command) (place : ℕ) (now : UnsettledState)
+    → is_named command (place + 1) ≡ false → AreCounted edition command place now
+    → AreCounted edition command (place + 1) now
+counted-other edition command place now unnamed is =
+    is ∙ ap (λ n. unsettled_of edition command n now.reply None) (sym (before-same command place unnamed))
 
 -- ---- one part less is done
 
@@ -98,8 +93,7 @@ module _ (command : Command) (place end : ℕ) (now : UnsettledState) (left : Is
 
   pub left-other : is_named command (place + 1) ≡ false → IsLeft command (place + 1) end now
   left-other unnamed =
-      let same : named_before command (place + 1) ≡ named_before command place =
-      omega (arith, before-more command place, one-other command (place + 1) unnamed) in
+      let same = before-same command place unnamed in
       record {
         count = omega (arith, left.count, same);
         reply = elim left.reply [
@@ -159,6 +153,12 @@ module _ (edition : Edition) (command : Command) (place end : ℕ) (first now : 
   pub enough-unkept : one_if_named command (place + 1) ≤ now.count
   enough-unkept =
       omega (arith, unkept.count, before-more command place, before-grows command (place + 1) end (omega (arith, within)))
+
+  pub unkept-other : is_named command (place + 1) ≡ false → IsUnkept edition command (place + 1) end first now
+  unkept-other unnamed = record {
+    count = omega (arith, unkept.count, before-same command place unnamed);
+    is = unkept.is;
+  }
 
   pub unkept-more : (new : UnsettledState) (share : Option ShareState)
       → new ≡ record now { count = now.count - one_if_named command (place + 1); share = option_or share now.share }

@@ -19,12 +19,12 @@ pub fn end_jobs<const N: usize, K: Loaded, P: Parts<Part = Partition<N, K>>>(
     journal: &mut Journal<Commit, K>,
     command: &NamedCommand<'_>,
 )
+    requires few { length (P.states parts.old) ≤ 16 }
     ensures { EndsJobs command.now journal.old.list.log journal.new.list.log (P.states parts.old) (P.states parts.new) }
 {
-    for place in 0..parts.len() {
-        if command.names(place as u64 + 1) {
-            parts.part(place).finish_running(journal);
-        }
+    let places = command.places_before(parts.len());
+    for &place in places {
+        parts.part(place).finish_running(journal);
     }
 }
 
@@ -34,13 +34,13 @@ pub fn tell_named<const N: usize, K: Loaded, P: Parts<Part = Partition<N, K>>>(
     journal: &mut Journal<Commit, K>,
     command: &NamedCommand<'_>,
 )
+    requires few { length (P.states parts.old) ≤ 16 }
     ensures told { TellsNamed command.now journal.old.list.log (P.states parts.old) (P.states parts.new) }
     ensures log { journal.new.list.log ≡ journal.old.list.log }
 {
-    for place in 0..parts.len() {
-        if command.names(place as u64 + 1) {
-            parts.part(place).tell(journal);
-        }
+    let places = command.places_before(parts.len());
+    for &place in places {
+        parts.part(place).tell(journal);
     }
 }
 
@@ -49,11 +49,13 @@ fn is_some_full<const N: usize, K: Loaded, P: Parts<Part = Partition<N, K>>>(
     parts: &mut P,
     command: &NamedCommand<'_>,
 ) -> bool
+    requires few { length (P.states parts.old) ≤ 16 }
     ensures full { result ≡ some_is_full command.now 1 (P.states parts.old) }
     ensures same { P.states parts.new ≡ P.states parts.old }
 {
-    for place in 0..parts.len() {
-        if command.names(place as u64 + 1) && parts.part(place).is_full() {
+    let places = command.places_before(parts.len());
+    for &place in places {
+        if parts.part(place).is_full() {
             return true;
         }
     }
@@ -67,6 +69,7 @@ pub fn prepare<const N: usize, K: Loaded, P: Parts<Part = Partition<N, K>>>(
     command: &NamedCommand<'_>,
 ) -> Result<u64, Refusal>
     requires parts { ArePartitions K.load (P.states parts.old) }
+    requires few { length (P.states parts.old) ≤ 16 }
     requires idle { AreIdle command.now (P.states parts.old) }
     ensures refused { IfErr result (λ why. loaded_refusal K.load command.now (P.states parts.old) ≡ Some why) }
     ensures accepted { OnOk result (loaded_refusal K.load command.now (P.states parts.old) ≡ None) }

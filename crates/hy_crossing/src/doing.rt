@@ -1,21 +1,21 @@
 //! The parts of a command are done, in all warehouses that it names or in none.
 
-ghost use Rattle.std.specs.Prelude.{◌≡◌, ◌+◌, ◌-◌, ◌^◌, ◌<◌, true, IfErr, IfOk, IfSome, OnErr, OnOk, length, slice_get};
+ghost use Rattle.std.specs.Prelude.{◌≡◌, ◌+◌, ◌-◌, ◌^◌, ◌<◌, ◌≤◌, true, IfErr, IfOk, IfSome, OnErr, OnOk, length, slice_get};
 ghost use Rattle.hy_rows.specs.Ranges.{IsBetween};
 ghost use Rattle.hy_commands.specs.Commands.{customer_home_of};
 ghost use Rattle.hy_partition.specs.Unsettled.{part_of};
-ghost use Rattle.hy_crossing.specs.Crossings.{AllMayRun, ArePartitions, CanDoIfNamed, CanDoParts, DoesIfNamed, FailsHere, IsWhyNotDone, LeavesIfNamed, MayRunIfNamed};
+ghost use Rattle.hy_crossing.specs.Crossings.{AllMayRun, ArePartitions, CanDoIfNamed, CanDoParts, DoesIfNamed, FailsHere, IsWhyNotDone, LeavesIfNamed, MayRunIfNamed, is_named};
 ghost use Rattle.hy_crossing.specs.Lists.{ChangesAt, Pairwise};
 ghost use Rattle.hy_crossing.specs.Unsettled.{AreAllDone, DoesAt};
 
 use crate::named::NamedCommand;
 use crate::parts::Parts;
 use crate::undoing::undo_parts;
-use hy_commands::{Command, Edition};
+use hy_commands::Edition;
 use hy_partition::{Loaded, Partition, UnsettledParts};
 use hy_schema::Refusal;
 
-/// Does the part of the warehouse with a number, where the command names it.
+/// Does the part of the warehouse with a number, which the command names.
 fn do_here<const N: usize, K: Loaded, P: Parts<Part = Partition<N, K>>>(
     parts: &mut P,
     unsettled: &mut UnsettledParts<K>,
@@ -24,6 +24,7 @@ fn do_here<const N: usize, K: Loaded, P: Parts<Part = Partition<N, K>>>(
     command: &NamedCommand<'_>,
 ) -> Result<(), Refusal>
     requires there { IsBetween 1 (length (P.states parts.old)) number }
+    requires named { is_named command.now number ≡ true }
     requires can { IfSome (slice_get (P.states parts.old) (number - 1)) (CanDoIfNamed command.now number) }
     requires edition { IfSome (slice_get (P.states parts.old) (number - 1)) (MayRunIfNamed edition command.now number) }
     requires same { part_of unsettled.old ≡ record { edition = edition; command = command.now } }
@@ -35,9 +36,6 @@ fn do_here<const N: usize, K: Loaded, P: Parts<Part = Partition<N, K>>>(
     ensures uncounted { OnErr result (unsettled.new ≡ unsettled.old) }
 {
     let part = parts.part(number as usize - 1);
-    if !command.names(number) {
-        return Ok(());
-    }
     part.headline();
     let copy = command.copy()?;
     part.do_part(unsettled, edition, copy)
@@ -49,27 +47,10 @@ fn do_here<const N: usize, K: Loaded, P: Parts<Part = Partition<N, K>>>(
 pub fn do_parts<const N: usize, K: Loaded, P: Parts<Part = Partition<N, K>>>(
     parts: &mut P,
     edition: Edition,
-    command: &Command,
-) -> Result<UnsettledParts<K>, Refusal>
-    requires parts { ArePartitions K.load (P.states parts.old) }
-    requires can { CanDoParts command.now (P.states parts.old) }
-    requires edition { AllMayRun edition command.now (P.states parts.old) }
-    requires there { IsBetween 1 (length (P.states parts.old)) (customer_home_of command.now) }
-    ensures done { OnOk result (Pairwise (DoesIfNamed edition command.now) 1 (P.states parts.old) (P.states parts.new)) }
-    ensures all { IfOk result (AreAllDone edition command.now (P.states parts.old)) }
-    ensures left { OnErr result (Pairwise (LeavesIfNamed command.now) 1 (P.states parts.old) (P.states parts.new)) }
-    ensures refused { IfErr result (IsWhyNotDone (P.states parts.old) (P.states parts.new)) }
-{
-    do_these(parts, edition, &NamedCommand::new(command))
-}
-
-/// The same, by the places that it names.
-fn do_these<const N: usize, K: Loaded, P: Parts<Part = Partition<N, K>>>(
-    parts: &mut P,
-    edition: Edition,
     command: &NamedCommand<'_>,
 ) -> Result<UnsettledParts<K>, Refusal>
     requires parts { ArePartitions K.load (P.states parts.old) }
+    requires few { length (P.states parts.old) ≤ 16 }
     requires can { CanDoParts command.now (P.states parts.old) }
     requires edition { AllMayRun edition command.now (P.states parts.old) }
     requires there { IsBetween 1 (length (P.states parts.old)) (customer_home_of command.now) }
@@ -79,7 +60,8 @@ fn do_these<const N: usize, K: Loaded, P: Parts<Part = Partition<N, K>>>(
     ensures refused { IfErr result (IsWhyNotDone (P.states parts.old) (P.states parts.new)) }
 {
     let mut unsettled = UnsettledParts::none(edition, command.command());
-    for place in 0..parts.len() {
+    let places = command.places_before(parts.len());
+    for &place in places {
         if let Err(refusal) = do_here(parts, &mut unsettled, place as u64 + 1, edition, command) {
             undo_parts(parts, unsettled, command, place);
             return Err(refusal);

@@ -1,6 +1,6 @@
 //! The parts of a command are kept.
 
-ghost use Rattle.std.specs.Prelude.{◌≡◌, ◌-◌, ◌≤◌, ◌==◌, not, true, [], IfSome, if◌then◌else◌, filter, length, slice_get};
+ghost use Rattle.std.specs.Prelude.{◌≡◌, ◌-◌, ◌≤◌, ◌==◌, not, true, [], IfSome, filter, length, slice_get};
 ghost use Rattle.std.specs.List.{list_all};
 ghost use Rattle.hy_rows.specs.Ranges.{IsBetween, is_between};
 ghost use Rattle.hy_commands.specs.Commands.{home_of, warehouses_of};
@@ -16,7 +16,7 @@ use hy_commands::{Commit, Edition};
 use hy_partition::{Loaded, Partition, UnsettledParts};
 use hy_passes::SerialList;
 
-/// Keeps the part of the warehouse with a number, where the command names it.
+/// Keeps the part of the warehouse with a number, which the command names.
 fn keep_here<const N: usize, K: Loaded, P: Parts<Part = Partition<N, K>>>(
     parts: &mut P,
     unsettled: &mut UnsettledParts<K>,
@@ -27,6 +27,7 @@ fn keep_here<const N: usize, K: Loaded, P: Parts<Part = Partition<N, K>>>(
     crossing: u64,
 )
     requires there { IsBetween 1 (length (P.states parts.old)) number }
+    requires named { is_named command.now number ≡ true }
     requires is { IfSome (slice_get (P.states parts.old) (number - 1)) (IsPartition K.load number) }
     requires ready { IfSome (slice_get (P.states parts.old) (number - 1))
         (IsReadyIfNamed edition command.now crossing list.old.log number) }
@@ -35,13 +36,9 @@ fn keep_here<const N: usize, K: Loaded, P: Parts<Part = Partition<N, K>>>(
     ensures kept { KeepsAt edition command.now crossing list.old.log number unsettled.old unsettled.new
         (P.states parts.old) (P.states parts.new) }
     ensures log { list.new.log ≡ list.old.log }
-    ensures behind { list.new.behind ≡ (if is_named command.now number
-        then filter (λ w. not (w == number)) list.old.behind else list.old.behind) }
+    ensures behind { list.new.behind ≡ filter (λ w. not (w == number)) list.old.behind }
 {
     let part = parts.part(number as usize - 1);
-    if !command.names(number) {
-        return;
-    }
     part.keep_part(unsettled, list, crossing);
 }
 
@@ -56,6 +53,7 @@ pub fn keep_parts<const N: usize, K: Loaded, P: Parts<Part = Partition<N, K>>>(
     crossing: u64,
 )
     requires parts { ArePartitions K.load (P.states parts.old) }
+    requires few { length (P.states parts.old) ≤ 16 }
     requires there { list_all (is_between 1 (length (P.states parts.old))) (warehouses_of command.now) ≡ true }
     requires ready { AreReady edition command.now crossing list.old.log (P.states parts.old) }
     requires behind { list.old.behind ≡ warehouses_of command.now }
@@ -67,7 +65,8 @@ pub fn keep_parts<const N: usize, K: Loaded, P: Parts<Part = Partition<N, K>>>(
     ensures log { list.new.log ≡ list.old.log }
     ensures told { list.new.behind ≡ [] }
 {
-    for place in 0..parts.len() {
+    let places = command.places_before(parts.len());
+    for &place in places {
         keep_here(
             parts,
             unsettled,

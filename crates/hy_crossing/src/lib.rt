@@ -25,7 +25,7 @@ pub use held::Held;
 pub use keeping::keep_parts;
 pub use looking::are_partitions;
 pub use making::partitions_of;
-pub use named::NamedCommand;
+pub use named::{NamedCommand, NamedPlaces};
 pub use parts::Parts;
 
 // what stands below, for the crates above

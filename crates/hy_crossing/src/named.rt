@@ -1,45 +1,86 @@
 //! Which warehouses a command names, found once.
 
-ghost use Rattle.std.specs.Prelude.{◌≡◌, ◌==◌, None, Some, IfErr, IfOk, OnOk};
-ghost use Rattle.std.specs.List.{list_any};
+ghost use Rattle.std.specs.Prelude.{◌≡◌, ◌≤◌, None, Some, IfErr, IfOk, OnOk, nat_lt};
+ghost use Rattle.std.specs.List.{take_while};
 ghost use Rattle.hy_rows.specs.Ranges.{is_between};
-ghost use Rattle.hy_commands.specs.Commands.{customer_home_of, refusal_of_numbers, warehouses_of};
+ghost use Rattle.hy_commands.specs.Commands.{customer_home_of, refusal_of_numbers};
+ghost use Rattle.hy_crossing.specs.Named.{places_before, places_of};
 
+use arrayvec::ArrayVec;
 use hy_commands::Command;
 use hy_rows::MAX_WAREHOUSES;
 use hy_schema::Refusal;
 use std::alloc::AllocError;
 use std::marker::Model;
 
-/// A command, and which warehouses it names: it is gone through once for all steps.
+/// The places of the warehouses that a command names, of the sixteen that there may be, in rising order. They lie in the
+/// value itself and take no memory.
+#[derive(Drop)]
+pub struct NamedPlaces {
+    list: ArrayVec<usize, 16>,
+}
+
+// Clauses see the list.
+impl Model for NamedPlaces {
+    ghost use Rattle.std.specs.Prelude.{ℕ, List};
+
+    ghost Value = { List ℕ };
+
+    ghost view = { λ places. places.list.items };
+}
+
+impl NamedPlaces {
+    /// Those of a command, whose numbers are gone over once.
+    pub fn of(command: &Command) -> NamedPlaces
+        ensures { result ≡ places_of command.now }
+    {
+        let named = command.named_places();
+        let mut list = ArrayVec::new();
+        for place in 0..MAX_WAREHOUSES as usize {
+            if named[place] {
+                list.push(place);
+            }
+        }
+        NamedPlaces { list }
+    }
+
+    /// Those in front of the first that isn't less than an end.
+    fn before(&self, end: usize) -> &[usize]
+        ensures { result.now ≡ take_while (λ place. nat_lt place end) self.now }
+    {
+        let count = self.list.iter().take_while(|place| **place < end).count();
+        &self.list[..count]
+    }
+}
+
+/// A command with the places that it names: its numbers are gone over once for all steps, and a step goes over these places
+/// alone.
 #[derive(Drop)]
 pub struct NamedCommand<'a> {
     command: &'a Command,
-    // whether it names the warehouse of each place
-    places: [bool; MAX_WAREHOUSES as usize],
+    places: &'a NamedPlaces,
 }
 
 // Clauses see the command.
 impl<'a> Model for NamedCommand<'a> {
+    ghost use Rattle.std.specs.Prelude.{◌≡◌};
     ghost use Rattle.hy_commands.specs.declared.command.Command.{Command};
-    ghost use Rattle.hy_commands.specs.Commands.{AreNamedPlaces};
+    ghost use Rattle.hy_crossing.specs.Named.{places_of};
 
     ghost Value = { Command };
 
     ghost view = { λ named. named.command.now };
 
-    ghost invariant = { λ named. AreNamedPlaces named.command.now named.places };
+    ghost invariant = { λ named. named.places.now ≡ places_of named.command.now };
 }
 
 impl<'a> NamedCommand<'a> {
-    /// A command.
-    pub fn new(command: &'a Command) -> NamedCommand<'a>
+    /// A command with its places. They may come from another command that names the same warehouses.
+    pub fn new(command: &'a Command, places: &'a NamedPlaces) -> NamedCommand<'a>
+        requires { places.now ≡ places_of command.now }
         ensures { result ≡ command.entry.now }
     {
-        NamedCommand {
-            command,
-            places: command.named_places(),
-        }
+        NamedCommand { command, places }
     }
 
     /// The command.
@@ -71,14 +112,11 @@ impl<'a> NamedCommand<'a> {
         self.command.customer_home()
     }
 
-    /// Whether it names the warehouse of a number.
-    pub fn names(&self, number: u64) -> bool
-        ensures { result ≡ list_any (λ named. named == number) (warehouses_of self.now) }
+    /// The places that it names before an end, in rising order.
+    pub fn places_before(&self, end: usize) -> &[usize]
+        requires { end ≤ 16 }
+        ensures { result.now ≡ places_before self.now end }
     {
-        if 1 <= number && number <= u64::from(MAX_WAREHOUSES) {
-            self.places[number as usize - 1]
-        } else {
-            self.command.names(number)
-        }
+        self.places.before(end)
     }
 }

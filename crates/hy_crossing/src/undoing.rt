@@ -18,6 +18,7 @@ pub fn undo_parts<const N: usize, K: Loaded, P: Parts<Part = Partition<N, K>>>(
     end: usize,
 )
     requires end { end ≤ length (P.states parts.old) }
+    requires few { length (P.states parts.old) ≤ 16 }
     requires quiet { AreQuiet command.now (P.states parts.old) }
     requires held { AreHeldBefore command.now end (part_of unsettled) (P.states parts.old) }
     requires counted { unsettled.count ≡ named_before command.now end }
@@ -25,10 +26,9 @@ pub fn undo_parts<const N: usize, K: Loaded, P: Parts<Part = Partition<N, K>>>(
     requires unshared { unsettled.share ≡ None }
     ensures { IsDoneUpTo (UndoesIfNamed command.now) end (P.states parts.old) (P.states parts.new) }
 {
-    for place in 0..end {
-        if command.names(place as u64 + 1) {
-            parts.part(place).undo_part(&mut unsettled);
-        }
+    let places = command.places_before(end);
+    for &place in places {
+        parts.part(place).undo_part(&mut unsettled);
     }
     unsettled.close();
 }

@@ -21,9 +21,9 @@ do_all-requires-clause-edition g c =
     let olds = g.P.Parts.states c.args.parts.now in
     let middles = g.P.Parts.states c.inform.new.parts in
     subst (λ (rows : List PartitionState). AllMayRun c.args.job.edition c.args.job.command rows) (sym c.in-Ok.ensures.same)
-    (subst (λ (command : Command). AllMayRun c.args.job.edition command middles) (c.new-command.ensures ∙ c.command.ensures)
+    (subst (λ (command : Command). AllMayRun c.args.job.edition command middles) (c.new-command.ensures ∙ c.command-2.ensures)
     (c.inform.ensures.editions c.args.job.edition
-    (subst (λ (command : Command). AllMayRun c.args.job.edition command olds) (sym (c.new-command.ensures ∙ c.command.ensures))
+    (subst (λ (command : Command). AllMayRun c.args.job.edition command olds) (sym (c.new-command.ensures ∙ c.command-2.ensures))
     c.requires.edition)))
 
 pub returns-in-Err-clause-crosses : goal.returns-in-Err-clause-crosses
@@ -35,11 +35,11 @@ returns-in-Err-clause-crosses g c =
       log = log;
       middle = middles;
       informs = subst (λ (command : Command). Informs command c.args.journal.now.list.log log olds middles)
-          (c.new-command.ensures ∙ c.command.ensures) c.inform.ensures.informs;
+          (c.new-command.ensures ∙ c.command-2.ensures) c.inform.ensures.informs;
       does = inr (subst (λ (news : List PartitionState). RefusesAll lists c.args.job log log middles news c.refuse.result)
           (sym c.in-Err.ensures.same)
           (refuses-first lists c.args.job log middles c.refuse.result c.in-Err.refusal
           (subst (λ (command : Command). loaded_refusal lists command middles ≡ Some c.in-Err.refusal)
-          (c.new-command.ensures ∙ c.command.ensures) c.in-Err.ensures.refused)
+          (c.new-command.ensures ∙ c.command-2.ensures) c.in-Err.ensures.refused)
           c.refuse.ensures));
     }

@@ -1,4 +1,4 @@
-use Rattle.std.proofs.Common.{◌≡◌, ◌-◌, ◌<◌, None, length, inl, inr, refl, sym, ap, ◌∙◌, subst, arith}
+use Rattle.std.proofs.Common.{◌≡◌, ◌-◌, ◌<◌, length, inl, inr, refl, sym, ap, ◌∙◌, subst, arith}
 use Rattle.hy_rows.proofs.BetweenLaws.{bounds}
 use Rattle.hy_schema.specs.declared.refusal.Refusal.TheVariants as refusals
 use Rattle.hy_commands.specs.declared.command.Command.{Command}
@@ -12,32 +12,12 @@ use Rattle.hy_crossing.specs.Unsettled.{DoesAt}
 use Rattle.hy_crossing.proofs.DoingLaws.{as-before, err-both, err-given, untouched}
 use Rattle.hy_crossing.proofs.InformLaws.{may-now}
 use Rattle.hy_crossing.proofs.PlaceLaws.{holds-at}
-use Rattle.hy_crossing.proofs.UnsettledLaws.{done-here, done-other, on_ok-both}
+use Rattle.hy_crossing.proofs.UnsettledLaws.{done-here, on_ok-both}
 use Rattle.hy_crossing.proofs.doing.do_here.Goals as goal
 
 -- what is asked for
 abbrev asked : Edition → Command → PartState
 asked edition command = record { edition = edition; command = command }
-
-pub returns-then-not-names-clause-done : goal.returns-then-not-names-clause-done
-returns-then-not-names-clause-done g c =
-    let number = c.args.number in
-    let rows = g.P.Parts.states c.args.parts.now in
-    let p = c.part-part.result.now in
-    let ends = bounds 1 (length rows) number c.requires.there in
-    let within : number - 1 < length rows = omega (arith, ends.0, ends.1) in
-    let unnamed = sym c.names.ensures ∙ c.if-not-names.true in
-    record {
-      reply = None;
-      changes = (
-        p,
-        p,
-        c.part-part.ensures.value,
-        g.P.Parts.states_put c.args.parts.now (number - 1) p within,
-        inr (unnamed, (refl, refl)),
-      );
-      counted = done-other c.args.command.now number c.args.unsettled.now unnamed;
-    }
 
 pub returns-in_err-copy-clause-refused : goal.returns-in_err-copy-clause-refused
 returns-in_err-copy-clause-refused g c =
@@ -47,7 +27,7 @@ returns-in_err-copy-clause-refused g c =
     let p = c.part-part.result.now in
     let ends = bounds 1 (length rows) number c.requires.there in
     let within : number - 1 < length rows = omega (arith, ends.0, ends.1) in
-    let named = sym c.names.ensures ∙ c.if-not-names.false in
+    let named = c.requires.named in
     let can = holds-at (CanDoIfNamed command number) rows (number - 1) p within c.part-part.ensures.value c.requires.can named in
     err-given (λ why. ChangesAt (FailsHere command why number) (number - 1) rows
     (g.P.Parts.states (g.P.Parts.put c.args.parts.now (number - 1) p))) c.from_residual.result refusals.NoMemory
@@ -67,7 +47,7 @@ do_part-requires g c =
     let p = c.part-part.result.now in
     let ends = bounds 1 (length rows) number c.requires.there in
     let within : number - 1 < length rows = omega (arith, ends.0, ends.1) in
-    let named = sym c.names.ensures ∙ c.if-not-names.false in
+    let named = c.requires.named in
     let can = holds-at (CanDoIfNamed command number) rows (number - 1) p within c.part-part.ensures.value c.requires.can named in (
       omega arith,
       (
@@ -100,7 +80,7 @@ returns-clause-done g c =
     let now = c.args.unsettled.now in
     let ends = bounds 1 (length rows) number c.requires.there in
     let within : number - 1 < length rows = omega (arith, ends.0, ends.1) in
-    let named = sym c.names.ensures ∙ c.if-not-names.false in
+    let named = c.requires.named in
     on_ok-both (DoesPart edition copy p new (reply_now p edition copy))
     (c.do_part.new.unsettled ≡ with_part_done now (reply_now p edition copy))
     (DoesAt edition command number now c.do_part.new.unsettled rows news) c.do_part.result c.do_part.ensures.done
@@ -131,7 +111,7 @@ returns-clause-refused g c =
     let new = c.do_part.new.self in
     let ends = bounds 1 (length rows) number c.requires.there in
     let within : number - 1 < length rows = omega (arith, ends.0, ends.1) in
-    let named = sym c.names.ensures ∙ c.if-not-names.false in
+    let named = c.requires.named in
     let can = holds-at (CanDoIfNamed command number) rows (number - 1) p within c.part-part.ensures.value c.requires.can named in
     err-both (HasNoPart p new) (IsWhyUndone p.space new.space)
     (λ why. ChangesAt (FailsHere command why number) (number - 1) rows

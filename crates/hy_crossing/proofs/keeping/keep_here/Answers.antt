@@ -7,28 +7,8 @@ use Rattle.hy_partition.specs.Unsettled.{with_part_kept}
 use Rattle.hy_crossing.specs.Crossings.{IsPartition, IsReadyIfNamed}
 use Rattle.hy_crossing.proofs.CountLaws.{one-here}
 use Rattle.hy_crossing.proofs.PlaceLaws.{holds-at}
-use Rattle.hy_crossing.proofs.UnsettledLaws.{kept-here, kept-other}
+use Rattle.hy_crossing.proofs.UnsettledLaws.{kept-here}
 use Rattle.hy_crossing.proofs.keeping.keep_here.Goals as goal
-
-pub returns-then-not-names-clause-kept : goal.returns-then-not-names-clause-kept
-returns-then-not-names-clause-kept g c =
-    let number = c.args.number in
-    let rows = g.P.Parts.states c.args.parts.now in
-    let p = c.part-part.result.now in
-    let ends = bounds 1 (length rows) number c.requires.there in
-    let within : number - 1 < length rows = omega (arith, ends.0, ends.1) in
-    let unnamed = sym c.names.ensures ∙ c.if-not-names.true in
-    record {
-      share = None;
-      changes = (
-        p,
-        p,
-        c.part-part.ensures.value,
-        g.P.Parts.states_put c.args.parts.now (number - 1) p within,
-        inr (unnamed, (refl, refl)),
-      );
-      settled = kept-other c.args.command.now number c.args.unsettled.now unnamed;
-    }
 
 pub keep_part-requires : goal.keep_part-requires
 keep_part-requires g c =
@@ -41,7 +21,7 @@ keep_part-requires g c =
     let p = c.part-part.result.now in
     let ends = bounds 1 (length rows) number c.requires.there in
     let within : number - 1 < length rows = omega (arith, ends.0, ends.1) in
-    let named = sym c.names.ensures ∙ c.if-not-names.false in
+    let named = c.requires.named in
     let ready = holds-at (IsReadyIfNamed edition command crossing log number) rows (number - 1) p within
     c.part-part.ensures.value c.requires.ready named in (
       omega arith,
@@ -67,7 +47,7 @@ returns-clause-kept g c =
     let new = c.keep_part.new.self in
     let ends = bounds 1 (length rows) number c.requires.there in
     let within : number - 1 < length rows = omega (arith, ends.0, ends.1) in
-    let named = sym c.names.ensures ∙ c.if-not-names.false in
+    let named = c.requires.named in
     record {
       share = share_of_part p.warehouse command;
       changes = (
@@ -95,7 +75,5 @@ returns-clause-behind g c =
     let p = c.part-part.result.now in
     let ends = bounds 1 (length rows) number c.requires.there in
     let within : number - 1 < length rows = omega (arith, ends.0, ends.1) in
-    let named = sym c.names.ensures ∙ c.if-not-names.false in
     let is = holds-at (IsPartition g.K.Loaded.load number) rows (number - 1) p within c.part-part.ensures.value c.requires.is in
     c.keep_part.ensures.behind ∙ ap (λ n. filter (λ w. not (w == n)) behind) is.1
-    ∙ sym (ap (λ (b : Bool). cond b (filter (λ w. not (w == number)) behind) behind) named)
