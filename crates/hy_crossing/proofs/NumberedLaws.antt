@@ -1,5 +1,6 @@
 -- A command with the payer's number in place of a name: it names the same warehouses, and its share is the same.
-use Rattle.std.proofs.Common.{◌≡◌, ℕ, true, refl, subst, sym}
+use Rattle.std.proofs.Common.{◌≡◌, ◌==◌, ℕ, suc, true, List, filter, refl, sym, ap, ◌∙◌, subst}
+use Rattle.std.specs.List.{list_any, range_with_len}
 use Rattle.hy_ledger.specs.Books.{BookState}
 use Rattle.hy_commands.specs.declared.command.Command.{Command}
 use Rattle.hy_commands.specs.declared.command.Command.TheVariants as commands
@@ -9,6 +10,7 @@ use Rattle.hy_commands.specs.Commands.{customer_home_of, home_of, warehouses_of}
 use Rattle.hy_commands.specs.Parts.{is_by_number, with_number}
 use Rattle.hy_partition.specs.Accounts.{with_command}
 use Rattle.hy_partition.specs.Jobs.{share_of}
+use Rattle.hy_crossing.specs.Named.{places_of}
 
 pub record IsNumbered (command numbered : Command) : Type 0 where
   pub warehouses : warehouses_of numbered ≡ warehouses_of command
@@ -42,3 +44,11 @@ is_numbered number =
       share = λ w. refl;
       entered = λ book. refl;
     }
+
+-- it has the same places
+pub same-places : (command numbered : Command) (number : ℕ) → numbered ≡ with_number number command
+    → places_of numbered ≡ places_of command
+same-places command numbered number is =
+    let same = is_numbered number command in
+    ap places_of is ∙ ap (λ (ws : List ℕ). filter (λ place. list_any (λ named. named == suc place) ws) (range_with_len 0 16))
+    same.warehouses

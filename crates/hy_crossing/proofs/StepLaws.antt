@@ -196,6 +196,9 @@ module _ (edition : Edition) (command : Command) (place : ℕ) (olds middles : L
         (sym failed_news) (pairs-replaced (FailsHere command why) place middles changes.0 changes.1 within_middles
         failed_here changes.4))
 
+    pub halves-count : length news ≡ length olds
+    halves-count = ap length failed_news ∙ length-set middles place changes.1 ∙ done.count
+
     pub quiet-halves : CanDoParts command olds → AreQuiet command news
     quiet-halves can other =
         let next : 1 + other ≡ suc other = omega arith in
@@ -233,20 +236,17 @@ module _ (edition : Edition) (command : Command) (place : ℕ) (olds middles : L
       why-not = elim changes.4.2 [
         | inl frame ↦ inl (
           frame.0,
-          some-lacks olds last place changes.0 changes.1 within (undone.count ∙ news_count) is_old is_new frame.1,
+          some-lacks olds last place changes.0 changes.1 within (undone.count ∙ halves-count) is_old is_new frame.1,
         )
         | inr memory ↦ inr memory
       ]
         where
-          news_count : length news ≡ length olds
-          news_count = ap length failed_news ∙ length-set middles place changes.1 ∙ done.count
-
           is_old : changes.0 ≡ slice_index_or olds place changes.0
           is_old = done-here (DoesIfNamed edition command) place olds middles done within_middles changes.0 failed_here
 
           is_new : changes.1 ≡ slice_index_or last place changes.1
           is_new =
-              done-still (UndoesIfNamed command) place news last undone (omega (arith, within, news_count, undone.count))
+              done-still (UndoesIfNamed command) place news last undone (omega (arith, within, halves-count, undone.count))
               changes.1 (sym (ap (λ (rows : List PartitionState). slice_index_or rows place changes.1) failed_news
               ∙ get_or-set_same middles place changes.1 changes.1 within_middles))
 

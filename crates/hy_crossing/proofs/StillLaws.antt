@@ -1,6 +1,6 @@
 -- What a walk over the places that a command names knows of the elements before a place, and that it knows as much before the
 -- next one where the command doesn't name the place.
-use Rattle.std.proofs.Common.{◌≡◌, ◌≢◌, ℕ, suc, ◌+◌, ◌<◌, ◌≤◌, true, false, None, List, length, filter, nat_lt, slice_index_or, inl, inr, refl, sym, ap, ◌∙◌, subst, arith}
+use Rattle.std.proofs.Common.{◌≡◌, ◌≢◌, ℕ, suc, ◌+◌, ◌<◌, ◌≤◌, true, false, None, List, length, filter, nat_lt, slice_index_or, inr, refl, sym, ◌∙◌, subst, arith}
 use Rattle.std.specs.Prelude.{IfSome, slice_get}
 use Rattle.std.proofs.lemmas.Bool.{true≢false}
 use Rattle.hy_commands.specs.declared.command.Command.{Command}

@@ -10,7 +10,7 @@ use Rattle.hy_partition.specs.Partition.{PartitionState}
 use Rattle.hy_partition.specs.Unsettled.{UnsettledState, with_part_done, with_part_kept, with_part_undone}
 use Rattle.hy_crossing.specs.Crossings.{is_named}
 use Rattle.hy_crossing.specs.Unsettled.{AreAllDone, AreCounted, named_before, one_if_named, unsettled_of}
-use Rattle.hy_crossing.proofs.CountLaws.{before-grows, before-more, before-same, one-here, one-other}
+use Rattle.hy_crossing.proofs.CountLaws.{before-grows, before-more, before-same, one-here}
 
 -- two things that are said of a success
 pub on_ok-both : {T E : Type 0} (A B C : Type 0) (result : Result T E) → OnOk result A → OnOk result B → (A → B → C)

@@ -1,4 +1,4 @@
-use Rattle.std.proofs.Common.{◌≡◌, ◌+◌, ◌<◌, true, List, length, drop, slice_index_or, sym, ap, ◌∙◌, arith}
+use Rattle.std.proofs.Common.{◌≡◌, ◌+◌, ◌<◌, List, length, drop, slice_index_or, sym, ap, ◌∙◌, arith}
 use Rattle.hy_partition.specs.Partition.{PartitionState}
 use Rattle.hy_crossing.specs.Crossings.{some_is_full}
 use Rattle.hy_crossing.proofs.FullLaws.{full-here, none-is-full, passes-free, passing-next, set-same}

@@ -1,10 +1,17 @@
-use Rattle.std.proofs.Common.{◌≡◌, List, Some, inr, sym, ◌∙◌, subst}
+use Rattle.std.proofs.Common.{◌≡◌, List, Some, inr, sym, ap, ◌∙◌, subst}
 use Rattle.hy_commands.specs.declared.command.Command.{Command}
 use Rattle.hy_partition.specs.Partition.{PartitionState}
 use Rattle.hy_crossing.specs.Crossings.{AllMayRun, Informs, RefusesAll, loaded_refusal}
+use Rattle.hy_crossing.specs.Named.{places_of}
 use Rattle.hy_crossing.proofs.InformLaws.{all-idle, still-partitions}
 use Rattle.hy_crossing.proofs.WholeLaws.{refuses-first}
 use Rattle.hy_crossing.proofs.crossing.cross.Goals as goal
+
+pub new-command-requires : goal.new-command-requires
+new-command-requires g c = c.of-places.ensures ∙ ap places_of (c.command.ensures ∙ sym c.command-2.ensures)
+
+pub do_all-requires-clause-named : goal.do_all-requires-clause-named
+do_all-requires-clause-named g c = c.of-places.ensures ∙ ap places_of c.command.ensures
 
 pub prepare-requires-clause-parts : goal.prepare-requires-clause-parts
 prepare-requires-clause-parts g c =

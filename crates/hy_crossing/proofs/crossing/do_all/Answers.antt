@@ -1,4 +1,4 @@
-use Rattle.std.proofs.Common.{◌≡◌, true, List, length, sym, ap, ◌∙◌, subst, inl, inr}
+use Rattle.std.proofs.Common.{◌≡◌, true, List, length, sym, ap, ◌∙◌, subst, inl, inr, arith}
 use Rattle.std.specs.List.{list_all}
 use Rattle.hy_rows.specs.Ranges.{IsBetween, is_between}
 use Rattle.hy_commands.specs.declared.command.Command.{Command}
@@ -10,8 +10,10 @@ use Rattle.hy_partition.specs.Partition.{PartitionState}
 use Rattle.hy_partition.specs.Unsettled.{UnsettledState}
 use Rattle.hy_crossing.specs.Crossings.{AllMayRun, AreKnown, CanDoParts, DoesIfNamed, IsWhyNotDone, LeavesIfNamed}
 use Rattle.hy_crossing.specs.Lists.{Pairwise}
+use Rattle.hy_crossing.specs.Named.{places_of}
 use Rattle.hy_crossing.specs.Unsettled.{AreAllDone}
 use Rattle.hy_crossing.proofs.InformLaws.{pairs-count}
+use Rattle.hy_crossing.proofs.NumberedLaws.{same-places}
 use Rattle.hy_crossing.proofs.UnsettledLaws.{all-counted, all-replied}
 use Rattle.hy_crossing.proofs.WholeLaws.{accepts-all, can-all, done-all, may-all, named-all, no-part-whole, partitions-here, partitions-whole, refuses-late, several-all, there-all}
 use Rattle.hy_crossing.proofs.crossing.do_all.Goals as goal
@@ -35,6 +37,14 @@ leaves-numbered : (numbered named : Command) (olds rows news : List PartitionSta
 leaves-numbered numbered named olds rows news is same leaves =
     subst (λ (command : Command). Pairwise (LeavesIfNamed command) 1 rows news) is
     (subst (λ (before : List PartitionState). Pairwise (LeavesIfNamed named) 1 before news) same leaves)
+
+pub new-requires : goal.new-requires
+new-requires g c = c.requires.named ∙ ap places_of (sym c.command.ensures)
+
+pub new-requires-2 : goal.new-requires-2
+new-requires-2 g c =
+    c.requires.named ∙ sym (same-places c.args.job.command c.with_number-numbered.result c.args.number
+    (c.with_number-numbered.ensures ∙ ap (with_number c.args.number) c.open-command.ensures.0))
 
 pub do_parts-requires-clause-can : goal.do_parts-requires-clause-can
 do_parts-requires-clause-can g c =
@@ -97,6 +107,18 @@ keep_all-requires-clause-parts g c =
     (g.P.Parts.states c.do_parts.new.parts) c.new-2.ensures c.know_named.ensures.same c.in-Ok.ensures.done in
     partitions-here g.K.Loaded.load c.args.job log rows c.requires.informed c.requires.accepted g.K.World.passes.partitions known
     c.args.number c.requires.payer numbered is c.edition-edition.result (g.P.Parts.states c.do_parts.new.parts) does c.requires.several
+
+pub keep_all-requires-clause-few : goal.keep_all-requires-clause-few
+keep_all-requires-clause-few g c =
+    let olds = g.P.Parts.states c.know_named.new.parts in
+    let news = g.P.Parts.states c.do_parts.new.parts in
+    let count = pairs-count (DoesIfNamed c.edition-edition.result c.new-2.result) 1 olds news c.in-Ok.ensures.done in
+    omega (arith, count, ap length c.know_named.ensures.same, c.requires.few)
+
+pub keep_all-requires-clause-named : goal.keep_all-requires-clause-named
+keep_all-requires-clause-named g c =
+    c.requires.named ∙ sym (same-places c.args.job.command c.with_number-numbered.result c.args.number
+    (c.with_number-numbered.ensures ∙ ap (with_number c.args.number) c.open-command.ensures.0))
 
 pub keep_all-requires-clause-there : goal.keep_all-requires-clause-there
 keep_all-requires-clause-there g c =
@@ -251,7 +273,7 @@ returns-in-Err-clause-does g c =
     (g.P.Parts.states c.do_parts.new.parts) c.new-2.ensures c.know_named.ensures.same c.in-Err.ensures.left)
     (subst (λ (olds : List PartitionState). IsWhyNotDone olds (g.P.Parts.states c.do_parts.new.parts) c.in-Err.refusal)
     c.know_named.ensures.same c.in-Err.ensures.refused)
-    (c.refuse.ensures ∙ ap (λ (job : JobState). refused_answer job.pass c.in-Err.refusal) c.new-3.ensures))
+    (c.refuse.ensures ∙ ap (λ (job : JobState). refused_answer job.pass c.in-Err.refusal) c.new-in-Err.ensures))
 
 pub returns-in-Err-clause-parts : goal.returns-in-Err-clause-parts
 returns-in-Err-clause-parts g c =
@@ -272,7 +294,7 @@ returns-in-Err-clause-parts g c =
     (g.P.Parts.states c.do_parts.new.parts) c.new-2.ensures c.know_named.ensures.same c.in-Err.ensures.left)
     (subst (λ (olds : List PartitionState). IsWhyNotDone olds (g.P.Parts.states c.do_parts.new.parts) c.in-Err.refusal)
     c.know_named.ensures.same c.in-Err.ensures.refused)
-    (c.refuse.ensures ∙ ap (λ (job : JobState). refused_answer job.pass c.in-Err.refusal) c.new-3.ensures)))
+    (c.refuse.ensures ∙ ap (λ (job : JobState). refused_answer job.pass c.in-Err.refusal) c.new-in-Err.ensures)))
 
 pub returns-in-Err-clause-whole : goal.returns-in-Err-clause-whole
 returns-in-Err-clause-whole g c =
@@ -293,4 +315,4 @@ returns-in-Err-clause-whole g c =
     (g.P.Parts.states c.do_parts.new.parts) c.new-2.ensures c.know_named.ensures.same c.in-Err.ensures.left)
     (subst (λ (olds : List PartitionState). IsWhyNotDone olds (g.P.Parts.states c.do_parts.new.parts) c.in-Err.refusal)
     c.know_named.ensures.same c.in-Err.ensures.refused)
-    (c.refuse.ensures ∙ ap (λ (job : JobState). refused_answer job.pass c.in-Err.refusal) c.new-3.ensures)))
+    (c.refuse.ensures ∙ ap (λ (job : JobState). refused_answer job.pass c.in-Err.refusal) c.new-in-Err.ensures)))

@@ -1,4 +1,4 @@
-use Rattle.std.proofs.Common.{◌≡◌, ◌≤◌, List, length, sym, ap, subst, arith}
+use Rattle.std.proofs.Common.{List, sym, subst, arith}
 use Rattle.hy_partition.specs.Jobs.{Log}
 use Rattle.hy_partition.specs.Partition.{PartitionState}
 use Rattle.hy_crossing.specs.Crossings.{AreInformed, EndsIfNamed, EndsJobs, Informs, TellsIfNamed}

@@ -1,7 +1,7 @@
-use Rattle.std.proofs.Common.{◌≡◌, ◌⊎◌, ◌+◌, ◌-◌, ◌<◌, ◌≤◌, suc, None, length, slice_index_or, sym, ap, ◌∙◌, subst, arith}
+use Rattle.std.proofs.Common.{◌≡◌, ◌⊎◌, ℕ, ◌+◌, ◌-◌, ◌<◌, ◌≤◌, suc, None, length, slice_index_or, sym, ap, ◌∙◌, subst, arith}
 use Rattle.std.specs.Prelude.{Option, IfSome, slice_get}
 use Rattle.std.specs.Option.{option_or}
-use Rattle.hy_rows.proofs.BetweenLaws.{bounds}
+use Rattle.hy_rows.proofs.BetweenLaws.{IsBetween-bounds, bounds}
 use Rattle.hy_commands.specs.declared.reply.Reply.{Reply}
 use Rattle.hy_commands.specs.Commands.{customer_home_of}
 use Rattle.hy_partition.specs.Partition.{PartState, PartitionState}
@@ -14,10 +14,32 @@ use Rattle.hy_crossing.proofs.PlaceLaws.{customer_home-named}
 use Rattle.hy_crossing.proofs.ReplyLaws.{replies-some}
 use Rattle.hy_crossing.proofs.NamedWalkLaws.{behind}
 use Rattle.hy_crossing.proofs.StillLaws.{AreDoneBefore, doing-end, doing-next}
-use Rattle.hy_crossing.proofs.StepLaws.{answer-early, answer-late, done-step, held-halves, left-all, quiet-halves, why-not}
+use Rattle.hy_crossing.proofs.StepLaws.{answer-early, answer-late, done-step, halves-count, held-halves, left-all, quiet-halves, why-not}
 use Rattle.hy_crossing.proofs.TurnLaws.{done-end, done-get}
 use Rattle.hy_crossing.proofs.UnsettledLaws.{counted-more}
 use Rattle.hy_crossing.proofs.doing.do_parts.Goals as goal
+
+pub overflow_add-place : goal.overflow_add-place
+overflow_add-place g c =
+    let places = c.places_before-places.result.now in
+    let place = slice_index_or places c.loop-place.place-index 0 in
+    let at = doing-next c.args.edition c.args.command.now (g.P.Parts.states c.args.parts.now)
+    (g.P.Parts.states c.loop-place.parts) c.loop-place.unsettled c.len.result places c.places_before-places.ensures
+    c.loop-place.place-index c.len.ensures c.loop-place-test.true c.loop-place.invariant in
+    omega (arith, at.within, c.len.ensures, c.requires.few)
+
+pub undo_parts-requires-clause-end : goal.undo_parts-requires-clause-end
+undo_parts-requires-clause-end g c =
+    let places = c.places_before-places.result.now in
+    let place = slice_index_or places c.loop-place.place-index 0 in
+    let at = doing-next c.args.edition c.args.command.now (g.P.Parts.states c.args.parts.now)
+    (g.P.Parts.states c.loop-place.parts) c.loop-place.unsettled c.len.result places c.places_before-places.ensures
+    c.loop-place.place-index c.len.ensures c.loop-place-test.true c.loop-place.invariant in
+    let olds = g.P.Parts.states c.args.parts.now in
+    let within : place < length olds = omega (arith, at.within, c.len.ensures) in
+    let count = halves-count c.args.edition c.args.command.now place olds (g.P.Parts.states c.loop-place.parts)
+    at.holds.done within c.in-Err.refusal (g.P.Parts.states c.do_here.new.parts) c.in-Err.ensures.refused in
+    omega (arith, within, count)
 
 pub do_here-requires-clause-there : goal.do_here-requires-clause-there
 do_here-requires-clause-there g c =
@@ -26,7 +48,9 @@ do_here-requires-clause-there g c =
     let at = doing-next c.args.edition c.args.command.now (g.P.Parts.states c.args.parts.now)
     (g.P.Parts.states c.loop-place.parts) c.loop-place.unsettled c.len.result places c.places_before-places.ensures
     c.loop-place.place-index c.len.ensures c.loop-place-test.true c.loop-place.invariant in
-    ?
+    let number : ℕ = place + 1 in
+    let rows : ℕ = length (g.P.Parts.states c.loop-place.parts) in
+    IsBetween-bounds 1 rows number (omega arith) (omega (arith, at.within, c.len.ensures, at.holds.done.count))
 
 pub do_here-requires-clause-named : goal.do_here-requires-clause-named
 do_here-requires-clause-named g c =

@@ -1,4 +1,4 @@
-use Rattle.std.proofs.Common.{◌≡◌, ◌+◌, ◌<◌, ℕ, suc, List, length, slice_index_or, ap, ◌∙◌, arith}
+use Rattle.std.proofs.Common.{◌≡◌, ◌<◌, ℕ, suc, List, length, slice_index_or, ap, ◌∙◌, arith}
 use Rattle.hy_partition.specs.Partition.{PartitionState}
 use Rattle.hy_crossing.specs.Crossings.{IsKnownIfNamed}
 use Rattle.hy_crossing.proofs.BeforeLaws.{before-all, before-more}
@@ -8,8 +8,8 @@ use Rattle.hy_crossing.proofs.PlaceLaws.{held-at}
 use Rattle.hy_crossing.proofs.StillLaws.{AreKnownBefore, knowing-end, knowing-next}
 use Rattle.hy_crossing.proofs.entering.know_named.Goals as goal
 
-pub part-requires : goal.part-requires
-part-requires g c =
+pub part-part-requires : goal.part-part-requires
+part-part-requires g c =
     let within = is-within c.args.command.now c.len.result c.places_before-places.result.now
     c.places_before-places.ensures c.loop-place.place-index c.loop-place-test.true in
     omega (arith, within, c.len.ensures, ap length c.loop-place.invariant.0)

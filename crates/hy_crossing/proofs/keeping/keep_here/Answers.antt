@@ -1,4 +1,4 @@
-use Rattle.std.proofs.Common.{◌≡◌, ◌-◌, ◌<◌, ◌==◌, ◌++◌, ◌∷◌, [], ℕ, Bool, None, Some, not, cond, filter, List, length, inl, inr, refl, sym, ap, ◌∙◌, subst, arith}
+use Rattle.std.proofs.Common.{◌≡◌, ◌-◌, ◌<◌, ◌==◌, ◌++◌, ◌∷◌, [], ℕ, Some, not, filter, List, length, inl, sym, ap, ◌∙◌, subst, arith}
 use Rattle.hy_rows.proofs.BetweenLaws.{bounds}
 use Rattle.hy_commands.specs.declared.command.Commit.TheVariants as commits
 use Rattle.hy_partition.specs.Partition.{PartState, projection_of}

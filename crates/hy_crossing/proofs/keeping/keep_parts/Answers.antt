@@ -1,12 +1,12 @@
-use Rattle.std.proofs.Common.{◌≡◌, ◌+◌, ◌-◌, ◌<◌, ◌==◌, ℕ, suc, not, cond, List, length, filter, slice_index_or, refl, sym, ap, ◌∙◌, subst, arith}
+use Rattle.std.proofs.Common.{◌≡◌, ◌+◌, ◌-◌, ◌<◌, ◌==◌, ℕ, suc, not, List, length, filter, slice_index_or, refl, sym, ap, ◌∙◌, subst, arith}
 use Rattle.std.specs.Prelude.{Option, IfSome, slice_get}
 use Rattle.std.specs.Option.{option_or}
-use Rattle.hy_rows.proofs.BetweenLaws.{bounds}
+use Rattle.hy_rows.proofs.BetweenLaws.{IsBetween-bounds, bounds}
 use Rattle.hy_commands.specs.Commands.{home_of, warehouses_of}
 use Rattle.hy_partition.specs.Jobs.{Log, share_of}
 use Rattle.hy_partition.specs.Partition.{PartitionState}
 use Rattle.hy_partition.specs.Unsettled.{UnsettledState, part_of}
-use Rattle.hy_crossing.specs.Crossings.{IsPartition, IsReadyIfNamed, KeepsPartIfNamed, is_named}
+use Rattle.hy_crossing.specs.Crossings.{IsPartition, IsReadyIfNamed, KeepsPartIfNamed}
 use Rattle.hy_crossing.specs.Unsettled.{KeepsAt}
 use Rattle.hy_crossing.proofs.BehindLaws.{told-all, told-more, told-none}
 use Rattle.hy_crossing.proofs.KeepLaws.{home-there, keep-step, share-early, share-late}
@@ -82,6 +82,28 @@ keep_here-requires-clause-same g c =
     c.loop-place.list.behind c.len.result places c.places_before-places.ensures c.loop-place.place-index c.len.ensures
     c.loop-place-test.true c.loop-place.invariant.1 in
     ap part_of at.holds.unkept.is
+
+pub overflow_add-place : goal.overflow_add-place
+overflow_add-place g c =
+    let places = c.places_before-places.result.now in
+    let place = slice_index_or places c.loop-place.place-index 0 in
+    let at = keeping-next c.args.edition c.args.command.now c.args.crossing c.args.list.now.log c.args.unsettled.now
+    (g.P.Parts.states c.args.parts.now) (g.P.Parts.states c.loop-place.parts) c.loop-place.unsettled
+    c.loop-place.list.behind c.len.result places c.places_before-places.ensures c.loop-place.place-index c.len.ensures
+    c.loop-place-test.true c.loop-place.invariant.1 in
+    omega (arith, at.within, c.len.ensures, c.requires.few)
+
+pub keep_here-requires-clause-there : goal.keep_here-requires-clause-there
+keep_here-requires-clause-there g c =
+    let places = c.places_before-places.result.now in
+    let place = slice_index_or places c.loop-place.place-index 0 in
+    let at = keeping-next c.args.edition c.args.command.now c.args.crossing c.args.list.now.log c.args.unsettled.now
+    (g.P.Parts.states c.args.parts.now) (g.P.Parts.states c.loop-place.parts) c.loop-place.unsettled
+    c.loop-place.list.behind c.len.result places c.places_before-places.ensures c.loop-place.place-index c.len.ensures
+    c.loop-place-test.true c.loop-place.invariant.1 in
+    let number : ℕ = place + 1 in
+    let rows : ℕ = length (g.P.Parts.states c.loop-place.parts) in
+    IsBetween-bounds 1 rows number (omega arith) (omega (arith, at.within, c.len.ensures, at.holds.kept.count))
 
 pub keep_here-requires-clause-named : goal.keep_here-requires-clause-named
 keep_here-requires-clause-named g c =

@@ -10,8 +10,8 @@ use Rattle.hy_crossing.proofs.TurnLaws.{done-here, done-more, done-start}
 use Rattle.hy_crossing.proofs.UnsettledLaws.{left-here, left-start, no-reply-left, none-left, some-left}
 use Rattle.hy_crossing.proofs.undoing.undo_parts.Goals as goal
 
-pub places_before-requires : goal.places_before-requires
-places_before-requires g c = omega (arith, c.requires.end, c.requires.few)
+pub places_before-places-requires : goal.places_before-places-requires
+places_before-places-requires g c = omega (arith, c.requires.end, c.requires.few)
 
 pub loop-place-init : goal.loop-place-init
 loop-place-init g c = record {

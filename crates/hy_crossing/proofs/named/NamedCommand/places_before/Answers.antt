@@ -1,4 +1,4 @@
-use Rattle.std.proofs.Common.{ap, ◌∙◌, List, ℕ, nat_lt}
+use Rattle.std.proofs.Common.{ap, ◌∙◌, nat_lt}
 use Rattle.std.specs.List.{take_while}
 use Rattle.hy_commands.specs.declared.command.Command.{Command}
 use Rattle.hy_commands.specs.Commands.{is_named_at}
