@@ -3,3 +3,4 @@ pub mod EndLaws
 pub mod TakesLaws
 pub mod FillsLaws
 pub mod ReceivedLaws
+pub mod HearsLaws

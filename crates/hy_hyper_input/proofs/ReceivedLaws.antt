@@ -138,7 +138,7 @@ says-taken received lines old new next has (nothing is none same) =
 -- ---- what comes
 
 -- room is made for it
-makes-room : (received : List ℕ) (lines : List (List ℕ)) (old : InputState) → is_ended old.left ≡ false
+pub makes-room : (received : List ℕ) (lines : List (List ℕ)) (old : InputState) → is_ended old.left ≡ false
     → HasTaken received lines old → HasTaken received lines (with_room old)
 makes-room received lines old none has = by (length old.left == room_bytes) refl
   where
@@ -160,6 +160,14 @@ makes-room received lines old none has = by (length old.left == room_bytes) refl
         of_line true dropped = dropped.1
         of_line false dropped = ap is_ended dropped
 
+-- the number of the line that was taken last stays
+pub room-number : (old : InputState) → old.number ≡ (with_room old).number
+room-number old = by (length old.left == room_bytes)
+  where
+    by : (full : Bool) → old.number ≡ (cond full (record old { is_long = true; left = [] }) old).number
+    by true = refl
+    by false = refl
+
 pub says-filled : (received : List ℕ) (lines : List (List ℕ)) (old new : InputState) (more : Bool)
     → is_ended old.left ≡ false → HasTaken received lines old → (filled : Fills old new more)
     → HasTaken (received ++ filled.bytes) lines new
@@ -174,9 +182,5 @@ says-filled received lines old new more none has filled =
           (append_assoc made.dropped (with_room old).left filled.bytes
           ∙ ap (λ left. made.dropped ++ left) (sym filled.left));
       is_long = subst (λ is. IsDropped is made.dropped) (sym filled.is_long) made.is_long;
-      number = filled.number ∙ same (length old.left == room_bytes) ∙ made.number;
+      number = filled.number ∙ room-number old ∙ made.number;
     }
-  where
-    same : (full : Bool) → old.number ≡ (cond full (record old { is_long = true; left = [] }) old).number
-    same true = refl
-    same false = refl

@@ -33,6 +33,10 @@ pub record InputState : Type 0 where
   pub left : List ℕ
   pub coming : Option (List ℕ)
 
+-- an input of which nothing has come
+abbrev pub fresh : Option (List ℕ) → InputState
+fresh coming = record { number = 0; line = []; is_long = false; left = []; coming = coming }
+
 -- the number behind another one; the greatest of 64 bits has none behind it
 abbrev pub number_behind : ℕ → ℕ
 number_behind number = if number == 18_446_744_073_709_551_615 then number else number + 1

@@ -1,9 +1,10 @@
 -- What an input says, whatever pieces its bytes come in.
-use Rattle.std.specs.Prelude.{◌≡◌, ℕ, ◌<◌, Bool, true, false, not, nat_le, if◌then◌else◌, List, [], ◌∷◌, ◌++◌, length}
+use Rattle.std.specs.Prelude.{◌≡◌, ℕ, ◌<◌, Bool, true, false, not, nat_le, if◌then◌else◌, List, [], ◌∷◌, ◌++◌, length, Option}
 use Rattle.std.specs.List.{flat_map, list_all}
+use Rattle.std.specs.Io.KnownBytes.{Consumes}
 use Rattle.hy_hyper_input.specs.declared.input.Next.{Next}
 use Rattle.hy_hyper_input.specs.declared.input.Next.TheVariants as next
-use Rattle.hy_hyper_input.specs.Inputs.{Fills, InputState, Takes, is_ended, line_feed, max_line, number_behind}
+use Rattle.hy_hyper_input.specs.Inputs.{FailsToFill, Fills, InputState, Takes, fresh, is_ended, line_feed, max_line, number_behind}
 
 -- a line with its number, or that a line is too long
 pub data Said : Type 0 where
@@ -57,3 +58,20 @@ pub record SaysItsLines : Type 0 where
   pub fills : (received : List ℕ) (lines : List (List ℕ)) (old new : InputState) (more : Bool)
       → is_ended old.left ≡ false → HasTaken received lines old → (filled : Fills old new more)
       → HasTaken (received ++ filled.bytes) lines new
+
+-- From one moment of an input to another this was told of it, one line after another, while some bytes came: whatever was
+-- received and taken before, behind it stand these bytes and the lines that say so.
+abbrev pub Hears : InputState → InputState → List Said → Type 0
+Hears old new told = (received : List ℕ) (lines : List (List ℕ)) → HasTaken received lines old
+    → (bytes : List ℕ) × (more : List (List ℕ)) × Consumes old.coming new.coming bytes
+    × HasTaken (received ++ bytes) (lines ++ more) new × (said_by 0 (lines ++ more) ≡ said_by 0 lines ++ told)
+
+-- of an input of which nothing has come nothing was taken; and what was told in one stretch and in the next is what was told
+-- in both
+pub record HearsOn : Type 0 where
+  pub first : (coming : Option (List ℕ)) → HasTaken [] [] (fresh coming)
+  pub takes : (old new : InputState) (taken : Next) → Takes old new taken → Hears old new (tells new taken)
+  pub fills : (old new : InputState) (more : Bool) → is_ended old.left ≡ false → Fills old new more → Hears old new []
+  pub fails : (old new : InputState) → is_ended old.left ≡ false → FailsToFill old new → Hears old new []
+  pub next : (old middle new : InputState) (told later : List Said) → Hears old middle told → Hears middle new later
+      → Hears old new (told ++ later)

@@ -3,7 +3,7 @@
 ghost use Rattle.std.specs.Prelude.{◌≡◌, ◌≤◌, ◌<◌, ◌+◌, ◌-◌, ◌==◌, false, true, if◌then◌else◌, length, take, [], IfOk, OnErr};
 ghost use Rattle.std.specs.Io.KnownBytes.{Consumes, IsAtEnd, Keeps};
 ghost use Rattle.memchr.specs.Find.{IsFirstByte, is_byte};
-ghost use Rattle.hy_hyper_input.specs.Inputs.{FailsToFill, Fills, Takes, between, is_ended, line_feed, number_behind};
+ghost use Rattle.hy_hyper_input.specs.Inputs.{FailsToFill, Fills, Takes, between, fresh, is_ended, line_feed, number_behind};
 
 use memchr::memchr;
 use std::alloc::{AllocError, Global};
@@ -70,7 +70,7 @@ fn end_of_line(room: &[u8], start: usize, end: usize) -> Option<usize>
 impl<R: Read + Drop> Input<R> {
     /// An input of which nothing has come. E1 where the room for a line finds no memory.
     pub fn new(alloc: Global, reader: R) -> Result<Input<R>, AllocError>
-        ensures { IfOk result (λ input. input ≡ record { number = 0; line = []; is_long = false; left = []; coming = R.remaining reader }) }
+        ensures { IfOk result (λ input. input ≡ fresh (R.remaining reader)) }
     {
         let room = Vec::from_elem(alloc, 0, MAX_LINE + 1)?;
         Ok(Input {

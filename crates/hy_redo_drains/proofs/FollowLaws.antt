@@ -54,7 +54,7 @@ handed-more batches log new more was are is =
     }
 
 -- a log that hasn't failed begins behind all that it was handed, and has acknowledged it
-not-failed : (batches : List Batch) (log : LogState) (was : WasHanded batches log) → log.has_failed ≡ false
+pub not-failed : (batches : List Batch) (log : LogState) (was : WasHanded batches log) → log.has_failed ≡ false
     → BeginsBehind batches log × (length was.front + acknowledged was.calls ≡ length batches)
 not-failed batches log was well =
     let all = none_lost was.front was.first was.calls was.begins was.are

@@ -1,5 +1,5 @@
 -- The text that answers an event, and what the event does.
-use Rattle.std.specs.Prelude.{◌≡◌, ◌⊎◌, ℕ, true, false, List, ◌++◌, Option, None, Some, MatchOption, IsSomeAnd, Result, Ok, Err, IsOk, codes, decimal, slice_get}
+use Rattle.std.specs.Prelude.{◌≡◌, ◌⊎◌, ℕ, true, false, List, ◌++◌, Option, None, Some, MatchOption, IsSomeAnd, Result, Ok, Err, IsOk, codes, decimal, length, slice_get}
 use Rattle.std.specs.List.{flat_map}
 use Rattle.hy_schema.specs.declared.refusal.Refusal.{Refusal}
 use Rattle.hy_schema.specs.declared.refusal.Refusal.TheVariants as refusals
@@ -55,6 +55,10 @@ count_text word number = word ++ codes " " ++ decimal number ++ codes "\n"
 -- behind how many commits the snapshot of a warehouse is
 abbrev pub commits_text : SnapshotState → List ℕ
 commits_text snapshot = codes " " ++ decimal snapshot.commits
+
+-- how many commits a warehouse has kept
+abbrev pub kept_text : PartitionState → List ℕ
+kept_text p = codes " " ++ decimal (length p.kept)
 
 abbrev pub snapshot_text : List ℕ → List SnapshotState → List ℕ
 snapshot_text name parts = codes "snapshot " ++ name ++ codes " commits" ++ flat_map commits_text parts ++ codes "\n"

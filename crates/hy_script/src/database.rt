@@ -1,6 +1,6 @@
 //! The database of a script: its partitions, and the snapshots that are open.
 
-ghost use Rattle.std.specs.Prelude.{◌≡◌, ℕ, suc, ◌+◌, ◌<◌, ◌≤◌, ◌++◌, ◌∷◌, [], true, All, IfErr, IfOk, IsSomeAnd, IsTrue, List, MatchOption, None, OnErr, OnOk, is_some, length, map, remove, slice_get};
+ghost use Rattle.std.specs.Prelude.{◌≡◌, ℕ, suc, ◌+◌, ◌<◌, ◌≤◌, ◌↔◌, ◌++◌, ◌∷◌, [], true, All, IfErr, IfOk, IsSomeAnd, IsTrue, List, MatchOption, None, OnErr, OnOk, is_some, length, map, remove, slice_get};
 ghost use mathlib.Core.List.{IsPrefix};
 ghost use Rattle.std.specs.List.{flat_map, range_with_len};
 ghost use Rattle.std.specs.Io.KnownBytes.{Appends};
@@ -14,7 +14,7 @@ ghost use Rattle.hy_batches.specs.Batches.{Batch as BatchState};
 ghost use Rattle.hy_session.specs.of_forks.Drains.{TellsHere, are_new, drained_of};
 ghost use Rattle.hy_session.specs.of_forks.Logged.{SaySame};
 ghost use Rattle.hy_session.specs.of_forks.Forks.{IsUnforked, IsUnforkedUntold, IsWhyUnforked};
-ghost use Rattle.hy_script.specs.Answers.{AnswersCheck, AnswersQuery, commits_text, snapshot_text};
+ghost use Rattle.hy_script.specs.Answers.{AnswersCheck, AnswersQuery, commits_text, kept_text, snapshot_text};
 ghost use Rattle.hy_script.specs.Databases.{HasName, IsAtRest, IsNameAt, OpenSnapshot, part_at};
 ghost use Rattle.hy_script.specs.Printed.{IsAsked, IsWritten};
 ghost use Rattle.hy_script.specs.Scripts.{StartsFrom};
@@ -135,6 +135,33 @@ impl<const N: usize, K: Loaded> Database<N, K> {
         ensures log { self.new.log ≡ self.old.log }
     {
         self.partitions.drain(alloc, &mut self.journal, cursor)
+    }
+
+    /// How many commits the serial list has.
+    pub fn commits(&self) -> u64
+        ensures { result ≡ length self.now.log }
+    {
+        self.journal.list.len()
+    }
+
+    /// Whether nothing was committed behind the place of a cursor, before which so many commits stand. Changes nothing.
+    pub fn is_drained(&mut self, cursor: &mut Cursor<Commit, K>, passed: u64) -> bool
+        requires { passed ≡ length cursor.old }
+        ensures drained { IsTrue result ↔ self.old.log ≡ cursor.old }
+        ensures same { self.new ≡ self.old }
+        ensures cursor { cursor.new ≡ cursor.old }
+    {
+        cursor.find(&mut self.journal);
+        self.journal.list.len() == passed
+    }
+
+    /// Writes how many commits each warehouse has kept.
+    pub fn write_kept<O: Output>(&self, out: &mut O) -> io::Result<()>
+        ensures written { OnOk result
+            (Appends (O.contents out.old) (O.contents out.new) (flat_map kept_text self.now.parts)) }
+        ensures failed { OnErr result (IsTrue (O.has_failed out.new)) }
+    {
+        write_kept(&self.partitions, out)
     }
 
     /// Asks something of the warehouse of a number, and writes the answer.
@@ -350,6 +377,22 @@ fn write_commits<const N: usize, O: Output>(parts: &[Snapshot<N>], out: &mut O) 
     for part in parts {
         let commits = part.commits();
         write!(out, " {commits}")?;
+    }
+    Ok(())
+}
+
+/// Writes how many commits each partition has kept.
+fn write_kept<const N: usize, K: Loaded, O: Output>(
+    partitions: &OwnPartitions<N, K>,
+    out: &mut O,
+) -> io::Result<()>
+    ensures written { OnOk result
+        (Appends (O.contents out.old) (O.contents out.new) (flat_map kept_text partitions.now)) }
+    ensures failed { OnErr result (IsTrue (O.has_failed out.new)) }
+{
+    for place in 0..partitions.len() {
+        let count = partitions.part(place).kept().len();
+        write!(out, " {count}")?;
     }
     Ok(())
 }

@@ -1,0 +1,10 @@
+-- Why a file beside a log isn't sure to have what it should.
+use Rattle.std.specs.Prelude.{⊤, ℕ, List}
+use Rattle.hy_files.specs.Files.{AddsPath, IsOutOfMemory, KnownPaths}
+use Rattle.hy_files_sums.specs.declared.beside.SumsFault.{SumsFault}
+use Rattle.hy_files_sums.specs.declared.beside.SumsFault.TheVariants as faults
+
+-- memory was refused, or the file system couldn't write the file and knows it; or a write or a sync has failed
+abbrev pub IsWhyUnsure : KnownPaths × KnownPaths → List ℕ → SumsFault → Type 0
+IsWhyUnsure unwritten path (faults.File error) = (IsOutOfMemory error → ⊥) → AddsPath unwritten.0 unwritten.1 path
+IsWhyUnsure unwritten path faults.Writer = ⊤
