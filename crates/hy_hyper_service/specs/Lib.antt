@@ -1,0 +1,5 @@
+pub mod Opening
+pub mod Keeping
+pub mod Rounds
+pub mod Endings
+pub mod WorkedRounds
