@@ -10,10 +10,10 @@ mod memory;
 mod memory_log;
 mod noted;
 
-pub use directory::{FileFault, FileName};
+pub use directory::{FileFault, FileName, read_files};
 pub use file_system::{FileSystem, SystemFiles, new_log};
 pub use held_file::{HeldFile, HeldLog, Lockable};
-pub use load::{read_load, write_load};
+pub use load::{load_of, read_load, write_load};
 pub use log_file::LogFile;
 pub use memory::MemoryFiles;
 pub use memory_log::MemoryLog;

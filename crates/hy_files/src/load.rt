@@ -34,7 +34,7 @@ pub fn read_load<F: FileSystem>(
 }
 
 /// The load that nine texts say.
-fn load_of(alloc: Global, texts: &[Vec<u8>]) -> Result<Load, Refusal>
+pub fn load_of(alloc: Global, texts: &[Vec<u8>]) -> Result<Load, Refusal>
     requires { length texts.now ≡ 9 }
     ensures { let read = map (λ text. text.items) texts.now in
         MatchResult result (λ load. SayLoad load read) (λ refusal. AreRefused refusal read) }
