@@ -1,20 +1,21 @@
--- Why a file beside a log isn't sure to have what it should.
-use Rattle.std.specs.Prelude.{◌≢◌, ⊤, ℕ, List}
-use Rattle.std.specs.IoError.{error_kind}
-use Rattle.std.specs.declared.io.ErrorKind.TheVariants.{NotFound}
-use Rattle.hy_files.specs.Files.{AddsPath, IsOutOfMemory, KnownPaths}
+-- What the file beside a log says of a load, and why it isn't written.
+use Rattle.std.specs.Prelude.{◌⊎◌, ⊤, ℕ, List, Option}
+pub use Rattle.std.specs.declared.io.ErrorKind.TheVariants.{NotFound}
+use Rattle.hy_files.specs.Files.{AddsPath, FilesByPath, HasFile, IsMissing, IsOutOfMemory, KnownPaths}
+use Rattle.hy_files_sums.specs.declared.beside.Found.{Found}
+use Rattle.hy_files_sums.specs.declared.beside.Found.TheVariants as found
 use Rattle.hy_files_sums.specs.declared.beside.SumsFault.{SumsFault}
 use Rattle.hy_files_sums.specs.declared.beside.SumsFault.TheVariants as faults
+use Rattle.hy_files_sums.specs.Sums.{Begins}
 
--- memory was refused, or the file system couldn't write the file and knows it; or a write or a sync has failed; or the file
--- couldn't be read, for another reason than that there is none
-abbrev pub IsWhyUnsure : KnownPaths × KnownPaths → List ℕ → SumsFault → Type 0
-IsWhyUnsure unwritten path (faults.File error) = (IsOutOfMemory error → ⊥) → AddsPath unwritten.0 unwritten.1 path
-IsWhyUnsure unwritten path faults.Writer = ⊤
-IsWhyUnsure unwritten path (faults.Unread error) = error_kind error ≢ NotFound
+-- the file has these digests; or it has what doesn't begin them; or there is none, or it has what begins them
+abbrev pub IsFound : Option FilesByPath → List ℕ → List ℕ → Found → Type 0
+IsFound files path sums found.Same = HasFile files path sums
+IsFound files path sums found.Other = (bytes : List ℕ) × HasFile files path bytes × (Begins bytes sums → ⊥)
+IsFound files path sums found.Nothing =
+    IsMissing files path ⊎ ((bytes : List ℕ) × HasFile files path bytes × Begins bytes sums)
 
--- where it can't be read, nothing has changed
-abbrev pub IsUnread : Type 0 → SumsFault → Type 0
-IsUnread unchanged (faults.File error) = ⊤
-IsUnread unchanged faults.Writer = ⊤
-IsUnread unchanged (faults.Unread error) = unchanged
+-- memory was refused, or the file system couldn't write the file and knows it; or a write or a sync has failed
+abbrev pub IsWhyUnwritten : KnownPaths × KnownPaths → List ℕ → SumsFault → Type 0
+IsWhyUnwritten unwritten path (faults.File error) = (IsOutOfMemory error → ⊥) → AddsPath unwritten.0 unwritten.1 path
+IsWhyUnwritten unwritten path faults.Writer = ⊤

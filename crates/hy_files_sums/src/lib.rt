@@ -4,5 +4,5 @@
 mod beside;
 mod sums;
 
-pub use beside::{SumsFault, keep_sums};
+pub use beside::{Found, SumsFault, find_sums, write_sums};
 pub use sums::sums_of;

@@ -1,5 +1,5 @@
 -- How rounds follow one another.
-use Rattle.std.proofs.Common.{◌≡◌, ℕ, ◌+◌, ◌-◌, ◌^◌, List, [], ◌∷◌, ◌++◌, length, refl, sym, ap, subst, ◌∙◌, append_assoc, append-nil, length-append}
+use Rattle.std.proofs.Common.{IfErr, IsErrAnd, Err, Ok, Result, ◌≡◌, ℕ, ◌+◌, ◌-◌, ◌^◌, List, [], ◌∷◌, ◌++◌, length, refl, sym, ap, subst, ◌∙◌, append_assoc, append-nil, length-append}
 use Rattle.std.proofs.lemmas.List.Concat.{flat_map-append}
 use Rattle.hy_rows.specs.Tables.{Lists}
 use Rattle.hy_hyper_input.specs.Inputs.{InputState}
@@ -99,3 +99,9 @@ module _ (page_size : ℕ) (lists : Lists) where
     heard = so_far.heard;
     over = IsOver.counted (so_far.counted ∙ all);
   }
+
+-- what a `?` hands on
+pub handed-on : {T E : Type 0} (answer : Result T E) (value : E) (P : E → Type 0)
+    → IsErrAnd answer (λ error. error ≡ value) → P value → IfErr answer P
+handed-on (Ok found) value P is holds = tt
+handed-on (Err error) value P is holds = subst P (sym is) holds

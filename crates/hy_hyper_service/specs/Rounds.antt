@@ -7,7 +7,7 @@ use Rattle.hy_redo.specs.Calls.{LogState}
 use Rattle.hy_redo_drains.specs.Following.{Follows}
 use Rattle.hy_script.specs.Answers.{kept_text}
 use Rattle.hy_script.specs.Databases.{DatabaseState}
-use Rattle.hy_hyper_input.specs.Inputs.{FailsToFill, InputState, is_ended}
+use Rattle.hy_hyper_input.specs.Inputs.{InputState, is_ended}
 use Rattle.hy_hyper_input.specs.Received.{Hears, Said}
 use Rattle.hy_hyper_answers.specs.declared.answers.Style.{Style}
 use Rattle.hy_hyper_answers.specs.Served.{HeldAnswers, Serves}
@@ -135,12 +135,11 @@ AreRounds page_size lists first (round ∷ later) last =
 abbrev pub said_in : List RoundState → List Said
 said_in rounds = flat_map (λ (round : RoundState). round.said) rounds
 
--- why no further round comes, behind so many: a line ended the service; the input is at its end, and no line is left; it couldn't
--- be read; or there were as many rounds as 64 bits can count
+-- why no further round comes, behind so many: a line ended the service; the input is at its end, and no line is left; or there
+-- were as many rounds as 64 bits can count
 pub data IsOver (end : RoundEnd) (count : ℕ) (input : InputState) : Type 0 where
   by_line : end ≡ ends.Quit → IsOver end count input
   at_end : end ≡ ends.Waits → is_ended input.left ≡ false → IsAtEnd input.coming → IsOver end count input
-  unread : end ≡ ends.Waits → (before : InputState) → FailsToFill before input → IsOver end count input
   counted : count ≡ 2 ^ 64 - 1 → IsOver end count input
 
 -- from one service to another all that an input says was served, round by round, up to its end or to the line that ends it

@@ -7,6 +7,7 @@ ghost use Rattle.hy_redo_drains.specs.of_forks.Logged.{SaySame};
 ghost use Rattle.hy_redo_drains.specs.Following.{Follows};
 ghost use Rattle.hy_hyper_service.specs.Keeping.{IsWhyUnkept, KeepsCommits, nothing_due};
 
+use crate::PAGE_BYTES;
 use hy_commands::Commit;
 use hy_passes::Cursor;
 use hy_redo::{Log, LogOut};
@@ -43,10 +44,10 @@ impl<W: LogOut, K: Loaded> Model for ServiceLog<W, K> {
 impl<W: LogOut, K: Loaded> ServiceLog<W, K> {
     /// A log to which goes what is committed behind the place of a cursor, at the end of the serial list of a database. It has to
     /// begin behind whole batches that say the same as that list.
-    pub fn new<const N: usize>(
+    pub fn new(
         log: Log<W>,
         cursor: Cursor<Commit, K>,
-        database: &Database<N, K>,
+        database: &Database<PAGE_BYTES, K>,
     ) -> ServiceLog<W, K>
         requires partitions { K.passes.partitions ≡ length K.load.tables.warehouses }
         requires end { cursor ≡ database.now.log }
@@ -81,10 +82,10 @@ impl<W: LogOut, K: Loaded> ServiceLog<W, K> {
 
     /// Writes what was committed since the last time as one batch and syncs it, which acknowledges it; where nothing was, nothing
     /// is written and nothing synced. Refused with E1, and then nothing was written, or with E14, and from then on always.
-    pub fn keep_commits<const N: usize>(
+    pub fn keep_commits(
         &mut self,
         alloc: Global,
-        database: &mut Database<N, K>,
+        database: &mut Database<PAGE_BYTES, K>,
     ) -> Result<(), Refusal>
         ensures kept { OnOk result (KeepsCommits K.load self.old self.new database.old database.new) }
         ensures refused { IfErr result (IsWhyUnkept K.load self.old self.new database.old database.new) }

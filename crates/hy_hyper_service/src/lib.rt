@@ -14,3 +14,6 @@ pub use lines::RoundEnd;
 pub use opening::open_database;
 pub use service::{Ended, Service, ServiceFault};
 pub use serving::serve_input;
+
+/// How many bytes a page of a service's database has.
+pub const PAGE_BYTES: usize = 4096;

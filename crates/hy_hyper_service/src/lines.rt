@@ -6,6 +6,7 @@ ghost use Rattle.hy_hyper_input.specs.Inputs.{is_ended};
 ghost use Rattle.hy_hyper_service.specs.declared.lines.RoundEnd.TheVariants as RoundEnd;
 ghost use Rattle.hy_hyper_service.specs.Rounds.{AnswersLines, quit_line};
 
+use crate::PAGE_BYTES;
 use hy_hyper_answers::Answers;
 use hy_hyper_input::{Input, Next};
 use hy_schema::Refusal;
@@ -40,14 +41,14 @@ fn is_quit(line: &[u8]) -> bool
 
 /// Does what the lines say that are there, one after another, and holds the answers: at most so many lines, and so many bytes of
 /// answers and one answer more. E1 where an answer finds no memory.
-pub(crate) fn answer_lines<const N: usize, K: Loaded, R: Read + Drop>(
+pub(crate) fn answer_lines<K: Loaded, R: Read + Drop>(
     alloc: Global,
-    database: &mut Database<N, K>,
+    database: &mut Database<PAGE_BYTES, K>,
     answers: &mut Answers,
     input: &mut Input<R>,
 ) -> Result<RoundEnd, Refusal>
     ensures answered { IfOk result
-        (AnswersLines N database.old database.new answers.old answers.new input.old input.new) }
+        (AnswersLines PAGE_BYTES database.old database.new answers.old answers.new input.old input.new) }
     ensures waits { result ≡ Ok RoundEnd.Waits → is_ended input.new.left ≡ false }
     ensures refused { IfErr result (λ why. why ≡ Refusal.NoMemory) }
 {

@@ -9,6 +9,7 @@ ghost use Rattle.hy_hyper_service.specs.declared.service.ServiceFault.TheVariant
 ghost use Rattle.hy_hyper_service.specs.Endings.{EndsParts, EndsRound};
 ghost use Rattle.hy_hyper_service.specs.Rounds.{IsSettled, PrintsKept, RunsParts, RunsRound, kept_line};
 
+use crate::PAGE_BYTES;
 use crate::keeping::ServiceLog;
 use crate::lines::{RoundEnd, answer_lines};
 use hy_hyper_answers::{Answers, Style};
@@ -29,6 +30,8 @@ pub enum ServiceFault {
     Refused(Refusal),
     /// The output has failed.
     Output(io::Error),
+    /// The input couldn't be read.
+    Input(io::Error),
 }
 
 impl From<Refusal> for ServiceFault {
@@ -52,15 +55,15 @@ pub struct Ended<W: LogOut, O> {
 
 /// A database, the log of what it commits, and the output that is told of it. All that the database has stands in batches of the
 /// log, each of which was acknowledged; and an output is only written to by a round that came so far.
-pub struct Service<const N: usize, K: Loaded, W: LogOut, O: Output> {
-    database: Database<N, K>,
+pub struct Service<K: Loaded, W: LogOut, O: Output> {
+    database: Database<PAGE_BYTES, K>,
     log: ServiceLog<W, K>,
     answers: Answers,
     out: O,
 }
 
 // Clauses see the database, the log, the style, and what the output has.
-impl<const N: usize, K: Loaded, W: LogOut, O: Output> Model for Service<N, K, W, O> {
+impl<K: Loaded, W: LogOut, O: Output> Model for Service<K, W, O> {
     ghost use Rattle.std.specs.Prelude.{◌≡◌, [], false};
     ghost use Rattle.hy_hyper_service.specs.Rounds.{ServiceState};
 
@@ -78,8 +81,8 @@ impl<const N: usize, K: Loaded, W: LogOut, O: Output> Model for Service<N, K, W,
 }
 
 /// Prints the answers that are held, and holds none any more. All that the database has has to stand in acknowledged batches.
-fn print_held<const N: usize, K: Loaded, W: LogOut, O: Output>(
-    _database: &Database<N, K>,
+fn print_held<K: Loaded, W: LogOut, O: Output>(
+    _database: &Database<PAGE_BYTES, K>,
     _log: &ServiceLog<W, K>,
     answers: &mut Answers,
     out: &mut O,
@@ -97,9 +100,9 @@ fn print_held<const N: usize, K: Loaded, W: LogOut, O: Output>(
 
 /// A round over the parts of a service: what the lines say that are there is done, what it committed is written and synced, and
 /// the answers are printed.
-fn run_round<const N: usize, K: Loaded, W: LogOut, O: Output, R: Read + Drop>(
+fn run_round<K: Loaded, W: LogOut, O: Output, R: Read + Drop>(
     alloc: Global,
-    database: &mut Database<N, K>,
+    database: &mut Database<PAGE_BYTES, K>,
     log: &mut ServiceLog<W, K>,
     answers: &mut Answers,
     out: &mut O,
@@ -108,13 +111,14 @@ fn run_round<const N: usize, K: Loaded, W: LogOut, O: Output, R: Read + Drop>(
     requires seen { log.old.seen ≡ database.old.log }
     requires well { log.old.log.has_failed ≡ false }
     requires none { answers.old.text ≡ [] }
-    ensures done { IfOk result (RunsParts N K.load (database.old, database.new) (log.old, log.new)
+    ensures done { IfOk result (RunsParts PAGE_BYTES K.load (database.old, database.new) (log.old, log.new)
         (answers.old, answers.new) (O.contents out.old, O.contents out.new) input.old input.new) }
     ensures settled { OnOk result (log.new.seen ≡ database.new.log) }
     ensures well { OnOk result (log.new.log.has_failed ≡ false) }
     ensures none { OnOk result (answers.new.text ≡ []) }
     ensures waits { result ≡ Ok RoundEnd.Waits → is_ended input.new.left ≡ false }
-    ensures ended { IfErr result (EndsParts K.load log.old log.new (out.new ≡ out.old) (O.has_failed out.new)) }
+    ensures ended { IfErr result (EndsParts PAGE_BYTES K.load answers.old.style database.old (input.old, input.new) log.old log.new
+        (out.new ≡ out.old) (O.has_failed out.new)) }
 {
     let end = answer_lines(alloc, database, answers, input)?;
     if let Err(refusal) = log.keep_commits(alloc, database) {
@@ -127,8 +131,8 @@ fn run_round<const N: usize, K: Loaded, W: LogOut, O: Output, R: Read + Drop>(
 }
 
 /// Prints a word, and behind it how many commits each warehouse has kept.
-fn print_kept<const N: usize, K: Loaded, O: Output>(
-    database: &Database<N, K>,
+fn print_kept<K: Loaded, O: Output>(
+    database: &Database<PAGE_BYTES, K>,
     word: &[u8],
     out: &mut O,
 ) -> io::Result<()>
@@ -141,15 +145,15 @@ fn print_kept<const N: usize, K: Loaded, O: Output>(
     out.write_all(b"\n")
 }
 
-impl<const N: usize, K: Loaded, W: LogOut, O: Output> Service<N, K, W, O> {
+impl<K: Loaded, W: LogOut, O: Output> Service<K, W, O> {
     /// A service of a database whose serial list the log has. Takes no memory.
     pub fn new(
         alloc: Global,
-        database: Database<N, K>,
+        database: Database<PAGE_BYTES, K>,
         log: ServiceLog<W, K>,
         style: Style,
         out: O,
-    ) -> Service<N, K, W, O>
+    ) -> Service<K, W, O>
         requires seen { log.seen ≡ database.log }
         requires well { log.log.has_failed ≡ false }
         ensures { result ≡ record { database = database; log = log.log; style = style; out = O.contents out } }
@@ -177,11 +181,12 @@ impl<const N: usize, K: Loaded, W: LogOut, O: Output> Service<N, K, W, O> {
         self,
         alloc: Global,
         input: &mut Input<R>,
-    ) -> Result<(Service<N, K, W, O>, RoundEnd), Ended<W, O>>
-        ensures went { IfOk result (λ went. RunsRound N K.load self went.0 input.old input.new went.1) }
+    ) -> Result<(Service<K, W, O>, RoundEnd), Ended<W, O>>
+        ensures went { IfOk result (λ went. RunsRound PAGE_BYTES K.load self went.0 input.old input.new went.1) }
         ensures waits { IfOk result (λ went. went.1 ≡ RoundEnd.Waits → is_ended input.new.left ≡ false) }
         ensures ended { IfErr result
-            (λ ended. EndsRound K.load self ended.log (O.contents ended.out) (O.has_failed ended.out) ended.why) }
+            (λ ended. EndsRound PAGE_BYTES K.load self input.old input.new ended.log (O.contents ended.out)
+            (O.has_failed ended.out) ended.why) }
     {
         let Service {
             mut database,
@@ -215,7 +220,7 @@ impl<const N: usize, K: Loaded, W: LogOut, O: Output> Service<N, K, W, O> {
     }
 
     /// Prints a word, and behind it how many commits each warehouse has kept.
-    pub fn tell_kept(self, word: &[u8]) -> Result<Service<N, K, W, O>, Ended<W, O>>
+    pub fn tell_kept(self, word: &[u8]) -> Result<Service<K, W, O>, Ended<W, O>>
         ensures told { IfOk result (PrintsKept word.now self) }
         ensures ended { IfErr result (λ ended. (ended.log ≡ self.log) × IsTrue (O.has_failed ended.out)
             × ((error : Error) × (ended.why ≡ faults.Output error))) }
@@ -240,6 +245,17 @@ impl<const N: usize, K: Loaded, W: LogOut, O: Output> Service<N, K, W, O> {
                 Err(Ended { log, out, why })
             }
         }
+    }
+
+    /// Ends the service because its input couldn't be read.
+    pub fn end_unread(self, error: io::Error) -> Ended<W, O>
+        ensures log { result.log ≡ self.log }
+        ensures out { O.contents result.out ≡ self.out }
+        ensures why { result.why ≡ faults.Input error }
+    {
+        let (log, out) = self.end();
+        let why = ServiceFault::Input(error);
+        Ended { log, out, why }
     }
 
     /// Ends the service: snapshots that are open are closed, and what runs half-done is gone, as no commit is. Its log and its

@@ -1,5 +1,6 @@
 -- A round of the service's parts is one of the service.
 use Rattle.std.proofs.Common.{◌≡◌, Ok, ap, subst, sym}
+use Rattle.hy_hyper_input.specs.Inputs.{InputState}
 use Rattle.hy_hyper_service.specs.Endings.{EndsParts}
 use Rattle.hy_hyper_service.specs.Keeping.{LoggedState}
 use Rattle.hy_hyper_service.specs.Rounds.{RunsRound, ServiceState, logged}
@@ -16,9 +17,9 @@ returns-in-Ok-clause-went g c =
       style = new.answers.style;
       out = g.O.Output.contents new.out;
     } in
-    subst (λ (old : ServiceState). RunsRound g.row.N g.K.Loaded.load old next c.args.input.now new.input c.in-Ok.end)
+    subst (λ (old : ServiceState). RunsRound 4_096 g.K.Loaded.load old next c.args.input.now new.input c.in-Ok.end)
     c.self.view_is
-    (round-of g.row.N g.K.Loaded.load parts.database new.database parts.log new.log parts.answers new.answers
+    (round-of 4_096 g.K.Loaded.load parts.database new.database parts.log new.log parts.answers new.answers
     (g.O.Output.contents parts.out) (g.O.Output.contents new.out) c.args.input.now new.input c.in-Ok.end
     c.self.invariant.0 c.in-Ok.ensures.settled c.in-Ok.ensures.done)
 
@@ -29,6 +30,7 @@ pub returns-in-Err-clause-ended : goal.returns-in-Err-clause-ended
 returns-in-Err-clause-ended g c =
     let parts = c.self.inside in
     let new = c.run_round.new in
+    let inputs : InputState × InputState = (c.args.input.now, new.input) in
     let old : ServiceState = record {
       database = parts.database;
       log = parts.log.log;
@@ -36,13 +38,14 @@ returns-in-Err-clause-ended g c =
       out = g.O.Output.contents parts.out;
     } in
     subst (λ (old : ServiceState). (x : LoggedState) × (x.log ≡ c.into_log-log.result)
-    × EndsParts g.K.Loaded.load (logged old) x (g.O.Output.contents new.out ≡ old.out) (g.O.Output.has_failed new.out)
-    c.in-Err.why) c.self.view_is (
+    × EndsParts 4_096 g.K.Loaded.load old.style old.database inputs (logged old) x (g.O.Output.contents new.out ≡ old.out)
+    (g.O.Output.has_failed new.out) c.in-Err.why) c.self.view_is (
       new.log,
       sym c.into_log-log.ensures,
-      ends-by g.K.Loaded.load (logged old) new.log (new.out ≡ parts.out) (g.O.Output.contents new.out ≡ old.out) (g.O.Output.has_failed new.out) c.in-Err.why
+      ends-by 4_096 g.K.Loaded.load old.style old.database inputs (logged old) new.log (new.out ≡ parts.out)
+          (g.O.Output.contents new.out ≡ old.out) (g.O.Output.has_failed new.out) c.in-Err.why
           (λ same. ap g.O.Output.contents same)
-          (subst (λ seen. EndsParts g.K.Loaded.load (record { log = parts.log.log; seen = seen }) new.log
-          (new.out ≡ parts.out)
+          (subst (λ seen. EndsParts 4_096 g.K.Loaded.load parts.answers.style parts.database inputs
+          (record { log = parts.log.log; seen = seen }) new.log (new.out ≡ parts.out)
           (g.O.Output.has_failed new.out) c.in-Err.why) c.self.invariant.0 c.in-Err.ensures.ended),
     )

@@ -1,0 +1,5 @@
+pub mod FilesLaws
+pub mod ReadLaws
+pub mod BeginLaws
+pub mod HeldLaws
+pub mod EndLaws

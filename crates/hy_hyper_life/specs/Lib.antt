@@ -1,0 +1,5 @@
+pub mod Reading
+pub mod Faults
+pub mod Lives
+pub mod Served
+pub mod WorkedFiles
