@@ -1,13 +1,15 @@
--- What is read of a text that spells a number.
-use Rattle.std.proofs.Common.{◌≡◌, ◌∙◌, ℕ, Option, Some, None, Result, unwrap_or, IfSome, ap, arith, refl, subst, sym}
+-- What is read of a text that spells a number, and of a flag.
+use Rattle.std.proofs.Common.{◌≡◌, ◌∙◌, ℕ, Bool, true, false, Option, Some, None, Result, unwrap_or, IfSome, ap, arith, codes, inl, inr, refl, subst, sym}
 use Rattle.std.specs.Prelude.{IsSomeAnd, MatchOption}
 use Rattle.std.specs.Str.Parse.{ParsesUnsigned, ExplainsUnsignedError, HasUnsignedDigitsIfOk}
 use Rattle.std.specs.declared.num.ParseIntError.{ParseIntError}
 use Rattle.clap.specs.Words.{IsUnsignedIn, Text, one_of, one_text, rows_of}
 use Rattle.clap.specs.Matches.{ReadsOne}
+use Rattle.clap.specs.Values.{bool_text}
 use Rattle.clap.specs.declared.parser.matches.Found.{Found}
 use Rattle.clap.proofs.WalkLemmas.{one_text-rows}
-use Rattle.hy_cli.specs.CommandLine.{IsIn, IsNumber, SaysNumber, SaysNumberOr, Spells}
+use Rattle.hy_cli.specs.CommandLine.{IsIn, IsNumber, SaysFlag, SaysNumber, SaysNumberOr, Spells}
+use Rattle.hy_cli.specs.inside.Given.{IsTruth}
 
 -- what reading a text as a number of 64 bits gives
 abbrev pub Reads : Text → Result ℕ ParseIntError → Type 0
@@ -77,3 +79,17 @@ is_number_there low high (Some text) within = (within.0, within.1, omega arith, 
 pub number_within : (o : Option Text) (number low high : ℕ) → IsSomeAnd o (Spells number) → IsSomeAnd o (IsUnsignedIn low high) → IsIn low high number
 number_within None number low high is within = absurd is
 number_within (Some text) number low high is within = (omega (arith, is.1, within.2), omega (arith, is.1, within.3))
+
+-- what is read of a flag
+pub flag_read : (found : Found) (name : Text) (is_given : Bool) → (one_text found name ≡ None → is_given ≡ false)
+    → (one_text found name ≡ Some (codes "true") → is_given ≡ true) → (one_text found name ≡ Some (codes "false") → is_given ≡ false)
+    → IfSome (one_of name (rows_of found)) IsTruth → SaysFlag name (rows_of found) is_given
+flag_read found name is_given none is-true is-false is =
+    let same = one_text-rows found name in
+    at (one_of name (rows_of found)) (λ e. none (same ∙ e)) (λ e. is-true (same ∙ e)) (λ e. is-false (same ∙ e)) is
+  where
+    at : (o : Option Text) → (o ≡ None → is_given ≡ false) → (o ≡ Some (codes "true") → is_given ≡ true) → (o ≡ Some (codes "false") → is_given ≡ false)
+        → IfSome o IsTruth → MatchOption o (is_given ≡ false) (λ text. text ≡ bool_text is_given)
+    at None none is-true is-false is = none refl
+    at (Some text) none is-true is-false (inl e) = rw (is-true (ap (λ (t : Text). Some t) e)) e
+    at (Some text) none is-true is-false (inr e) = rw (is-false (ap (λ (t : Text). Some t) e)) e

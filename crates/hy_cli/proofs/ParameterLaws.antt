@@ -1,6 +1,6 @@
 -- Where the parser takes the words, what is given to a command has what its parameters want.
-use Rattle.std.proofs.Common.{◌≡◌, ◌==◌, ℕ, Bool, true, false, not, ◌&&◌, ◌||◌, cond, List, [], ◌∷◌, ◌++◌, map, length, Option, Some, None, Result, Ok, Err, IfOk, inl, inr, refl, sym, subst}
-use Rattle.std.specs.Prelude.{IfSome, IsSome, IsSomeAnd, ⊤, find, option_map, slice_get}
+use Rattle.std.proofs.Common.{◌≡◌, ◌==◌, ℕ, suc, Bool, true, false, not, ◌&&◌, ◌||◌, cond, List, [], ◌∷◌, ◌++◌, map, length, Option, Some, None, Result, Ok, Err, IfOk, arith, inl, inr, refl, sym, subst}
+use Rattle.std.specs.Prelude.{IfSome, IsSome, IsSomeAnd, ⊤, codes, find, option_map, slice_get}
 use Rattle.std.specs.List.{list_all, list_any}
 use Rattle.std.specs.Option.{option_and_then, option_map_or}
 use Rattle.std.specs.Str.{bytes_eq}
@@ -13,46 +13,68 @@ use Rattle.clap.specs.Simple.{Shape, built, built_leaf, entered, filled, filled_
 use Rattle.clap.specs.Takes.{is_given}
 use Rattle.clap.specs.Words.{IsUnsignedIn}
 use Rattle.std.proofs.lemmas.Bool.{eqb-true}
+use Rattle.std.proofs.lemmas.Slice.Eq.{bytes_eq-Decides}
 use Rattle.clap.specs.Values.{read_as, refused_kind}
-use Rattle.clap.specs.Walk.{Row, Rule, Text, answers_to, at_row, more_values, nothing_held, row_text, rows_after, settled, values_or_missing, walk, walk_from, with_values, without}
+use Rattle.clap.specs.Walk.{Row, Rule, Text, answers_to, at_row, has_row, more_values, nothing_held, row_text, rows_after, settled, values_or_missing, walk, walk_from, with_default, with_values, without}
+use Rattle.clap.specs.declared.error.kind.ErrorKind.TheVariants as kind
 use Rattle.clap.specs.declared.builder.value_parser.Reading.{Reading}
 use Rattle.clap.specs.declared.builder.value_parser.Reading.TheVariants as reading
 use Rattle.clap.specs.declared.builder.value_parser.ValueParser.{ValueParser}
 use Rattle.clap.specs.declared.builder.value_parser.ValueParser.TheVariants as parser
 use Rattle.clap.specs.declared.parser.matches.ArgMatches.{ArgMatches}
 use Rattle.clap.specs.declared.parser.matches.ValueSource.{ValueSource}
-use Rattle.clap.specs.declared.parser.matches.ValueSource.TheVariants.{CommandLine}
-use Rattle.hy_cli.specs.CommandLine.{AreTaken, IsNumber, Parameter, command_of, commands, program_app, rule_for}
-use Rattle.hy_cli.specs.CommandLine.{required_text, optional_text, required_number, optional_number, bounded_number, required_within}
-use Rattle.hy_cli.specs.inside.Given.{AreGiven, IsGiven, IsKnown, IsOneOf}
-use Rattle.hy_cli.proofs.WalkLaws.{Each, Keeps, either, rows_taken}
+use Rattle.clap.specs.declared.parser.matches.ValueSource.TheVariants.{CommandLine, DefaultValue}
+use Rattle.hy_cli.specs.CommandLine.{AreTaken, IsNumber, Parameter, command_of, commands, flag_rule, program_app, rule_for}
+use Rattle.hy_cli.specs.CommandLine.{required_text, optional_text, named_text, required_number, optional_number}
+use Rattle.hy_cli.specs.CommandLine.{bounded_number, required_within, flag}
+use Rattle.hy_cli.specs.inside.Given.{AreGiven, IsGiven, IsKnown, IsOneOf, IsTruth}
+use Rattle.hy_cli.proofs.WalkLaws.{Each, Keeps, KeepsDefault, default-none, either, rows_taken}
 
 -- ---- one parameter
 
 abbrev name_of : Parameter → Text
 name_of (required_text name) = name
 name_of (optional_text name) = name
+name_of (named_text name) = name
 name_of (required_number name) = name
 name_of (optional_number name) = name
 name_of (bounded_number low high name) = name
 name_of (required_within low high name) = name
+name_of (flag name) = name
+
+-- what a text is tested for: nothing, a number within bounds, or the word of a truth value
+data Test : Type 0 where
+  any : Test
+  within : ℕ → ℕ → Test
+  truth : Test
+
+abbrev test_of : Parameter → Test
+test_of (required_text name) = any
+test_of (optional_text name) = any
+test_of (named_text name) = any
+test_of (required_number name) = within 0 18446744073709551615
+test_of (optional_number name) = within 0 18446744073709551615
+test_of (bounded_number low high name) = within low high
+test_of (required_within low high name) = within low high
+test_of (flag name) = truth
+
+abbrev parser_by : Test → ValueParser
+parser_by any = parser.String
+parser_by (within low high) = parser.Unsigned low high
+parser_by truth = parser.Bool
 
 abbrev parser_for : Parameter → ValueParser
-parser_for (required_text name) = parser.String
-parser_for (optional_text name) = parser.String
-parser_for (required_number name) = parser.Unsigned 0 18446744073709551615
-parser_for (optional_number name) = parser.Unsigned 0 18446744073709551615
-parser_for (bounded_number low high name) = parser.Unsigned low high
-parser_for (required_within low high name) = parser.Unsigned low high
+parser_for p = parser_by (test_of p)
+
+-- what a text has that passes
+abbrev Passes : Test → Text → Type 0
+Passes any text = ⊤
+Passes (within low high) text = IsUnsignedIn low high text
+Passes truth text = IsTruth text
 
 -- what a text has that its parser takes
 abbrev Fits : Parameter → Text → Type 0
-Fits (required_text name) text = ⊤
-Fits (optional_text name) text = ⊤
-Fits (required_number name) text = IsNumber text
-Fits (optional_number name) text = IsNumber text
-Fits (bounded_number low high name) text = IsUnsignedIn low high text
-Fits (required_within low high name) text = IsUnsignedIn low high text
+Fits p = Passes (test_of p)
 
 accepted : (p : ValueParser) (text : Text) → value_kinds false p text ≡ [] → accepts false p text ≡ true
 accepted p text none = at (accepts false p text) none
@@ -60,6 +82,16 @@ accepted p text none = at (accepts false p text) none
     at : (taken : Bool) → cond taken [] (refused_kind p ∷ []) ≡ [] → taken ≡ true
     at true none = refl
     at false none = absurd (cc)
+
+-- a flag takes no value
+no-value : (more : ℕ) → range_kinds 0 0 (suc more) ≡ [] → ⊥
+no-value more none = at (0 == suc more) (eqb-true 0 (suc more)) none
+  where
+    at : (same : Bool) → (same ≡ true → 0 ≡ suc more) → cond same [] (kind.WrongNumberOfValues ∷ []) ≡ [] → ⊥
+    at true is none =
+        let bad : 0 ≡ suc more = is refl in
+        absurd (omega (arith, bad))
+    at false is none = absurd (cc)
 
 -- ---- the row of a name
 
@@ -127,62 +159,83 @@ module _ (name : Text) (Q : Text → Type 0) where
       let first = either (value_kinds false p text) _ set.1 in
       rows-with id reading.AsWritten CommandLine (text ∷ rest) (without id rows) (λ same. (refl, fits same text (accepted p text first.0))) (rows-without id rows had)
 
+  -- one use of a flag, and a flag that isn't used
+  flag-keeps : (id : Text) (again : Bool) (values : List Text) (rows : List Row)
+      → (bytes_eq id name ≡ true → (text : Text) → accepts false parser.Bool text ≡ true → Q text)
+      → or_else (range_kinds 0 0 (length values)) (or_else (repeat_fault again id rows) (values_kinds false parser.Bool (values_or_missing (filled (flag_rule id)) values))) ≡ []
+      → Rows rows → Rows (with_values id reading.AsWritten CommandLine (values_or_missing (filled (flag_rule id)) values) (without id rows))
+  flag-keeps id again [] rows fits none had =
+      rows-with id reading.AsWritten CommandLine (codes "true" ∷ []) (without id rows) (λ same. (refl, fits same (codes "true") refl)) (rows-without id rows had)
+  flag-keeps id again (text ∷ rest) rows fits none had = absurd (no-value (length rest) (either (range_kinds 0 0 (suc (length rest))) _ none).0)
+
+  flag-default : (id : Text) (rows : List Row) → (bytes_eq id name ≡ true → (text : Text) → accepts false parser.Bool text ≡ true → Q text) → Rows rows
+      → Rows (with_default rows (filled (flag_rule id)))
+  flag-default id rows fits had = at (has_row id rows)
+    where
+      at : (has : Bool) → Rows (cond has rows (with_values id reading.AsWritten DefaultValue (codes "false" ∷ []) rows))
+      at true = had
+      at false = rows-with id reading.AsWritten DefaultValue (codes "false" ∷ []) rows (λ same. (refl, fits same (codes "false") refl)) had
+
   -- a text that a parameter of this name takes is one of those
   abbrev Agrees : Parameter → Type 0
   Agrees q = bytes_eq (name_of q) name ≡ true → (text : Text) → accepts false (parser_for q) text ≡ true → Q text
 
-  parameter-keeps : (q : Parameter) (place : ℕ) → Agrees q → Keeps Rows (with_index place (filled (rule_for q))) × ((with_index place (filled (rule_for q))).defaults ≡ [])
-  parameter-keeps (required_text id) place fits =
-      (λ again values rows none had. set-keeps id parser.String (filled (rule_for (required_text id))) again values rows fits none had, refl)
-  parameter-keeps (optional_text id) place fits =
-      (λ again values rows none had. set-keeps id parser.String (filled (rule_for (optional_text id))) again values rows fits none had, refl)
-  parameter-keeps (required_number id) place fits =
-      (λ again values rows none had. set-keeps id (parser_for (required_number id)) (filled (rule_for (required_number id))) again values rows fits none had, refl)
-  parameter-keeps (optional_number id) place fits =
-      (λ again values rows none had. set-keeps id (parser_for (required_number id)) (filled (rule_for (optional_number id))) again values rows fits none had, refl)
-  parameter-keeps (bounded_number low high id) place fits =
-      (λ again values rows none had. set-keeps id (parser.Unsigned low high) (filled (rule_for (bounded_number low high id))) again values rows fits none had, refl)
-  parameter-keeps (required_within low high id) place fits =
-      (λ again values rows none had. set-keeps id (parser.Unsigned low high) (filled (rule_for (required_within low high id))) again values rows fits none had, refl)
+  parameter-keeps : (q : Parameter) (place : ℕ) → Agrees q
+      → Keeps Rows (with_index place (filled (rule_for q))) × KeepsDefault Rows (with_index place (filled (rule_for q)))
+  parameter-keeps (required_text id) place fits = (
+    λ again values rows none had. set-keeps id parser.String (filled (rule_for (required_text id))) again values rows fits none had,
+    default-none Rows (with_index place (filled (rule_for (required_text id)))) refl,
+  )
+  parameter-keeps (optional_text id) place fits = (
+    λ again values rows none had. set-keeps id parser.String (filled (rule_for (optional_text id))) again values rows fits none had,
+    default-none Rows (with_index place (filled (rule_for (optional_text id)))) refl,
+  )
+  parameter-keeps (named_text id) place fits = (
+    λ again values rows none had. set-keeps id parser.String (filled (rule_for (named_text id))) again values rows fits none had,
+    default-none Rows (with_index place (filled (rule_for (named_text id)))) refl,
+  )
+  parameter-keeps (required_number id) place fits = (
+    λ again values rows none had. set-keeps id (parser_for (required_number id)) (filled (rule_for (required_number id))) again values rows fits none had,
+    default-none Rows (with_index place (filled (rule_for (required_number id)))) refl,
+  )
+  parameter-keeps (optional_number id) place fits = (
+    λ again values rows none had. set-keeps id (parser_for (required_number id)) (filled (rule_for (optional_number id))) again values rows fits none had,
+    default-none Rows (with_index place (filled (rule_for (optional_number id)))) refl,
+  )
+  parameter-keeps (bounded_number low high id) place fits = (
+    λ again values rows none had. set-keeps id (parser.Unsigned low high) (filled (rule_for (bounded_number low high id))) again values rows fits none had,
+    default-none Rows (with_index place (filled (rule_for (bounded_number low high id)))) refl,
+  )
+  parameter-keeps (required_within low high id) place fits = (
+    λ again values rows none had. set-keeps id (parser.Unsigned low high) (filled (rule_for (required_within low high id))) again values rows fits none had,
+    default-none Rows (with_index place (filled (rule_for (required_within low high id)))) refl,
+  )
+  parameter-keeps (flag id) place fits =
+      (λ again values rows none had. flag-keeps id again values rows fits none had, λ rows had. flag-default id rows fits had)
 
   abbrev AllAgree : List Parameter → Type 0
   AllAgree [] = ⊤
   AllAgree (q ∷ rest) = Agrees q × AllAgree rest
 
   rules-keep : (parameters : List Parameter) (place : ℕ) → AllAgree parameters → Each Rows (filled_from place (map rule_for parameters ++ help_rule ∷ []))
-  rules-keep [] place agree = ((λ again values rows none had. had, refl), tt)
+  rules-keep [] place agree = ((λ again values rows none had. had, default-none Rows (with_index place (filled help_rule)) refl), tt)
   rules-keep (q ∷ rest) place agree = (parameter-keeps q place agree.0, rules-keep rest (index_after place (rule_for q)) agree.1)
 
 -- ---- the parameters of a command
 
+-- a text that passes the second passes the first
+abbrev is_as : Test → Test → Bool
+is_as any other = true
+is_as (within low high) any = false
+is_as (within low high) (within least most) = least == low && most == high
+is_as (within low high) truth = false
+is_as truth any = false
+is_as truth (within least most) = false
+is_as truth truth = true
+
 -- a parameter `q` tests its texts as `p` does, or has another name
 abbrev agrees : Parameter → Parameter → Bool
-agrees (required_text name) q = true
-agrees (optional_text name) q = true
-agrees (required_number name) (required_text other) = not (bytes_eq other name)
-agrees (required_number name) (optional_text other) = not (bytes_eq other name)
-agrees (required_number name) (bounded_number low high other) = not (bytes_eq other name)
-agrees (required_number name) (required_within low high other) = not (bytes_eq other name)
-agrees (required_number name) q = true
-agrees (optional_number name) (required_text other) = not (bytes_eq other name)
-agrees (optional_number name) (optional_text other) = not (bytes_eq other name)
-agrees (optional_number name) (bounded_number low high other) = not (bytes_eq other name)
-agrees (optional_number name) (required_within low high other) = not (bytes_eq other name)
-agrees (optional_number name) q = true
-agrees (bounded_number low high name) (bounded_number least most other) =
-    not (bytes_eq other name) || (least == low && most == high)
-agrees (bounded_number low high name) (required_text other) = not (bytes_eq other name)
-agrees (bounded_number low high name) (optional_text other) = not (bytes_eq other name)
-agrees (bounded_number low high name) (required_number other) = not (bytes_eq other name)
-agrees (bounded_number low high name) (optional_number other) = not (bytes_eq other name)
-agrees (bounded_number low high name) (required_within least most other) = not (bytes_eq other name)
-agrees (required_within low high name) (required_within least most other) =
-    not (bytes_eq other name) || (least == low && most == high)
-agrees (required_within low high name) (required_text other) = not (bytes_eq other name)
-agrees (required_within low high name) (optional_text other) = not (bytes_eq other name)
-agrees (required_within low high name) (required_number other) = not (bytes_eq other name)
-agrees (required_within low high name) (optional_number other) = not (bytes_eq other name)
-agrees (required_within low high name) (bounded_number least most other) = not (bytes_eq other name)
+agrees p q = not (bytes_eq (name_of q) (name_of p)) || is_as (test_of p) (test_of q)
 
 -- parameters of one name are of one kind
 abbrev are_apart : List Parameter → List Parameter → Bool
@@ -192,45 +245,31 @@ both : (a b : Bool) → (a && b) ≡ true → (a ≡ true) × (b ≡ true)
 both true b passed = (refl, passed)
 both false b passed = absurd (cc)
 
+is-truth : (text : Text) → (bytes_eq text (codes "true") || bytes_eq text (codes "false")) ≡ true → IsTruth text
+is-truth text taken = at (bytes_eq text (codes "true")) (bytes_eq-Decides text (codes "true")).0 taken
+  where
+    at : (yes : Bool) → (yes ≡ true → text ≡ codes "true") → (yes || bytes_eq text (codes "false")) ≡ true → IsTruth text
+    at true is taken = inl (is refl)
+    at false is taken = inr ((bytes_eq-Decides text (codes "false")).0 taken)
+
+passes : (p q : Test) → is_as p q ≡ true → (text : Text) → accepts false (parser_by q) text ≡ true → Passes p text
+passes any q same text taken = tt
+passes (within low high) any same text taken = absurd (cc)
+passes (within low high) (within least most) same text taken =
+    let parts = both (least == low) (most == high) same in
+    let least_is = eqb-true least low parts.0 in
+    let most_is = eqb-true most high parts.1 in
+    subst (λ (it : ℕ). IsUnsignedIn it high text) least_is (subst (λ (it : ℕ). IsUnsignedIn least it text) most_is
+    (accepts-Accepts false (parser.Unsigned least most) text taken))
+passes (within low high) truth same text taken = absurd (cc)
+passes truth any same text taken = absurd (cc)
+passes truth (within least most) same text taken = absurd (cc)
+passes truth truth same text taken = is-truth text taken
+
 one-agrees : (p q : Parameter) → agrees p q ≡ true → Agrees (name_of p) (Fits p) q
-one-agrees (required_text name) q apart same text taken = tt
-one-agrees (optional_text name) q apart same text taken = tt
-one-agrees (required_number name) (required_text other) apart same text taken = let bad : false ≡ true = rw same at apart in absurd (cc)
-one-agrees (required_number name) (optional_text other) apart same text taken = let bad : false ≡ true = rw same at apart in absurd (cc)
-one-agrees (required_number name) (required_number other) apart same text taken = accepts-Accepts false (parser.Unsigned 0 18446744073709551615) text taken
-one-agrees (required_number name) (optional_number other) apart same text taken = accepts-Accepts false (parser.Unsigned 0 18446744073709551615) text taken
-one-agrees (required_number name) (bounded_number low high other) apart same text taken = let bad : false ≡ true = rw same at apart in absurd (cc)
-one-agrees (optional_number name) (bounded_number low high other) apart same text taken = let bad : false ≡ true = rw same at apart in absurd (cc)
-one-agrees (required_number name) (required_within low high other) apart same text taken = let bad : false ≡ true = rw same at apart in absurd (cc)
-one-agrees (optional_number name) (required_within low high other) apart same text taken = let bad : false ≡ true = rw same at apart in absurd (cc)
-one-agrees (bounded_number low high name) (required_within least most other) apart same text taken = let bad : false ≡ true = rw same at apart in absurd (cc)
-one-agrees (required_within low high name) (required_text other) apart same text taken = let bad : false ≡ true = rw same at apart in absurd (cc)
-one-agrees (required_within low high name) (optional_text other) apart same text taken = let bad : false ≡ true = rw same at apart in absurd (cc)
-one-agrees (required_within low high name) (required_number other) apart same text taken = let bad : false ≡ true = rw same at apart in absurd (cc)
-one-agrees (required_within low high name) (optional_number other) apart same text taken = let bad : false ≡ true = rw same at apart in absurd (cc)
-one-agrees (required_within low high name) (bounded_number least most other) apart same text taken = let bad : false ≡ true = rw same at apart in absurd (cc)
-one-agrees (required_within low high name) (required_within least most other) apart same text taken =
-    let equal : (least == low && most == high) ≡ true = rw same at apart in
-    let parts = both (least == low) (most == high) equal in
-    let least_is = eqb-true least low parts.0 in
-    let most_is = eqb-true most high parts.1 in
-    subst (λ (it : ℕ). IsUnsignedIn it high text) least_is (subst (λ (it : ℕ). IsUnsignedIn least it text) most_is
-    (accepts-Accepts false (parser.Unsigned least most) text taken))
-one-agrees (bounded_number low high name) (required_text other) apart same text taken = let bad : false ≡ true = rw same at apart in absurd (cc)
-one-agrees (bounded_number low high name) (optional_text other) apart same text taken = let bad : false ≡ true = rw same at apart in absurd (cc)
-one-agrees (bounded_number low high name) (required_number other) apart same text taken = let bad : false ≡ true = rw same at apart in absurd (cc)
-one-agrees (bounded_number low high name) (optional_number other) apart same text taken = let bad : false ≡ true = rw same at apart in absurd (cc)
-one-agrees (bounded_number low high name) (bounded_number least most other) apart same text taken =
-    let equal : (least == low && most == high) ≡ true = rw same at apart in
-    let parts = both (least == low) (most == high) equal in
-    let least_is = eqb-true least low parts.0 in
-    let most_is = eqb-true most high parts.1 in
-    subst (λ (it : ℕ). IsUnsignedIn it high text) least_is (subst (λ (it : ℕ). IsUnsignedIn least it text) most_is
-    (accepts-Accepts false (parser.Unsigned least most) text taken))
-one-agrees (optional_number name) (required_text other) apart same text taken = let bad : false ≡ true = rw same at apart in absurd (cc)
-one-agrees (optional_number name) (optional_text other) apart same text taken = let bad : false ≡ true = rw same at apart in absurd (cc)
-one-agrees (optional_number name) (required_number other) apart same text taken = accepts-Accepts false (parser.Unsigned 0 18446744073709551615) text taken
-one-agrees (optional_number name) (optional_number other) apart same text taken = accepts-Accepts false (parser.Unsigned 0 18446744073709551615) text taken
+one-agrees p q apart same text taken =
+    let tested : is_as (test_of p) (test_of q) ≡ true = rw same at apart in
+    passes (test_of p) (test_of q) tested text taken
 
 all-agree : (p : Parameter) (all : List Parameter) → list_all (agrees p) all ≡ true → AllAgree (name_of p) (Fits p) all
 all-agree p [] apart = tt
@@ -243,9 +282,11 @@ abbrev IsThere : List Row → Parameter → Type 0
 IsThere rows (required_text name) = is_given name rows ≡ true
 IsThere rows (required_number name) = is_given name rows ≡ true
 IsThere rows (optional_text name) = ⊤
+IsThere rows (named_text name) = is_given name rows ≡ true
 IsThere rows (optional_number name) = ⊤
 IsThere rows (bounded_number low high name) = ⊤
 IsThere rows (required_within low high name) = is_given name rows ≡ true
+IsThere rows (flag name) = ⊤
 
 abbrev AreThere : List Row → List Parameter → Type 0
 AreThere rows [] = ⊤
@@ -261,6 +302,9 @@ are-there rows [] place none = tt
 are-there rows (required_text name ∷ rest) place none =
     let parts = neither (is_given name rows) _ none in
     (parts.0, are-there rows rest (index_after place (rule_for (required_text name))) parts.1)
+are-there rows (named_text name ∷ rest) place none =
+    let parts = neither (is_given name rows) _ none in
+    (parts.0, are-there rows rest (index_after place (rule_for (named_text name))) parts.1)
 are-there rows (required_number name ∷ rest) place none =
     let parts = neither (is_given name rows) _ none in
     (parts.0, are-there rows rest (index_after place (rule_for (required_number name))) parts.1)
@@ -270,6 +314,7 @@ are-there rows (required_within low high name ∷ rest) place none =
 are-there rows (optional_text name ∷ rest) place none = (tt, are-there rows rest (index_after place (rule_for (optional_text name))) none)
 are-there rows (optional_number name ∷ rest) place none = (tt, are-there rows rest (index_after place (rule_for (optional_number name))) none)
 are-there rows (bounded_number low high name ∷ rest) place none = (tt, are-there rows rest (index_after place (rule_for (bounded_number low high name))) none)
+are-there rows (flag name ∷ rest) place none = (tt, are-there rows rest (index_after place (rule_for (flag name))) none)
 
 -- the first text of a row
 text-read : (Q : Text → Type 0) (values : List Text) (how : Reading) → how ≡ reading.AsWritten → StartsWell [] Q values
@@ -305,6 +350,8 @@ first-given Q (Some row) well given = at row.values well.1
 parameter-given : (rows : List Row) (p : Parameter) → Rows (name_of p) (Fits p) rows → IsThere rows p → IsGiven rows p
 parameter-given rows (required_text name) well there =
     first-given (Fits (required_text name)) (find (λ r. bytes_eq r.id name) rows) (row-found name (Fits (required_text name)) rows well) there
+parameter-given rows (named_text name) well there =
+    first-given (Fits (named_text name)) (find (λ r. bytes_eq r.id name) rows) (row-found name (Fits (named_text name)) rows well) there
 parameter-given rows (required_number name) well there = one-given IsNumber (find (λ r. bytes_eq r.id name) rows) (row-found name IsNumber rows well) there
 parameter-given rows (required_within low high name) well there =
     one-given (IsUnsignedIn low high) (find (λ r. bytes_eq r.id name) rows) (row-found name (IsUnsignedIn low high) rows well) there
@@ -312,6 +359,7 @@ parameter-given rows (optional_text name) well there = tt
 parameter-given rows (optional_number name) well there = one-if-given IsNumber (find (λ r. bytes_eq r.id name) rows) (row-found name IsNumber rows well)
 parameter-given rows (bounded_number low high name) well there =
     one-if-given (IsUnsignedIn low high) (find (λ r. bytes_eq r.id name) rows) (row-found name (IsUnsignedIn low high) rows well)
+parameter-given rows (flag name) well there = one-if-given IsTruth (find (λ r. bytes_eq r.id name) rows) (row-found name IsTruth rows well)
 
 all-given : (rows : List Row) (all parameters : List Parameter) → are_apart all parameters ≡ true
     → ((name : Text) (Q : Text → Type 0) → AllAgree name Q all → Rows name Q rows) → AreThere rows parameters → AreGiven rows parameters

@@ -23,10 +23,25 @@ either (kind ∷ kinds) second none = absurd (cc)
 abbrev pub Keeps : (List Row → Type 0) → Rule → Type 0
 Keeps Rows a = (again : Bool) (values : List Text) (rows : List Row) → use_fault again a values rows ≡ [] → Rows rows → Rows (used a values rows)
 
--- so does each of the arguments, and none has a default
+-- so does the default of one that wasn't used
+abbrev pub KeepsDefault : (List Row → Type 0) → Rule → Type 0
+KeepsDefault Rows a = (rows : List Row) → Rows rows → Rows (with_default rows a)
+
+-- it does where there is no default
+pub default-none : (Rows : List Row → Type 0) (a : Rule) → a.defaults ≡ [] → KeepsDefault Rows a
+default-none Rows a without rows had = subst Rows (sym same) had
+  where
+    at : (has : Bool) → cond has rows (default_rows a.id (reading_by a) a.defaults rows) ≡ rows
+    at true = refl
+    at false = ap (λ values. default_rows a.id (reading_by a) values rows) without
+
+    same : with_default rows a ≡ rows
+    same = at (has_row a.id rows)
+
+-- each of the arguments keeps it
 abbrev pub Each : (List Row → Type 0) → List Rule → Type 0
 Each Rows [] = ⊤
-Each Rows (a ∷ rest) = (Keeps Rows a × (a.defaults ≡ [])) × Each Rows rest
+Each Rows (a ∷ rest) = (Keeps Rows a × KeepsDefault Rows a) × Each Rows rest
 
 abbrev KeepsFound : (List Row → Type 0) → Option Rule → Type 0
 KeepsFound Rows None = ⊤
@@ -187,17 +202,9 @@ module _ (Rows : List Row → Type 0) (s : Shape) (each : Each Rows s.rules) whe
       let parts = either (turn_fault s names w word) _ none in
       walk-keeps names (walked s.rules names w word) rest parts.1 (walked-keeps names w word parts.0 had)
 
-  default-keeps : (a : Rule) (rows : List Row) → a.defaults ≡ [] → with_default rows a ≡ rows
-  default-keeps a rows without = at (has_row a.id rows)
-    where
-      at : (has : Bool) → cond has rows (default_rows a.id (reading_by a) a.defaults rows) ≡ rows
-      at true = refl
-      at false = ap (λ values. default_rows a.id (reading_by a) values rows) without
-
   defaults-keep : (rules : List Rule) (rows : List Row) → Each Rows rules → Rows rows → Rows (fold with_default rows rules)
   defaults-keep [] rows each had = had
-  defaults-keep (a ∷ rest) rows each had =
-      defaults-keep rest (with_default rows a) each.1 (subst Rows (sym (default-keeps a rows each.0.1)) had)
+  defaults-keep (a ∷ rest) rows each had = defaults-keep rest (with_default rows a) each.1 (each.0.1 rows had)
 
   -- the rows of a command that takes the words
   pub rows_taken : (words : List Text) → Rows [] → level_fault s [] nothing_held words false [] ≡ [] → Rows (rows_after s.rules [] words)

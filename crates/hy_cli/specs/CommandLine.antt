@@ -1,5 +1,5 @@
 -- The command line of the program: what it takes, and what its words say.
-use Rattle.std.specs.Prelude.{◌≡◌, ◌≢◌, ◌≤◌, ⊤, ℕ, true, false, List, [], ◌∷◌, Option, Some, Ok, codes, map}
+use Rattle.std.specs.Prelude.{◌≡◌, ◌≢◌, ◌≤◌, ⊤, ℕ, Bool, true, false, List, [], ◌∷◌, Option, Some, Ok, codes, map}
 use Rattle.std.specs.Prelude.{IsSomeAnd, MatchOption}
 use Rattle.std.specs.Borrow.{Bor}
 use Rattle.std.specs.Option.{option_copied}
@@ -7,9 +7,10 @@ use Rattle.std.specs.Str.Parse.{ParsesUnsigned}
 use Rattle.std.specs.declared.num.ParseIntError.{ParseIntError}
 use Rattle.clap.specs.Walk.{first_of}
 use Rattle.clap.specs.Words.{App, Row, Rule, Shape, Text, new_rule, one_of, subcommand_of, IsAmong, IsUnsignedIn}
-use Rattle.clap.specs.Values.{kind_of}
+use Rattle.clap.specs.Values.{bool_text, kind_of}
 use Rattle.clap.specs.Faults.{fault_of}
 use Rattle.clap.specs.Simple.{new_shape}
+use Rattle.clap.specs.declared.builder.action.ArgAction.TheVariants as action
 use Rattle.clap.specs.declared.builder.value_parser.ValueParser.TheVariants as parser
 use Rattle.clap.specs.declared.error.Error.{Error}
 use Rattle.clap.specs.declared.error.kind.ErrorKind.TheVariants as kind
@@ -20,16 +21,18 @@ use Rattle.hy_cli.specs.declared.words.LineFault.TheVariants as fault
 
 -- ---- what the program takes
 
--- a parameter of a command: any word at its place, `--name TEXT` that may be left out, `--name NUMBER`, `--name NUMBER` that
--- may be left out, or either of the last two, that which may be left out first, with a number that is at least the first and
--- at most the second of two others
+-- a parameter of a command: any word at its place, `--name TEXT` that may be left out, `--name TEXT`, `--name NUMBER`,
+-- `--name NUMBER` that may be left out, either of the last two, that which may be left out first, with a number that is at
+-- least the first and at most the second of two others, or `--name` alone, which may be left out
 pub data Parameter : Type 0 where
   required_text : Text → Parameter
   optional_text : Text → Parameter
+  named_text : Text → Parameter
   required_number : Text → Parameter
   optional_number : Text → Parameter
   bounded_number : ℕ → ℕ → Text → Parameter
   required_within : ℕ → ℕ → Text → Parameter
+  flag : Text → Parameter
 
 -- a word at its place; where several have one, they come in the order of the parameters
 abbrev pub text_rule : Text → Rule
@@ -51,6 +54,10 @@ bounded_rule low high name = record (new_rule name) {
 abbrev pub number_rule : Text → Rule
 number_rule = bounded_rule 0 18446744073709551615
 
+-- `--name`
+abbrev pub flag_rule : Text → Rule
+flag_rule name = record (new_rule name) { long = Some name; action = Some action.SetTrue }
+
 -- it has to be given
 abbrev pub required : Rule → Rule
 required rule = record rule { required = true }
@@ -59,10 +66,12 @@ required rule = record rule { required = true }
 abbrev pub rule_for : Parameter → Rule
 rule_for (required_text name) = required (text_rule name)
 rule_for (optional_text name) = option_rule name
+rule_for (named_text name) = required (option_rule name)
 rule_for (required_number name) = required (number_rule name)
 rule_for (optional_number name) = number_rule name
 rule_for (bounded_number low high name) = bounded_rule low high name
 rule_for (required_within low high name) = required (bounded_rule low high name)
+rule_for (flag name) = flag_rule name
 
 -- `first [--amount CENTS]`
 abbrev pub first_parameters : List Parameter
@@ -73,9 +82,9 @@ abbrev pub generate_parameters : List Parameter
 generate_parameters = required_text (codes "directory") ∷ required_number (codes "warehouses")
     ∷ required_number (codes "customers") ∷ required_number (codes "items") ∷ []
 
--- `check DIR`
+-- `check DIR [--log FILE]`
 abbrev pub check_parameters : List Parameter
-check_parameters = required_text (codes "directory") ∷ []
+check_parameters = required_text (codes "directory") ∷ optional_text (codes "log") ∷ []
 
 -- how many frames each partition may have at most, and how many commits it may keep
 abbrev pub most_frames : ℕ
@@ -89,9 +98,15 @@ abbrev pub script_parameters : List Parameter
 script_parameters = required_text (codes "directory") ∷ required_text (codes "file")
     ∷ bounded_number 1 most_frames (codes "frames") ∷ bounded_number 1 most_kept (codes "kept") ∷ []
 
--- `query DIR TEXT`
+-- `serve DIR --log FILE [--frames F] [--kept K] [--numbered]`
+abbrev pub serve_parameters : List Parameter
+serve_parameters = required_text (codes "directory") ∷ named_text (codes "log")
+    ∷ bounded_number 1 most_frames (codes "frames") ∷ bounded_number 1 most_kept (codes "kept") ∷ flag (codes "numbered")
+    ∷ []
+
+-- `query DIR TEXT [--log FILE]`
 abbrev pub query_parameters : List Parameter
-query_parameters = required_text (codes "directory") ∷ required_text (codes "text") ∷ []
+query_parameters = required_text (codes "directory") ∷ required_text (codes "text") ∷ optional_text (codes "log") ∷ []
 
 -- how many terminals and sessions a storm has at most, and how many commands a terminal hands in
 abbrev pub most_terminals : ℕ
@@ -120,7 +135,7 @@ command_of name parameters = record (new_shape name) { rules = map rule_for para
 -- the commands with their parameters
 abbrev pub commands : List (Text × List Parameter)
 commands = (codes "first", first_parameters) ∷ (codes "gen", generate_parameters) ∷ (codes "check", check_parameters)
-    ∷ (codes "script", script_parameters) ∷ (codes "query", query_parameters)
+    ∷ (codes "script", script_parameters) ∷ (codes "serve", serve_parameters) ∷ (codes "query", query_parameters)
     ∷ (codes "storm", storm_parameters) ∷ (codes "recover", recover_parameters) ∷ []
 
 -- the program without its commands
@@ -180,6 +195,10 @@ SaysNumber name rows number = IsSomeAnd (one_of name rows) (Spells number)
 abbrev pub SaysNumberOr : ℕ → Text → List Row → ℕ → Type 0
 SaysNumberOr default name rows number = MatchOption (one_of name rows) (number ≡ default) (Spells number)
 
+-- the flag of the name is given or not, which the parser holds as `true` or `false`; where it holds nothing, it isn't given
+abbrev pub SaysFlag : Text → List Row → Bool → Type 0
+SaysFlag name rows is_given = MatchOption (one_of name rows) (is_given ≡ false) (λ text. text ≡ bool_text is_given)
+
 -- a command's name and what is given to it say this command line
 abbrev pub SaysLine : Text × List Row → Line → Type 0
 SaysLine command (line.First amount) = (command.0 ≡ codes "first")
@@ -189,16 +208,24 @@ SaysLine command (line.Generate directory warehouses customers items) = (command
     × SaysNumber (codes "warehouses") command.1 warehouses
     × SaysNumber (codes "customers") command.1 customers
     × SaysNumber (codes "items") command.1 items
-SaysLine command (line.Check directory) = (command.0 ≡ codes "check")
+SaysLine command (line.Check directory log) = (command.0 ≡ codes "check")
     × SaysText (codes "directory") command.1 directory.now
+    × SaysTextOrNone (codes "log") command.1 (option_copied log)
 SaysLine command (line.Script directory file frames kept) = (command.0 ≡ codes "script")
     × SaysText (codes "directory") command.1 directory.now
     × SaysText (codes "file") command.1 file.now
     × SaysNumberOr 100_000 (codes "frames") command.1 frames
     × SaysNumberOr 1_000_000 (codes "kept") command.1 kept
-SaysLine command (line.Query directory text) = (command.0 ≡ codes "query")
+SaysLine command (line.Serve directory log frames kept is_numbered) = (command.0 ≡ codes "serve")
+    × SaysText (codes "directory") command.1 directory.now
+    × SaysText (codes "log") command.1 log.now
+    × SaysNumberOr most_frames (codes "frames") command.1 frames
+    × SaysNumberOr most_kept (codes "kept") command.1 kept
+    × SaysFlag (codes "numbered") command.1 is_numbered
+SaysLine command (line.Query directory text log) = (command.0 ≡ codes "query")
     × SaysText (codes "directory") command.1 directory.now
     × SaysText (codes "text") command.1 text.now
+    × SaysTextOrNone (codes "log") command.1 (option_copied log)
 SaysLine command (line.Storm directory terminals sessions commands log) = (command.0 ≡ codes "storm")
     × SaysText (codes "directory") command.1 directory.now
     × SaysNumber (codes "terminals") command.1 terminals
@@ -217,6 +244,7 @@ IsIn low high number = (low ≤ number) × (number ≤ high)
 -- a command line's limits are ones that a partition may have, and a storm's size is one that a storm may have
 abbrev pub HasLimits : Line → Type 0
 HasLimits (line.Script directory file frames kept) = IsIn 1 most_frames frames × IsIn 1 most_kept kept
+HasLimits (line.Serve directory log frames kept is_numbered) = IsIn 1 most_frames frames × IsIn 1 most_kept kept
 HasLimits (line.Storm directory terminals sessions commands log) =
     IsIn 1 most_terminals terminals × IsIn 0 most_sessions sessions × IsIn 0 most_commands commands
 HasLimits other = ⊤

@@ -1,5 +1,6 @@
 -- Worked examples, which the checker computes: what words say, and which faults they have.
-use Rattle.std.specs.Prelude.{◌≡◌, Option, None, Some, List, [], ◌∷◌, codes, option_map, refl}
+use Rattle.std.specs.Prelude.{◌≡◌, Option, None, Some, List, [], ◌∷◌, true, false, codes, option_map, refl}
+use Rattle.std.specs.Borrow.{Bor}
 use Rattle.clap.specs.Walk.{first_of}
 use Rattle.clap.specs.Words.{Text, one_of, subcommand_of}
 use Rattle.clap.specs.Faults.{fault_of}
@@ -7,6 +8,10 @@ use Rattle.clap.proofs.OnLiterals.{clap_on_literals}
 use Rattle.clap.specs.declared.error.kind.ErrorKind.TheVariants as kind
 use Rattle.hy_cli.specs.declared.words.Line.TheVariants as line
 use Rattle.hy_cli.specs.CommandLine.{Says, program_app}
+
+-- a reference to a text
+abbrev pub reference_to : Text → Bor Text
+reference_to text = record { ref_ptr = (0, 0); now = text }
 
 -- the command that words name, with the text of `--amount`
 abbrev pub amount_text : List Text → Option (Text × Option Text)
@@ -101,6 +106,24 @@ pub hyphens-directory : directory_text (codes "check" ∷ codes "--" ∷ codes "
 unfolding clap_on_literals
 hyphens-directory = refl
 
+-- a check with a log, and one without
+abbrev pub log_text : List Text → Option (Option Text)
+log_text words = option_map (λ command. first_of (codes "log") command.1) (subcommand_of program_app words)
+
+pub check-says : Says (codes "check" ∷ codes "d" ∷ codes "--log" ∷ codes "f" ∷ [])
+    (line.Check (reference_to (codes "d")) (Some (reference_to (codes "f"))))
+unfolding clap_on_literals
+check-says = (refl, (refl, refl, refl))
+
+pub check_alone-says : Says (codes "check" ∷ codes "d" ∷ []) (line.Check (reference_to (codes "d")) None)
+unfolding clap_on_literals
+check_alone-says = (refl, (refl, refl, refl))
+
+-- a log is one word behind its option
+pub check_log-refused : fault_of program_app (codes "check" ∷ codes "d" ∷ codes "f" ∷ []) ≡ kind.UnknownArgument ∷ []
+unfolding clap_on_literals
+check_log-refused = refl
+
 -- no word, another word, and the words for help
 pub nothing-refused : fault_of program_app [] ≡ kind.MissingSubcommand ∷ []
 unfolding clap_on_literals
@@ -151,6 +174,83 @@ pub kept-refused : fault_of program_app (codes "script" ∷ codes "d" ∷ codes 
 unfolding clap_on_literals
 kept-refused = refl
 
+-- a folder and a log: the limits are the greatest that there are, and answers have no numbers
+pub serve-says : Says (codes "serve" ∷ codes "d" ∷ codes "--log" ∷ codes "f" ∷ [])
+    (line.Serve (reference_to (codes "d")) (reference_to (codes "f")) 10_000_000 100_000_000 false)
+unfolding clap_on_literals
+serve-says = (refl, (refl, refl, refl, refl, refl, refl))
+
+-- with numbers
+pub numbered-says : Says (codes "serve" ∷ codes "--numbered" ∷ codes "d" ∷ codes "--log=f" ∷ [])
+    (line.Serve (reference_to (codes "d")) (reference_to (codes "f")) 10_000_000 100_000_000 true)
+unfolding clap_on_literals
+numbered-says = (refl, (refl, refl, refl, refl, refl, refl))
+
+-- all options, in any order
+abbrev pub serve_given : List Text
+serve_given = codes "serve" ∷ codes "--kept=1" ∷ codes "--numbered" ∷ codes "--log=f" ∷ codes "d" ∷ codes "--frames"
+    ∷ codes "10000000" ∷ []
+
+pub serve-taken : fault_of program_app serve_given ≡ []
+unfolding clap_on_literals
+serve-taken = refl
+
+-- the texts of the folder, of the log, of both limits and of the flag
+abbrev pub serve_texts : List Text
+    → Option (Option Text × Option Text × Option Text × Option Text × Option Text)
+serve_texts words = option_map (λ command. (
+  first_of (codes "directory") command.1,
+  first_of (codes "log") command.1,
+  one_of (codes "frames") command.1,
+  one_of (codes "kept") command.1,
+  one_of (codes "numbered") command.1,
+)) (subcommand_of program_app words)
+
+pub serve-texts : serve_texts serve_given
+    ≡ Some (Some (codes "d"), Some (codes "f"), Some (codes "10000000"), Some (codes "1"), Some (codes "true"))
+unfolding clap_on_literals
+serve-texts = refl
+
+-- without a log
+pub serve_log-missing : fault_of program_app (codes "serve" ∷ codes "d" ∷ codes "--numbered" ∷ [])
+    ≡ kind.MissingRequiredArgument ∷ []
+unfolding clap_on_literals
+serve_log-missing = refl
+
+-- no frame, one frame more than the greatest limit, and the same of commits
+pub no_frame-refused : fault_of program_app
+    (codes "serve" ∷ codes "d" ∷ codes "--log=f" ∷ codes "--frames" ∷ codes "0" ∷ []) ≡ kind.ValueValidation ∷ []
+unfolding clap_on_literals
+no_frame-refused = refl
+
+pub serve_frames-refused : fault_of program_app
+    (codes "serve" ∷ codes "d" ∷ codes "--log=f" ∷ codes "--frames" ∷ codes "10000001" ∷ [])
+    ≡ kind.ValueValidation ∷ []
+unfolding clap_on_literals
+serve_frames-refused = refl
+
+pub no_commit-refused : fault_of program_app
+    (codes "serve" ∷ codes "d" ∷ codes "--log=f" ∷ codes "--kept=0" ∷ []) ≡ kind.ValueValidation ∷ []
+unfolding clap_on_literals
+no_commit-refused = refl
+
+pub serve_kept-refused : fault_of program_app
+    (codes "serve" ∷ codes "d" ∷ codes "--log=f" ∷ codes "--kept=100000001" ∷ []) ≡ kind.ValueValidation ∷ []
+unfolding clap_on_literals
+serve_kept-refused = refl
+
+-- the flag twice, and with a value
+pub flag_again-refused : fault_of program_app
+    (codes "serve" ∷ codes "d" ∷ codes "--log=f" ∷ codes "--numbered" ∷ codes "--numbered" ∷ [])
+    ≡ kind.ArgumentConflict ∷ []
+unfolding clap_on_literals
+flag_again-refused = refl
+
+pub flag_value-refused : fault_of program_app
+    (codes "serve" ∷ codes "d" ∷ codes "--log=f" ∷ codes "--numbered=true" ∷ []) ≡ kind.TooManyValues ∷ []
+unfolding clap_on_literals
+flag_value-refused = refl
+
 -- a folder and a query, which is one word
 abbrev pub query_given : List Text
 query_given = codes "query" ∷ codes "d" ∷ codes "from item select count" ∷ []
@@ -167,6 +267,17 @@ query_texts words = option_map (λ command. (first_of (codes "directory") comman
 pub query-text : query_texts query_given ≡ Some (Some (codes "d"), Some (codes "from item select count"))
 unfolding clap_on_literals
 query-text = refl
+
+-- a query with a log, and one without
+pub query-says : Says (codes "query" ∷ codes "d" ∷ codes "--log" ∷ codes "f" ∷ codes "q" ∷ [])
+    (line.Query (reference_to (codes "d")) (reference_to (codes "q")) (Some (reference_to (codes "f"))))
+unfolding clap_on_literals
+query-says = (refl, (refl, refl, refl, refl))
+
+pub query_alone-says : Says (codes "query" ∷ codes "d" ∷ codes "q" ∷ [])
+    (line.Query (reference_to (codes "d")) (reference_to (codes "q")) None)
+unfolding clap_on_literals
+query_alone-says = (refl, (refl, refl, refl, refl))
 
 -- a query of several words
 pub words-refused : fault_of program_app (codes "query" ∷ codes "d" ∷ codes "from" ∷ codes "item" ∷ [])
@@ -216,9 +327,6 @@ unfolding clap_on_literals
 sessions-missing = refl
 
 -- a storm with a log, and one without
-abbrev pub log_text : List Text → Option (Option Text)
-log_text words = option_map (λ command. first_of (codes "log") command.1) (subcommand_of program_app words)
-
 abbrev pub logged_given : List Text
 logged_given = codes "storm" ∷ codes "d" ∷ codes "--terminals=1" ∷ codes "--log" ∷ codes "l" ∷ codes "--sessions=0"
     ∷ codes "--commands=5" ∷ []

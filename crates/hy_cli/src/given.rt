@@ -4,7 +4,8 @@ ghost use Rattle.std.specs.Prelude.{ℕ, IfSome, IsSome, IsSomeAnd};
 ghost use Rattle.std.specs.Option.{option_copied};
 ghost use Rattle.clap.specs.Walk.{first_of, one_of};
 ghost use Rattle.clap.specs.Words.{IsUnsignedIn, found_of, rows_of};
-ghost use Rattle.hy_cli.specs.CommandLine.{IsIn, IsNumber, SaysNumber, SaysNumberOr, SaysText, SaysTextOrNone};
+ghost use Rattle.hy_cli.specs.CommandLine.{IsIn, IsNumber, SaysFlag, SaysNumber, SaysNumberOr, SaysText, SaysTextOrNone};
+ghost use Rattle.hy_cli.specs.inside.Given.{IsTruth};
 
 use clap::ArgMatches;
 
@@ -47,4 +48,12 @@ pub fn number_or(given: &ArgMatches<'_>, name: &str, default: u64) -> u64
         → IfSome (one_of name.now (rows_of (found_of given.now))) (IsUnsignedIn low high) → IsIn low high result }
 {
     given.get_one(name).unwrap_or(default)
+}
+
+/// Whether the flag `name` is given.
+pub fn flag_given(given: &ArgMatches<'_>, name: &str) -> bool
+    requires { IfSome (one_of name.now (rows_of (found_of given.now))) IsTruth }
+    ensures { SaysFlag name.now (rows_of (found_of given.now)) result }
+{
+    given.get_flag(name)
 }

@@ -3,17 +3,17 @@
 ghost use Rattle.std.specs.Prelude.{◌≡◌, IfOk, codes, false, true};
 ghost use Rattle.clap.specs.Words.{app_of, rule_of, shape_of};
 ghost use Rattle.clap.specs.declared.builder.command.Command.TheViews.{out-Command as fields_of};
-ghost use Rattle.hy_cli.specs.CommandLine.{bare_app, bounded_number, check_parameters, command_of, first_parameters, generate_parameters, optional_number, optional_text, program_app, query_parameters, recover_parameters, required_number, required_text, required_within, rule_for, script_parameters, storm_parameters};
+ghost use Rattle.hy_cli.specs.CommandLine.{bare_app, bounded_number, check_parameters, command_of, first_parameters, flag, generate_parameters, named_text, optional_number, optional_text, program_app, query_parameters, recover_parameters, required_number, required_text, required_within, rule_for, script_parameters, serve_parameters, storm_parameters};
 
 use clap::builder::ValueParser;
-use clap::{Arg, Command, value_parser};
+use clap::{Arg, ArgAction, Command, value_parser};
 use std::alloc::{AllocError, Global};
 
 /// How many frames a partition may have at most.
-const MAX_FRAMES: u64 = 10_000_000;
+pub const MAX_FRAMES: u64 = 10_000_000;
 
 /// How many commits a partition may keep at most.
-const MAX_KEPT: u64 = 100_000_000;
+pub const MAX_KEPT: u64 = 100_000_000;
 
 /// How many terminals a storm has at most.
 const MAX_TERMINALS: u64 = 64;
@@ -35,6 +35,7 @@ pub fn program<'a>(alloc: Global) -> Result<Command<'a>, AllocError>
         .subcommand(generate(alloc)?)?
         .subcommand(check(alloc)?)?
         .subcommand(script(alloc)?)?
+        .subcommand(serve(alloc)?)?
         .subcommand(query(alloc)?)?
         .subcommand(storm(alloc)?)?
         .subcommand(recover(alloc)?)
@@ -84,14 +85,15 @@ fn generate<'a>(alloc: Global) -> Result<Command<'a>, AllocError>
         .arg(required_option(alloc, "items", "I", "How many items there are"))
 }
 
-/// `check DIR`.
+/// `check DIR [--log FILE]`.
 fn check<'a>(alloc: Global) -> Result<Command<'a>, AllocError>
     ensures { IfOk result (λ command. (shape_of command ≡ command_of (codes "check") check_parameters)
         × ((fields_of command).has_globals ≡ false)) }
 {
     Command::new(alloc, "check")
         .about("Tests the database in nine files")
-        .arg(positional(alloc, "directory", "DIR", "The folder of the files"))
+        .arg(positional(alloc, "directory", "DIR", "The folder of the files"))?
+        .arg(read_log(alloc))
 }
 
 /// `script DIR FILE [--frames F] [--kept K]`.
@@ -119,7 +121,44 @@ fn script<'a>(alloc: Global) -> Result<Command<'a>, AllocError>
         ))
 }
 
-/// `query DIR TEXT`.
+/// `serve DIR --log FILE [--frames F] [--kept K] [--numbered]`.
+fn serve<'a>(alloc: Global) -> Result<Command<'a>, AllocError>
+    ensures { IfOk result (λ command. (shape_of command ≡ command_of (codes "serve") serve_parameters)
+        × ((fields_of command).has_globals ≡ false)) }
+{
+    Command::new(alloc, "serve")
+        .about(
+            "Runs events as they come on the database in nine files and its log, and prints their answers",
+        )
+        .arg(positional(alloc, "directory", "DIR", "The folder of the files"))?
+        .arg(required_text_option(
+            alloc,
+            "log",
+            "FILE",
+            "The file of the log: what it has is run again first, and what is committed is written behind it",
+        ))?
+        .arg(bounded_option(
+            alloc,
+            "frames",
+            "F",
+            "How many frames each warehouse may have: 10,000,000 if it isn't given",
+            MAX_FRAMES,
+        ))?
+        .arg(bounded_option(
+            alloc,
+            "kept",
+            "K",
+            "How many commits each warehouse may keep: 100,000,000 if it isn't given",
+            MAX_KEPT,
+        ))?
+        .arg(flag(
+            alloc,
+            "numbered",
+            "Each answer stands behind the number of its event's line",
+        ))
+}
+
+/// `query DIR TEXT [--log FILE]`.
 fn query<'a>(alloc: Global) -> Result<Command<'a>, AllocError>
     ensures { IfOk result (λ command. (shape_of command ≡ command_of (codes "query") query_parameters)
         × ((fields_of command).has_globals ≡ false)) }
@@ -127,7 +166,8 @@ fn query<'a>(alloc: Global) -> Result<Command<'a>, AllocError>
     Command::new(alloc, "query")
         .about("Prints the answer to a query on the database in nine files")
         .arg(positional(alloc, "directory", "DIR", "The folder of the files"))?
-        .arg(positional(alloc, "text", "TEXT", "The query, as one word"))
+        .arg(positional(alloc, "text", "TEXT", "The query, as one word"))?
+        .arg(read_log(alloc))
 }
 
 /// `storm DIR --terminals T --sessions S --commands K [--log FILE]`.
@@ -208,6 +248,35 @@ fn text_option<'a>(alloc: Global, name: &'a str, value: &'a str, help: &'a str) 
     Arg::new(alloc, name)
         .long(name)
         .value_name(value)
+        .help(help)
+}
+
+/// `--log FILE`, a log that is run again before a command looks at the database, which may be left out.
+fn read_log<'a>(alloc: Global) -> Arg<'a>
+    ensures { (rule_of result ≡ rule_for (optional_text (codes "log"))) × (result.global ≡ false) }
+{
+    text_option(
+        alloc,
+        "log",
+        "FILE",
+        "The file of a log that is run again on the database first: none if it isn't given",
+    )
+}
+
+/// `--name TEXT`, a word that has to be given.
+fn required_text_option<'a>(alloc: Global, name: &'a str, value: &'a str, help: &'a str) -> Arg<'a>
+    ensures { (rule_of result ≡ rule_for (named_text name.entry.now)) × (result.global ≡ false) }
+{
+    text_option(alloc, name, value, help).required(true)
+}
+
+/// `--name` alone, which may be left out.
+fn flag<'a>(alloc: Global, name: &'a str, help: &'a str) -> Arg<'a>
+    ensures { (rule_of result ≡ rule_for (flag name.entry.now)) × (result.global ≡ false) }
+{
+    Arg::new(alloc, name)
+        .long(name)
+        .action(ArgAction::SetTrue)
         .help(help)
 }
 

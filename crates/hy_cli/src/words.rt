@@ -4,11 +4,11 @@ ghost use Rattle.std.specs.Prelude.{◌≡◌, [], IfErr, IfOk, IfSome, MatchRes
 ghost use Rattle.clap.specs.Faults.{fault_of, is_simple_and_free};
 ghost use Rattle.clap.specs.Words.{HasKind, app_of, found_of, has_subcommand, is_simple, rows_of, subcommand_of, subcommand_rows_of};
 ghost use Rattle.clap.specs.declared.builder.command.Command.TheViews.{out-Command as fields_of};
-ghost use Rattle.hy_cli.specs.CommandLine.{AreTaken, HasFault, HasLimits, IsBehind, Says, SaysLine, check_parameters, first_parameters, generate_parameters, program_app, query_parameters, recover_parameters, script_parameters, storm_parameters, texts_of};
+ghost use Rattle.hy_cli.specs.CommandLine.{AreTaken, HasFault, HasLimits, IsBehind, Says, SaysLine, check_parameters, first_parameters, generate_parameters, program_app, query_parameters, recover_parameters, script_parameters, serve_parameters, storm_parameters, texts_of};
 ghost use Rattle.hy_cli.specs.inside.Given.{AreGiven, IsKnown};
 
-use crate::given::{number_given, number_or, text_given, text_or_none};
-use crate::program::program;
+use crate::given::{flag_given, number_given, number_or, text_given, text_or_none};
+use crate::program::{MAX_FRAMES, MAX_KEPT, program};
 use clap::error::ErrorKind;
 use clap::{ArgMatches, Command};
 use std::alloc::Global;
@@ -17,10 +17,10 @@ use thiserror::Error;
 /// The amount of `first` where the words give none, in cents.
 const DEFAULT_AMOUNT: u64 = 100;
 
-/// How many frames a partition may have where the words say nothing of it.
+/// How many frames a partition may have where the words of a `script` say nothing of it.
 const DEFAULT_FRAMES: u64 = 100_000;
 
-/// How many commits a partition may keep where the words say nothing of it.
+/// How many commits a partition may keep where the words of a `script` say nothing of it.
 const DEFAULT_KEPT: u64 = 1_000_000;
 
 /// A command line.
@@ -46,6 +46,8 @@ pub enum Line<'a> {
     Check {
         /// The folder of the files.
         directory: &'a str,
+        /// The file of a log that is run again first, where there is one.
+        log: Option<&'a str>,
     },
     /// The events of a file are run on the database in files.
     Script {
@@ -58,12 +60,27 @@ pub enum Line<'a> {
         /// How many commits each partition may keep, from 1 to 100,000,000.
         kept: u64,
     },
+    /// Events are run as they come on the database in files and its log.
+    Serve {
+        /// The folder of the files.
+        directory: &'a str,
+        /// The file of the log.
+        log: &'a str,
+        /// How many frames each partition may have, from 1 to 10,000,000.
+        frames: u64,
+        /// How many commits each partition may keep, from 1 to 100,000,000.
+        kept: u64,
+        /// Whether answers have the numbers of their events' lines.
+        is_numbered: bool,
+    },
     /// A query is answered over the database in files.
     Query {
         /// The folder of the files.
         directory: &'a str,
         /// The text of the query.
         text: &'a str,
+        /// The file of a log that is run again first, where there is one.
+        log: Option<&'a str>,
     },
     /// Terminals and sessions run on the database in files.
     Storm {
@@ -130,6 +147,7 @@ pub fn read_words<'a>(alloc: Global, words: &'a [&'a str]) -> Result<Line<'a>, L
         "gen" => Ok(read_generate(given)),
         "check" => Ok(read_check(given)),
         "script" => Ok(read_script(given)),
+        "serve" => Ok(read_serve(given)),
         "query" => Ok(read_query(given)),
         "storm" => Ok(read_storm(given)),
         "recover" => Ok(read_recover(given)),
@@ -192,6 +210,7 @@ fn read_check<'a>(given: &ArgMatches<'a>) -> Line<'a>
 {
     Line::Check {
         directory: text_given(given, "directory"),
+        log: text_or_none(given, "log"),
     }
 }
 
@@ -209,6 +228,21 @@ fn read_script<'a>(given: &ArgMatches<'a>) -> Line<'a>
     }
 }
 
+/// The line that what is given to `serve` says.
+fn read_serve<'a>(given: &ArgMatches<'a>) -> Line<'a>
+    requires { AreGiven (rows_of (found_of given.now)) serve_parameters }
+    ensures says { SaysLine (codes "serve", rows_of (found_of given.now)) result }
+    ensures limits { HasLimits result }
+{
+    Line::Serve {
+        directory: text_given(given, "directory"),
+        log: text_given(given, "log"),
+        frames: number_or(given, "frames", MAX_FRAMES),
+        kept: number_or(given, "kept", MAX_KEPT),
+        is_numbered: flag_given(given, "numbered"),
+    }
+}
+
 /// The line that what is given to `query` says.
 fn read_query<'a>(given: &ArgMatches<'a>) -> Line<'a>
     requires { AreGiven (rows_of (found_of given.now)) query_parameters }
@@ -217,6 +251,7 @@ fn read_query<'a>(given: &ArgMatches<'a>) -> Line<'a>
     Line::Query {
         directory: text_given(given, "directory"),
         text: text_given(given, "text"),
+        log: text_or_none(given, "log"),
     }
 }
 

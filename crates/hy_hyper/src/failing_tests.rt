@@ -122,7 +122,8 @@ fn run(
 ) -> (Ending, [bool; 2]) {
     let mut out = Stream::new(Short::new(sizes[0]));
     let mut err = Stream::new(Short::new(sizes[1]));
-    let ending = run_words(rt, alloc, words, stored, &mut out, &mut err);
+    let nothing: &[u8] = &[];
+    let ending = run_words(rt, alloc, words, stored, nothing, &mut out, &mut err);
     (
         ending,
         [out.into_writer().is_empty, err.into_writer().is_empty],

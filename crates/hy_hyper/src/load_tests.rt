@@ -55,7 +55,11 @@ fn generates_many_customers(rt: HostRuntime) {
 #[test]
 fn a_folder_has_any_letters(rt: HostRuntime) {
     let line = read_words(rt.alloc(), &["check", "ä/ß"]).expect(&rt, "a command line");
-    assert!(rt; line == Line::Check { directory: "ä/ß" });
+    let wanted = Line::Check {
+        directory: "ä/ß",
+        log: None,
+    };
+    assert!(rt; line == wanted);
 }
 
 #[test]

@@ -39,5 +39,6 @@ module _ (directory : List ℕ) (size : Size) (old new : Option FilesByPath) (un
   generate_fault (files.CannotWrite table) (fault.CannotReadFile path) is ends said sized unprinted = absurd (is)
   generate_fault (files.CannotWrite table) (fault.CannotWriteFile path) is ends said sized unprinted = absurd (is)
   generate_fault (files.CannotWrite table) (fault.BadEvent number) is ends said sized unprinted = absurd (is)
+  generate_fault (files.CannotWrite table) (fault.Serve served) is ends said sized unprinted = absurd (is)
   generate_fault (files.CannotWrite table) (fault.Writer error) is ends said sized unprinted = absurd (is)
   generate_fault (files.CannotRead table) made is ends said sized unprinted = absurd (ends)

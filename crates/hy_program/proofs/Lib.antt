@@ -4,6 +4,8 @@ pub mod FirstLaws
 pub mod GenerateLaws
 pub mod RunLaws
 pub mod QueryLaws
+pub mod ReplayLaws
 pub mod RecoverLaws
 pub mod AskLaws
 pub mod StormLaws
+pub mod ServeLaws

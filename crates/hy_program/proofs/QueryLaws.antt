@@ -1,5 +1,5 @@
 -- What the answer over new partitions rests on.
-use Rattle.std.proofs.Common.{◌≡◌, ◌<◌, ◌≤◌, ℕ, suc, List, [], ◌∷◌, IfErr, IfSome, inl, inr, length, slice_get, Option, None, Some, Result, Ok, Err, arith, subst, sym}
+use Rattle.std.proofs.Common.{◌≡◌, ◌<◌, ◌≤◌, ℕ, suc, List, [], ◌∷◌, IfErr, IfOk, IfSome, inl, inr, length, slice_get, Option, None, Some, Result, Ok, Err, arith, subst, sym}
 use Rattle.std.specs.Prelude.{MatchResult}
 use Rattle.hy_rows.specs.Tables.{Lists, of_warehouse}
 use Rattle.hy_schema.specs.Loads.{IsLoad}
@@ -71,3 +71,8 @@ pub unread-by : {X : Type 0} (lists : Lists) (text : List ℕ) (result : Result 
 unread-by {X = X} lists text result why refused is =
     subst (λ (r : Result X Refusal). IfErr r (IsWhyUnasked lists text)) (sym is)
     (unasked lists (query_of text) why refused)
+
+-- what holds of a value leads to what holds of a result that has it
+pub if_ok : {T E : Type 0} {P Q : T → Type 0} (r : Result T E) → IfOk r P → ((value : T) → P value → Q value) → IfOk r Q
+if_ok (Ok value) is leads = leads value is
+if_ok (Err error) is leads = tt

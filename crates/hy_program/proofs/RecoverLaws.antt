@@ -1,12 +1,8 @@
 -- What `recover` finds, and why it isn't done.
-use Rattle.std.proofs.Common.{◌≡◌, ◌∙◌, ◌<◌, ◌≤◌, ℕ, suc, List, length, slice_get, Option, None, Some, Result, Ok, Err, IfErr, IfOk, IfSome, OnOk, ap, arith, inl, inr, refl, subst, sym}
-use Rattle.std.proofs.lemmas.Option.{slice_get_cases}
+use Rattle.std.proofs.Common.{◌≡◌, ℕ, List, Option, None, Some, Result, Ok, Err, IfErr, OnOk, inl, inr, refl, subst, sym}
 use Rattle.std.specs.declared.io.Error.{Error}
 use Rattle.hy_rows.specs.Tables.{Lists, Tables}
-use Rattle.hy_schema.specs.Conditions.{first_broken}
-use Rattle.hy_schema.specs.Loads.{IsLoad}
 use Rattle.hy_schema.specs.declared.refusal.Refusal.{Refusal}
-use Rattle.hy_schema.specs.declared.refusal.Refusal.TheVariants as refusals
 use Rattle.hy_rows.specs.declared.catalogue.Table.{Table}
 use Rattle.hy_tables.specs.Files.{texts_of}
 use Rattle.hy_files.specs.declared.directory.FileFault.{FileFault}
@@ -14,83 +10,12 @@ use Rattle.hy_files.specs.declared.directory.FileFault.TheVariants as faults
 use Rattle.hy_files.specs.Directory.{KeepsOtherFiles, tables}
 use Rattle.hy_files.specs.Faults.{IsOfSystem, IsUnwritten}
 use Rattle.hy_files.specs.Files.{FilesByPath, KnownPaths}
-use Rattle.hy_batches.specs.Batches.{Batch}
-use Rattle.hy_commands.specs.Commands.{number_of, warehouses_of_commit}
-use Rattle.hy_passes.specs.SerialList.{IsSerial}
-use Rattle.hy_recovery.specs.of_partition.Jobs.{Log}
-use Rattle.hy_recovery.specs.of_partition.Partition.{PartitionState, projection_of}
-use Rattle.hy_recovery.specs.of_crossing.Crossings.{commits_in, database_behind}
-use Rattle.hy_database.proofs.EachLaws.{count-after}
-use Rattle.hy_database.specs.Database.{all_rows}
-use Rattle.hy_recovery.specs.of_forks.Forks.{IsWhyUnforked}
-use Rattle.hy_recovery.specs.of_forks.Histories.{IsOneHistory}
-use Rattle.hy_sound.specs.Sound.{IsSoundLog}
-use Rattle.hy_recovery.specs.Recovering.{AreRecovered, GoesOn, IsRecovered, NoneAreTooMany, joined}
 use Rattle.hy_program.specs.declared.fault.RunFault.{RunFault}
 use Rattle.hy_program.specs.declared.fault.RunFault.TheVariants as fault
 use Rattle.hy_program.specs.Faults.{IsAboutFiles}
 use Rattle.hy_program.specs.Reading.{HasBoth, IsReadAllFault}
-use Rattle.hy_program.specs.Recover.{IsFound, IsHistoryOf, IsRecoverDone, IsRecoverFault, IsReplayed, IsSaveFault, IsSaved, IsUnsaved, IsUnwrittenIn, IsWhyLost, IsWhyUnreplayed, KeepsFolder, with_rows}
-
--- what partitions that were recovered have kept is what the batches' lists come to
-kept-at : (lists : Lists) (frames most : ℕ) (batches : List Batch) (log : Log) (place : ℕ) (found : Option PartitionState)
-    → IfSome found (IsRecovered lists frames most (joined batches place) (suc place))
-    → IfSome found (λ p. p.kept ≡ projection_of (suc place) log) → (p : PartitionState) → found ≡ Some p
-    → projection_of (suc place) log ≡ joined batches place
-kept-at lists frames most batches log place None recovered kept p is = absurd (cc)
-kept-at lists frames most batches log place (Some other) recovered kept p is = sym kept ∙ recovered.kept
-
-pub history_of : (lists : Lists) (frames most partitions : ℕ) (batches : List Batch) (log : Log) (parts : List PartitionState)
-    → partitions ≡ length lists.tables.warehouses → AreRecovered lists frames most batches parts
-    → IsOneHistory partitions log parts → IsHistoryOf lists batches log
-history_of lists frames most partitions batches log parts count recovered history = record {
-  serial = subst (λ (n : ℕ). IsSerial warehouses_of_commit number_of n log) count history.serial;
-  kept = λ place within.
-      let here : place < length parts = subst (λ n. place < n) (sym recovered.count) within in
-      elim (slice_get_cases parts place).1 [
-        | inl there ↦ kept-at lists frames most batches log place (slice_get parts place) (recovered.each place) (history.kept place) there.0 there.2
-        | inr past ↦ absurd (omega (arith, here, past.0))
-      ];
-}
-
--- the database behind a list has a warehouse, as its load does
-pub some-behind : (lists : Lists) (log : Log) → IsLoad lists → 1 ≤ length (database_behind lists log).warehouses
-some-behind lists log sound =
-    let count : length (database_behind lists log).warehouses ≡ length lists.tables.warehouses =
-    count-after lists (commits_in log) in
-    omega (arith, count, sound.warehouses.whole)
-
--- rows that are read from a snapshot of that database
-replayed : (lists : Lists) (batches : List Batch) (log : Log) (all rows : Tables) → IsHistoryOf lists batches log
-    → all ≡ all_rows (database_behind lists log) → first_broken (all_rows (database_behind lists log)) ≡ None → rows ≡ all
-    → IsReplayed lists batches rows
-replayed lists batches log all rows history spelled consistent is = record {
-  log = log;
-  history = history;
-  spelled = is ∙ spelled;
-  consistent = ap first_broken (is ∙ spelled) ∙ consistent;
-}
-
-pub replayed_by : {E : Type 0} (lists : Lists) (batches : List Batch) (log : Log) (all : Tables)
-    → IsHistoryOf lists batches log → all ≡ all_rows (database_behind lists log)
-    → first_broken (all_rows (database_behind lists log)) ≡ None → (result : Result Tables E) → IfOk result (λ rows. rows ≡ all)
-    → IfOk result (IsReplayed lists batches)
-replayed_by lists batches log all history spelled consistent (Ok rows) is =
-    replayed lists batches log all rows history spelled consistent is
-replayed_by lists batches log all history spelled consistent (Err why) is = tt
-
--- memory lacks for what is sound and has room
-pub without_memory : (lists : Lists) (batches : List Batch) → IsSoundLog lists batches
-    → NoneAreTooMany lists batches 1_000_000 → IsWhyUnreplayed lists batches refusals.NoMemory
-without_memory lists batches sound few = inl (sound, few)
-
--- why there is no snapshot of what was recovered
-pub unforked : (lists : Lists) (batches : List Batch) (log : Log) (parts : List PartitionState) (why : Refusal)
-    → GoesOn lists batches log → NoneAreTooMany lists batches 1_000_000 → IsWhyUnforked parts why
-    → IsWhyUnreplayed lists batches why
-unforked lists batches log parts why on few (inl frame) = inr (frame.0, (on.0, on.1), few)
-unforked lists batches log parts why on few (inr memory) =
-    subst (λ it. IsWhyUnreplayed lists batches it) (sym memory) (without_memory lists batches (on.0, on.1) few)
+use Rattle.hy_program.specs.Recover.{IsFound, IsRecoverDone, IsRecoverFault, IsSaveFault, IsSaved, IsUnsaved, IsUnwrittenIn, KeepsFolder, recover_limits, with_rows}
+use Rattle.hy_program.specs.Replay.{IsWhyLost}
 
 module _ (directory log : List ℕ) (files : Option FilesByPath × Option FilesByPath) (unwritten : KnownPaths × KnownPaths)
     (bytes : Option (List ℕ) × Option (List ℕ)) (Unprinted : Type 0) where
@@ -103,6 +28,7 @@ module _ (directory log : List ℕ) (files : Option FilesByPath × Option FilesB
   read_fault into (fault.CannotWrite path) is same unprinted = absurd (is)
   read_fault into (fault.CannotWriteFile path) is same unprinted = absurd (is)
   read_fault into (fault.BadEvent number) is same unprinted = absurd (is)
+  read_fault into (fault.Serve served) is same unprinted = absurd (is)
   read_fault into (fault.Writer error) is same unprinted = absurd (is)
 
   unsaved : (named : List ℕ) (lists : Lists) (rows : Tables) → IsFound directory log files.0 bytes.0 bytes.1 lists rows
@@ -117,13 +43,15 @@ module _ (directory log : List ℕ) (files : Option FilesByPath × Option FilesB
   unsaved named lists rows found (fault.CannotWriteFile path) (inl is) = let bad = is.1 in absurd (cc)
   unsaved named lists rows found (fault.CannotWriteFile path) (inr is) = absurd (is)
   unsaved named lists rows found (fault.BadEvent number) (inl is) = let bad = is.1 in absurd (cc)
+  unsaved named lists rows found (fault.Serve served) (inl is) = let bad = is.1 in absurd (cc)
   unsaved named lists rows found (fault.BadEvent number) (inr is) = absurd (is)
+  unsaved named lists rows found (fault.Serve served) (inr is) = absurd (is)
   unsaved named lists rows found (fault.Writer error) (inl is) = let bad = is.1 in absurd (cc)
   unsaved named lists rows found (fault.Writer error) (inr is) = absurd (is)
 
   -- nothing is recovered
   pub lost_fault : {X : Type 0} (into : Option (List ℕ)) (lists : Lists) (given : List ℕ)
-      → HasBoth directory log files.0 lists given → (refusal : Refusal) → IsWhyLost lists given refusal → files.1 ≡ files.0
+      → HasBoth directory log files.0 lists given → (refusal : Refusal) → IsWhyLost recover_limits lists given refusal → files.1 ≡ files.0
       → Unprinted → (result : Result X RunFault) → result ≡ Err (fault.Refused refusal)
       → IfErr result (IsRecoverFault directory log into files unwritten bytes Unprinted)
   lost_fault {X = X} into lists given has refusal lost same unprinted result is =
@@ -186,5 +114,6 @@ module _ (directory : List ℕ) (lists : Lists) (files : Option FilesByPath × O
   unsaved_files (faults.CannotWrite table) (fault.CannotReadFile path) is ends said = absurd (is)
   unsaved_files (faults.CannotWrite table) (fault.CannotWriteFile path) is ends said = absurd (is)
   unsaved_files (faults.CannotWrite table) (fault.BadEvent number) is ends said = absurd (is)
+  unsaved_files (faults.CannotWrite table) (fault.Serve served) is ends said = absurd (is)
   unsaved_files (faults.CannotWrite table) (fault.Writer error) is ends said = absurd (is)
   unsaved_files (faults.CannotRead table) made is ends said = absurd (ends)

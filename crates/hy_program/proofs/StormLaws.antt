@@ -13,8 +13,8 @@ use Rattle.hy_storm.specs.declared.ending.Figures.{Figures}
 use Rattle.hy_storm.specs.Storms.{AreLogged}
 use Rattle.hy_program.specs.declared.fault.RunFault.{RunFault}
 use Rattle.hy_program.specs.declared.fault.RunFault.TheVariants as fault
-use Rattle.hy_program.specs.Check.{HasLoad}
 use Rattle.hy_program.specs.Faults.{IsAboutFiles}
+use Rattle.hy_program.specs.Reading.{HasLoad}
 use Rattle.hy_program.specs.Storm.{IsNoStorm, IsStormDone, IsStormFault, IsStormKept, storm_text}
 
 module _ (directory : List ℕ) (log : Option (List ℕ)) (known : Option FilesByPath) (unwritten : KnownPaths × KnownPaths)
@@ -33,6 +33,7 @@ module _ (directory : List ℕ) (log : Option (List ℕ)) (known : Option FilesB
   storm_fault (files.CannotRead table) (fault.CannotReadFile path) is missing unprinted = absurd (is)
   storm_fault (files.CannotRead table) (fault.CannotWriteFile path) is missing unprinted = absurd (is)
   storm_fault (files.CannotRead table) (fault.BadEvent number) is missing unprinted = absurd (is)
+  storm_fault (files.CannotRead table) (fault.Serve served) is missing unprinted = absurd (is)
   storm_fault (files.CannotRead table) (fault.Writer error) is missing unprinted = absurd (is)
   storm_fault (files.CannotWrite table) made is never unprinted = absurd (never)
 
@@ -45,6 +46,7 @@ module _ (directory : List ℕ) (log : Option (List ℕ)) (known : Option FilesB
   no_storm lists load (fault.CannotReadFile path) none unprinted = absurd (none)
   no_storm lists load (fault.CannotWrite path) none unprinted = absurd (none)
   no_storm lists load (fault.BadEvent number) none unprinted = absurd (none)
+  no_storm lists load (fault.Serve served) none unprinted = absurd (none)
   no_storm lists load (fault.Writer error) none unprinted = absurd (none)
 
   -- a refusal behind a `?`

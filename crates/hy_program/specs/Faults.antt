@@ -11,9 +11,17 @@ use Rattle.hy_script.specs.declared.script.ScriptFault.TheVariants as scripts
 use Rattle.hy_program.specs.declared.fault.FilePath.{FilePath}
 use Rattle.hy_program.specs.declared.fault.RunFault.{RunFault}
 use Rattle.hy_program.specs.declared.fault.RunFault.TheVariants as fault
+use Rattle.hy_program.specs.declared.fault.ServeFault.{ServeFault}
+use Rattle.hy_program.specs.declared.fault.ServeFault.TheVariants as serves
 
 abbrev pub path_text : FilePath → List ℕ
 path_text path = path_of path.directory.now path.table
+
+abbrev pub serve_text : ServeFault → List ℕ
+serve_text (serves.OtherLoad path) = path.now ++ codes " is the log of another load"
+serve_text (serves.CannotReadSums path) = codes "cannot read " ++ path.now ++ codes ".load"
+serve_text (serves.CannotWriteSums path) = codes "cannot write " ++ path.now ++ codes ".load"
+serve_text (serves.Input error) = codes "cannot read standard input"
 
 -- the text of a fault; that of an output's error isn't known to a clause
 abbrev pub fault_text : RunFault → Option (List ℕ)
@@ -23,6 +31,7 @@ fault_text (fault.CannotWrite path) = Some (codes "cannot write " ++ path_text p
 fault_text (fault.CannotReadFile path) = Some (codes "cannot read " ++ path.now)
 fault_text (fault.CannotWriteFile path) = Some (codes "cannot write " ++ path.now)
 fault_text (fault.BadEvent number) = Some (codes "bad event on line " ++ decimal number)
+fault_text (fault.Serve found) = Some (serve_text found)
 fault_text (fault.Writer error) = None
 
 -- the first output is blamed only where a write to it has failed
@@ -32,6 +41,7 @@ IsBlamedRightly has_failed (fault.Refused refusal) = ⊤
 IsBlamedRightly has_failed (fault.CannotRead path) = ⊤
 IsBlamedRightly has_failed (fault.CannotReadFile path) = ⊤
 IsBlamedRightly has_failed (fault.BadEvent number) = ⊤
+IsBlamedRightly has_failed (fault.Serve found) = ⊤
 IsBlamedRightly has_failed (fault.CannotWrite path) = ⊤
 IsBlamedRightly has_failed (fault.CannotWriteFile path) = ⊤
 
@@ -56,6 +66,7 @@ IsOfFiles directory Is (fault.CannotWrite path) = (path.directory.now ≡ direct
 IsOfFiles directory Is (fault.CannotReadFile path) = ⊥
 IsOfFiles directory Is (fault.CannotWriteFile path) = ⊥
 IsOfFiles directory Is (fault.BadEvent number) = ⊥
+IsOfFiles directory Is (fault.Serve found) = ⊥
 IsOfFiles directory Is (fault.Writer error) = ⊥
 
 -- what a fault of a script is for a command line

@@ -5,8 +5,10 @@ pub mod Generate
 pub mod Generated
 pub mod Reading
 pub mod Recover
+pub mod Replay
 pub mod Script
 pub mod Query
 pub mod Storm
 pub mod Runs
 pub mod WorkedRows
+pub mod Serve

@@ -1,69 +1,28 @@
 -- What `recover` does: it runs what a log has again on the database in the files of a folder, and prints what it finds behind
 -- it.
-use Rattle.std.specs.Prelude.{◌≡◌, ◌⊎◌, ◌<◌, ℕ, suc, List, ◌++◌, Option, None, Some, Err, codes, length}
+use Rattle.std.specs.Prelude.{◌≡◌, ◌⊎◌, ℕ, List, ◌++◌, Option, None, Some, codes}
 use Rattle.std.specs.Fmt.{decimal}
 use Rattle.std.specs.Io.KnownBytes.{Appends}
 use Rattle.hy_rows.specs.Tables.{Lists, Tables}
-use Rattle.hy_schema.specs.Conditions.{first_broken}
 use Rattle.hy_schema.specs.Loads.{IsLoad, all_whole}
 use Rattle.hy_schema.specs.declared.refusal.Refusal.{Refusal}
-use Rattle.hy_schema.specs.declared.refusal.Refusal.TheVariants as refusals
 use Rattle.hy_loads.specs.Checks.{IsRefusalOf}
 use Rattle.hy_tables.specs.Files.{texts_of}
 use Rattle.hy_files.specs.declared.directory.FileFault.{FileFault}
 use Rattle.hy_files.specs.Directory.{AreFiles, KeepsOtherFiles, tables}
 use Rattle.hy_files.specs.Faults.{IsOfSystem, IsUnwritten}
 use Rattle.hy_files.specs.Files.{AddsPath, FilesByPath, KnownPaths}
-use Rattle.hy_commands.specs.Commands.{number_of, warehouses_of_commit}
-use Rattle.hy_passes.specs.SerialList.{IsSerial}
-use Rattle.hy_batches.specs.Batches.{Batch}
-use Rattle.hy_batches.specs.Logs.{IsLog, Reads}
-use Rattle.hy_recovery.specs.of_partition.Jobs.{Log}
-use Rattle.hy_recovery.specs.of_partition.Partition.{projection_of}
-use Rattle.hy_recovery.specs.of_crossing.Crossings.{database_behind}
-use Rattle.hy_database.specs.Database.{all_rows}
-use Rattle.hy_sound.specs.Sound.{IsSoundLog}
-use Rattle.hy_recovery.specs.Recovering.{IsWhyUnrecovered, NoneAreTooMany, joined}
 use Rattle.hy_program.specs.declared.fault.RunFault.{RunFault}
 use Rattle.hy_program.specs.declared.fault.RunFault.TheVariants as fault
 use Rattle.hy_program.specs.Check.{report}
 use Rattle.hy_program.specs.Faults.{IsOfFiles}
 use Rattle.hy_program.specs.Reading.{HasBoth, IsReadAllFault}
+use Rattle.hy_program.specs.Replay.{IsBehind, IsWhyLost}
+use Rattle.hy_program.specs.declared.script.Limits.{Limits}
 
--- ---- what is recovered
-
--- a serial list of commits of a load's warehouses, of which each warehouse has what the batches' lists of it come to
-pub record IsHistoryOf (lists : Lists) (batches : List Batch) (log : Log) : Type 0 where
-  pub serial : IsSerial warehouses_of_commit number_of (length lists.tables.warehouses) log
-  pub kept : (place : ℕ) → place < length lists.tables.warehouses → projection_of (suc place) log ≡ joined batches place
-
--- these are the rows of the database behind a list of the commits of batches, and meet the consistency conditions
-pub record IsReplayed (lists : Lists) (batches : List Batch) (rows : Tables) : Type 0 where
-  pub log : Log
-  pub history : IsHistoryOf lists batches log
-  pub spelled : rows ≡ all_rows (database_behind lists log)
-  pub consistent : first_broken rows ≡ None
-
--- the same for bytes that are a log of so many batches
-pub record IsBehind (lists : Lists) (bytes : List ℕ) (count : ℕ) (rows : Tables) : Type 0 where
-  pub batches : List Batch
-  pub rest : List ℕ
-  pub whole : IsLog bytes batches rest
-  pub counted : count ≡ length batches
-  pub replayed : IsReplayed lists batches rows
-
--- why batches can't be run again on a load, with 100,000 frames and 1,000,000 commits for each warehouse, or there is no
--- snapshot of what comes of them, for which a frame may lack
-abbrev pub IsWhyUnreplayed : Lists → List Batch → Refusal → Type 0
-IsWhyUnreplayed lists batches why =
-    IsWhyUnrecovered 4_096 lists 100_000 batches 1_000_000 why
-    ⊎ ((why ≡ refusals.NoFrame) × IsSoundLog lists batches × NoneAreTooMany lists batches 1_000_000)
-
--- why nothing is recovered: the bytes aren't read as batches, or these can't be run again
-abbrev pub IsWhyLost : Lists → List ℕ → Refusal → Type 0
-IsWhyLost lists bytes why =
-    Reads bytes (Err why)
-    ⊎ ((batches : List Batch) × (rest : List ℕ) × IsLog bytes batches rest × IsWhyUnreplayed lists batches why)
+-- its limits: 100,000 frames and 1,000,000 commits for each warehouse
+abbrev pub recover_limits : Limits
+recover_limits = record { frames = 100_000; kept = 1_000_000 }
 
 -- ---- what is printed
 
@@ -132,7 +91,7 @@ IsRecoverDone directory log into files bytes =
 abbrev pub IsNotRecovered : List ℕ → List ℕ → Option FilesByPath × Option FilesByPath → Type 0 → Refusal → Type 0
 IsNotRecovered directory log files unprinted refusal =
     ((IsReadAllFault directory log files.0 (fault.Refused refusal)
-    ⊎ ((lists : Lists) × (bytes : List ℕ) × HasBoth directory log files.0 lists bytes × IsWhyLost lists bytes refusal))
+    ⊎ ((lists : Lists) × (bytes : List ℕ) × HasBoth directory log files.0 lists bytes × IsWhyLost recover_limits lists bytes refusal))
     × (files.1 ≡ files.0) × unprinted)
 
 -- what was found is printed, and can't be saved

@@ -16,8 +16,8 @@ use Rattle.hy_storm.specs.declared.ending.Figures.{Figures}
 use Rattle.hy_storm.specs.Storms.{AreFigures, AreFiguresBehind}
 use Rattle.hy_program.specs.declared.fault.RunFault.{RunFault}
 use Rattle.hy_program.specs.declared.fault.RunFault.TheVariants as fault
-use Rattle.hy_program.specs.Check.{HasLoad}
 use Rattle.hy_program.specs.Faults.{IsOfFiles}
+use Rattle.hy_program.specs.Reading.{HasLoad}
 
 -- the two lines with what was accepted and paid, and with what was kept and grew
 abbrev pub sums_text : ℕ → ℕ → ℕ → ℤ → List ℕ

@@ -1,19 +1,44 @@
-//! The command `check`: what is found in the files of a load.
+//! The command `check`: what is found in the files of a load, or in the database behind a log of it.
 
-ghost use Rattle.std.specs.Prelude.{◌≡◌, IfErr, IfOk, OnOk, length, string_bytes};
+ghost use Rattle.std.specs.Prelude.{◌≡◌, IfErr, IfOk, None, OnOk, Some, length, string_bytes};
+ghost use Rattle.std.specs.Option.{option_copied};
 ghost use Rattle.hy_rows.specs.Tables.{of_warehouse};
 ghost use Rattle.hy_program.specs.Faults.{IsBlamedRightly};
 ghost use Rattle.hy_program.specs.Check.{IsCheckFault, IsChecked, line_of, report, warehouse_line};
 
 use crate::fault::RunFault;
+use crate::reading::read_all;
+use crate::replay::{GREATEST, recovered_from};
 use hy_files::{FileSystem, read_load};
 use hy_output::Output;
 use hy_rows::{Tables, Warehouse};
 use std::alloc::{AllocError, Global};
 
 /// Tests the load in the files of a folder, and writes a line for each warehouse and one for the consistency
-/// conditions.
+/// conditions; where a log is named, those of the database behind it.
 pub fn run_check<'a, F: FileSystem, O: Output>(
+    alloc: Global,
+    directory: &'a str,
+    log: Option<&'a str>,
+    system: &mut F,
+    out: &mut O,
+) -> Result<(), RunFault<'a>>
+    ensures files { F.files system.new ≡ F.files system.old }
+    ensures folders { F.folders system.new ≡ F.folders system.old }
+    ensures done { OnOk result (IsChecked directory.entry.now (option_copied log.entry) (F.files system.old)
+        (O.contents out.old) (O.contents out.new)) }
+    ensures fault { IfErr result
+        (IsCheckFault directory.entry.now (option_copied log.entry) (F.files system.old) (out.new ≡ out.old)) }
+    ensures failed { IfErr result (IsBlamedRightly (O.has_failed out.new)) }
+{
+    match log {
+        Some(path) => check_behind(alloc, directory, path, system, out),
+        None => check_load(alloc, directory, system, out),
+    }
+}
+
+/// The same without a log.
+fn check_load<'a, F: FileSystem, O: Output>(
     alloc: Global,
     directory: &'a str,
     system: &mut F,
@@ -22,8 +47,9 @@ pub fn run_check<'a, F: FileSystem, O: Output>(
     ensures files { F.files system.new ≡ F.files system.old }
     ensures folders { F.folders system.new ≡ F.folders system.old }
     ensures done { OnOk result
-        (IsChecked directory.entry.now (F.files system.old) (O.contents out.old) (O.contents out.new)) }
-    ensures fault { IfErr result (IsCheckFault directory.entry.now (F.files system.old) (out.new ≡ out.old)) }
+        (IsChecked directory.entry.now None (F.files system.old) (O.contents out.old) (O.contents out.new)) }
+    ensures fault { IfErr result
+        (IsCheckFault directory.entry.now None (F.files system.old) (out.new ≡ out.old)) }
     ensures failed { IfErr result (IsBlamedRightly (O.has_failed out.new)) }
 {
     let load = match read_load(alloc, system, directory) {
@@ -35,7 +61,30 @@ pub fn run_check<'a, F: FileSystem, O: Output>(
     Ok(())
 }
 
-/// What `check` prints of the rows of a load.
+/// The same behind a log.
+fn check_behind<'a, F: FileSystem, O: Output>(
+    alloc: Global,
+    directory: &'a str,
+    log: &'a str,
+    system: &mut F,
+    out: &mut O,
+) -> Result<(), RunFault<'a>>
+    ensures files { F.files system.new ≡ F.files system.old }
+    ensures folders { F.folders system.new ≡ F.folders system.old }
+    ensures done { OnOk result (IsChecked directory.entry.now (Some log.entry.now) (F.files system.old)
+        (O.contents out.old) (O.contents out.new)) }
+    ensures fault { IfErr result
+        (IsCheckFault directory.entry.now (Some log.entry.now) (F.files system.old) (out.new ≡ out.old)) }
+    ensures failed { IfErr result (IsBlamedRightly (O.has_failed out.new)) }
+{
+    let (load, bytes) = read_all(alloc, directory, log, system)?;
+    let recovered = recovered_from(alloc, &load, &bytes, GREATEST)?;
+    let lines = report(alloc, &recovered.tables)?;
+    out.write_all(lines.as_bytes())?;
+    Ok(())
+}
+
+/// What `check` prints of the rows of a load, or of those behind a log.
 pub(crate) fn report(alloc: Global, tables: &Tables) -> Result<String, AllocError>
     ensures { IfOk result (λ text. string_bytes text ≡ report tables.now) }
 {

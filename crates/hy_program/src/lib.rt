@@ -10,8 +10,10 @@ mod generate;
 mod query;
 mod reading;
 mod recover;
+mod replay;
 mod run;
 mod script;
+mod serve;
 mod storm;
 
 pub use ending::Ending;

@@ -1,17 +1,23 @@
-//! The command `query`: the answer to a query over the database in the files of a folder.
+//! The command `query`: the answer to a query over the database in the files of a folder, or over that behind a log of it.
 
-ghost use Rattle.std.specs.Prelude.{◌≡◌, ◌+◌, IfErr, IfOk, IsOkAnd, OnOk, length};
+ghost use Rattle.std.specs.Prelude.{◌≡◌, ◌+◌, IfErr, IfOk, IsOkAnd, None, OnOk, Some, length};
+ghost use Rattle.std.specs.Option.{option_copied};
 ghost use Rattle.hy_schema.specs.declared.refusal.Refusal.{Refusal};
 ghost use Rattle.hy_schema.specs.declared.refusal.Refusal.TheVariants.{NoMemory};
 ghost use Rattle.hy_storm.specs.of_session.Snapshots.{lists_of_all};
 ghost use Rattle.hy_storm.specs.of_session.Texts.{answer_text};
 ghost use Rattle.hy_query.specs.Language.{query_of};
 ghost use Rattle.hy_query.specs.Meaning.{answer_of};
+ghost use Rattle.hy_recovery.specs.Recovering.{Counts};
 ghost use Rattle.hy_program.specs.Faults.{IsBlamedRightly};
-ghost use Rattle.hy_program.specs.Query.{IsQueryDone, IsQueryFault, IsWhyUnanswered, IsWhyUnasked, by_warehouse};
+ghost use Rattle.hy_program.specs.Query.{IsAnswerBehind, IsAnswerOn, IsQueryDone, IsQueryFault, IsWhyUnanswered, IsWhyUnasked, IsWhyUnaskedBehind, by_warehouse};
+ghost use Rattle.hy_program.specs.Replay.{IsWhyUnreplayed, greatest_limits};
 
 use crate::PAGE_BYTES;
 use crate::fault::RunFault;
+use crate::reading::read_all;
+use crate::replay::{GREATEST, batches_on, close, session_behind};
+use hy_batches::Batches;
 use hy_commands::Commit;
 use hy_files::{FileSystem, read_load};
 use hy_loads::Load;
@@ -35,8 +41,34 @@ const MAX_KEPT: u64 = 1_000_000;
 /// The name of the kit. No other one is made.
 const KIT: u64 = 1;
 
-/// Answers a query over the load in the files of a folder, and writes the answer.
+/// Answers a query over the load in the files of a folder or, where a log is named, over the database behind it, and writes
+/// the answer.
 pub fn run_query<'a, F: FileSystem, O: Output, R: Threads + Sync>(
+    rt: &R,
+    alloc: Global,
+    directory: &'a str,
+    text: &'a str,
+    log: Option<&'a str>,
+    system: &mut F,
+    out: &mut O,
+) -> Result<(), RunFault<'a>>
+    ensures files { F.files system.new ≡ F.files system.old }
+    ensures folders { F.folders system.new ≡ F.folders system.old }
+    ensures done { OnOk result (IsQueryDone directory.entry.now text.entry.now (option_copied log.entry)
+        (F.files system.old) (O.contents out.old) (O.contents out.new)) }
+    ensures fault { IfErr result
+        (IsQueryFault directory.entry.now text.entry.now (option_copied log.entry) (F.files system.old)
+        (out.new ≡ out.old)) }
+    ensures failed { IfErr result (IsBlamedRightly (O.has_failed out.new)) }
+{
+    match log {
+        Some(path) => query_behind(rt, alloc, directory, text, path, system, out),
+        None => query_load(rt, alloc, directory, text, system, out),
+    }
+}
+
+/// The same without a log.
+fn query_load<'a, F: FileSystem, O: Output, R: Threads + Sync>(
     rt: &R,
     alloc: Global,
     directory: &'a str,
@@ -46,10 +78,10 @@ pub fn run_query<'a, F: FileSystem, O: Output, R: Threads + Sync>(
 ) -> Result<(), RunFault<'a>>
     ensures files { F.files system.new ≡ F.files system.old }
     ensures folders { F.folders system.new ≡ F.folders system.old }
-    ensures done { OnOk result (IsQueryDone directory.entry.now text.entry.now (F.files system.old)
+    ensures done { OnOk result (IsQueryDone directory.entry.now text.entry.now None (F.files system.old)
         (O.contents out.old) (O.contents out.new)) }
     ensures fault { IfErr result
-        (IsQueryFault directory.entry.now text.entry.now (F.files system.old) (out.new ≡ out.old)) }
+        (IsQueryFault directory.entry.now text.entry.now None (F.files system.old) (out.new ≡ out.old)) }
     ensures failed { IfErr result (IsBlamedRightly (O.has_failed out.new)) }
 {
     let load = match read_load(alloc, system, directory) {
@@ -58,6 +90,31 @@ pub fn run_query<'a, F: FileSystem, O: Output, R: Threads + Sync>(
     };
     let answer = answer(rt, alloc, &load, text.as_bytes())?;
     out.write_all(&answer)?;
+    Ok(())
+}
+
+/// The same behind a log.
+fn query_behind<'a, F: FileSystem, O: Output, R: Threads + Sync>(
+    rt: &R,
+    alloc: Global,
+    directory: &'a str,
+    text: &'a str,
+    log: &'a str,
+    system: &mut F,
+    out: &mut O,
+) -> Result<(), RunFault<'a>>
+    ensures files { F.files system.new ≡ F.files system.old }
+    ensures folders { F.folders system.new ≡ F.folders system.old }
+    ensures done { OnOk result (IsQueryDone directory.entry.now text.entry.now (Some log.entry.now)
+        (F.files system.old) (O.contents out.old) (O.contents out.new)) }
+    ensures fault { IfErr result
+        (IsQueryFault directory.entry.now text.entry.now (Some log.entry.now) (F.files system.old)
+        (out.new ≡ out.old)) }
+    ensures failed { IfErr result (IsBlamedRightly (O.has_failed out.new)) }
+{
+    let (load, bytes) = read_all(alloc, directory, log, system)?;
+    let printed = answer_behind(rt, alloc, &load, &bytes, text.as_bytes())?;
+    out.write_all(&printed)?;
     Ok(())
 }
 
@@ -109,6 +166,47 @@ fn answer_in<K: Loaded, R: Threads + Sync>(
         Ok(()) => answer,
         Err(_) => unreachable!(),
     }
+}
+
+/// The answer to a query over the database behind a log of a load. E13 where the text says none, before all else; then E15
+/// where the bytes are no log, or none of this load; else E3, E2 or E1.
+fn answer_behind<R: Threads + Sync>(
+    rt: &R,
+    alloc: Global,
+    load: &Load,
+    bytes: &[u8],
+    text: &[u8],
+) -> Result<Vec<u8>, Refusal>
+    ensures answer { IfOk result (λ printed. IsOkAnd (query_of text.now)
+        (λ query. IsAnswerBehind load.now bytes.now query printed.items)) }
+    ensures refused { IfErr result (IsWhyUnaskedBehind load.now bytes.now text.now) }
+{
+    let asked = parse_query(alloc, text)?;
+    let (batches, kit) = batches_on(alloc, load, bytes, GREATEST)?;
+    answer_on::<Brand, R>(rt, alloc, load, kit, &batches, &asked)
+}
+
+/// The same over batches for a query, in the world that names the load and a kit for its warehouses and one client.
+fn answer_on<K: Loaded, R: Threads + Sync>(
+    rt: &R,
+    alloc: Global,
+    load: &Load,
+    kit: Kit<Commit>,
+    batches: &Batches,
+    query: &Query<'_>,
+) -> Result<Vec<u8>, Refusal>
+    requires kit { kit ≡ K.passes }
+    requires load { load.now ≡ K.load }
+    requires partitions { kit.partitions ≡ length load.now.tables.warehouses }
+    requires clients { kit.clients ≡ 1 }
+    requires counts { Counts kit load.now batches.now }
+    ensures answer { IfOk result (λ printed. IsAnswerOn load.now batches.now query.now printed.items) }
+    ensures refused { IfErr result (IsWhyUnreplayed greatest_limits load.now batches.now) }
+{
+    let (mut partitions, session) = session_behind::<K>(alloc, load, kit, batches, GREATEST)?;
+    let answer = answered(rt, alloc, &session, query);
+    close(session, &mut partitions);
+    answer
 }
 
 /// The text of a session's answer. E1.

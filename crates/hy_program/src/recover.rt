@@ -1,49 +1,32 @@
 //! The command `recover`: what a log has, run again on the database in the files of a folder.
 
-ghost use Rattle.std.specs.Prelude.{◌≡◌, ◌⊎◌, Bool, IfErr, IfOk, MatchResult, OnOk, length, string_bytes};
+ghost use Rattle.std.specs.Prelude.{◌≡◌, ◌⊎◌, Bool, IfErr, IfOk, MatchResult, OnOk, string_bytes};
 ghost use Rattle.std.specs.Option.{option_copied};
 ghost use Rattle.hy_schema.specs.Loads.{IsLoad, all_whole};
 ghost use Rattle.hy_loads.specs.Checks.{IsRefusalOf};
 ghost use Rattle.hy_tables.specs.Files.{texts_of};
 ghost use Rattle.hy_files.specs.Directory.{AreFiles, KeepsOtherFiles, tables as tables_in_order};
 ghost use Rattle.hy_files.specs.Files.{AddsPath};
-ghost use Rattle.hy_recovery.specs.Recovering.{Counts};
 ghost use Rattle.hy_program.specs.Faults.{IsBlamedRightly};
-ghost use Rattle.hy_program.specs.Recover.{IsBehind, IsRecoverDone, IsRecoverFault, IsReplayed, IsSaveFault, IsSaved, IsUnsaved, IsWhyLost, IsWhyUnreplayed, KeepsFolder, Makes, batches_text, recovered_text, with_rows};
+ghost use Rattle.hy_program.specs.Recover.{IsRecoverDone, IsRecoverFault, IsSaveFault, IsSaved, IsUnsaved, KeepsFolder, Makes, batches_text, recovered_text, with_rows};
 
-use crate::PAGE_BYTES;
 use crate::check::report;
 use crate::fault::RunFault;
 use crate::reading::read_all;
-use hy_batches::{Batches, read_log};
-use hy_commands::Commit;
+use crate::replay::{Recovered, recovered_from};
+use crate::script::Limits;
 use hy_files::{FileSystem, write_load};
 use hy_loads::Load;
 use hy_output::Output;
-use hy_passes::Kit;
-use hy_recovery::hy_partition::Loaded;
-use hy_recovery::{check_batches, kit_for, recover};
 use hy_rows::{Lists, Tables};
 use hy_schema::Refusal;
-use hy_storm::hy_session::Session;
 use std::alloc::{AllocError, Global};
-use std::marker::Brand;
 
 /// How many frames each warehouse may have.
 const MAX_FRAMES: u64 = 100_000;
 
 /// How many commits each warehouse may keep.
 const MAX_KEPT: u64 = 1_000_000;
-
-/// The name of the kit. No other one is made.
-const KIT: u64 = 1;
-
-/// What came of a log: how many batches it has, and the rows behind them.
-#[derive(Drop)]
-struct Recovered {
-    batches: u64,
-    tables: Tables,
-}
 
 /// Runs what a log has again on the load in the files of a folder, and writes how many batches it has and what `check` finds
 /// in what comes of it. Then this is written as the files of another folder, where one is named.
@@ -69,69 +52,14 @@ pub fn run_recover<'a, F: FileSystem, O: Output>(
     ensures failed { IfErr result (IsBlamedRightly (O.has_failed out.new)) }
 {
     let (load, bytes) = read_all(alloc, directory, log, system)?;
-    let recovered = recovered_from(alloc, &load, &bytes)?;
+    let limits = Limits {
+        frames: MAX_FRAMES,
+        kept: MAX_KEPT,
+    };
+    let recovered = recovered_from(alloc, &load, &bytes, limits)?;
     let text = recovered_text(alloc, &recovered)?;
     out.write_all(text.as_bytes())?;
     save(alloc, into, &load, recovered.tables, system)
-}
-
-/// Why nothing comes of batches where memory lacks: E15 and E3 come before E1.
-fn shortage_on(alloc: Global, load: &Load, batches: &Batches) -> Refusal
-    ensures { IsWhyUnreplayed load.now batches.now result }
-{
-    match check_batches(alloc, load, batches, MAX_KEPT) {
-        Ok(()) => Refusal::NoMemory,
-        Err(refusal) => refusal,
-    }
-}
-
-/// What comes of a log on a load. E15 where its bytes are none, or none of this load; else E3, E2 or E1.
-fn recovered_from(alloc: Global, load: &Load, bytes: &[u8]) -> Result<Recovered, Refusal>
-    ensures behind { IfOk result
-        (λ recovered. IsBehind load.now bytes.now recovered.batches recovered.tables) }
-    ensures refused { IfErr result (IsWhyLost load.now bytes.now) }
-{
-    let batches = read_log(alloc, bytes)?;
-    let Ok(kit) = kit_for(alloc, load, &batches, 1, KIT) else {
-        return Err(shortage_on(alloc, load, &batches));
-    };
-    let tables = tables_behind::<Brand>(alloc, load, kit, &batches)?;
-    Ok(Recovered {
-        batches: batches.count(),
-        tables,
-    })
-}
-
-/// The rows behind batches, in the world that names the load and a kit for its warehouses and one client.
-fn tables_behind<K: Loaded>(
-    alloc: Global,
-    load: &Load,
-    kit: Kit<Commit>,
-    batches: &Batches,
-) -> Result<Tables, Refusal>
-    requires kit { kit ≡ K.passes }
-    requires load { load.now ≡ K.load }
-    requires partitions { kit.partitions ≡ length load.now.tables.warehouses }
-    requires clients { kit.clients ≡ 1 }
-    requires counts { Counts kit load.now batches.now }
-    ensures rows { IfOk result (IsReplayed load.now batches.now) }
-    ensures refused { IfErr result (IsWhyUnreplayed load.now batches.now) }
-{
-    load.sound();
-    let Ok((_passes, journal, seats, mut clients)) = kit.open::<K>() else {
-        return Err(shortage_on(alloc, load, batches));
-    };
-    let pass = clients.take_last();
-    let (mut partitions, mut journal, mut pass) = recover::<PAGE_BYTES, K>(
-        alloc, load, batches, journal, seats, pass, MAX_FRAMES, MAX_KEPT,
-    )?;
-    let session = Session::new(partitions.fork_all(alloc, &mut journal, &mut pass)?);
-    session.shows();
-    let tables = session.tables(alloc);
-    match session.close_all(&mut partitions) {
-        Ok(()) => tables,
-        Err(_) => unreachable!(),
-    }
 }
 
 /// How many batches there are, and what `check` prints of the rows behind them.

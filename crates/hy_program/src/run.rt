@@ -15,6 +15,7 @@ use crate::generate::{Size, run_generate};
 use crate::query::run_query;
 use crate::recover::run_recover;
 use crate::script::{Limits, run_script_file};
+use crate::serve::{run_serve, terms_of};
 use crate::storm::run_storm;
 use hy_cli::{Line, LineFault, read_words};
 use hy_files::FileSystem;
@@ -22,21 +23,24 @@ use hy_output::{Output, Take};
 use hy_schema::Refusal;
 use hy_storm::Size as StormSize;
 use std::alloc::Global;
+use std::io::Read;
 use std::sync::Wait;
 use std::thread::Threads;
 
 /// The program: does what the words after its name say. Files are read and written in `system`. What is found is
-/// written to `out`, and why it isn't done to `err`.
-pub fn run_words<F, O, X, R>(
+/// written to `out`, and why it isn't done to `err`. What `input` gives only a service reads.
+pub fn run_words<F, I, O, X, R>(
     rt: &R,
     alloc: Global,
     words: &[&str],
     system: &mut F,
+    input: I,
     out: &mut O,
     err: &mut X,
 ) -> Ending
 where
     F: FileSystem,
+    I: Read + Drop,
     O: Output + Take + Drop,
     X: Output,
     R: Threads + Wait + Sync,
@@ -45,7 +49,7 @@ where
     ensures folders { KeepsFolders (texts_of words.entry.now) (F.folders system.old, F.folders system.new) }
 
     ensures done { result ≡ Ending.Done →
-        Completes (texts_of words.entry.now) (F.files system.old, F.files system.new)
+        Completes (texts_of words.entry.now) (F.files system.old, F.files system.new) (I.remaining input)
         (O.contents out.old, O.contents out.new) }
     ensures made { result ≡ Ending.Done →
         HaveMade (texts_of words.entry.now) (F.folders system.old, F.folders system.new) }
@@ -54,14 +58,15 @@ where
     // One reason says what stands on both outputs, and what the files are.
     ensures refused { result ≡ Ending.Refused →
         AreRefused (texts_of words.entry.now) (F.files system.old, F.files system.new)
-        (F.unwritten system.old, F.unwritten system.new) (O.contents out.old, O.contents out.new) (out.new ≡ out.old)
-        (X.contents err.old, X.contents err.new) }
+        (F.unwritten system.old, F.unwritten system.new) (I.remaining input) (O.contents out.old, O.contents out.new)
+        (out.new ≡ out.old) (X.contents err.old, X.contents err.new) }
 
     // The parser's text couldn't be written, or there is such a reason: an output's failure, or one that couldn't be explained.
     ensures writer_failed { result ≡ Ending.WriterFailed →
         ((¬ (AreTaken (texts_of words.entry.now))) × (system.new ≡ system.old) × (out.new ≡ out.old))
         ⊎ AreUndoneSilently (texts_of words.entry.now) (F.files system.old, F.files system.new)
-        (F.unwritten system.old, F.unwritten system.new) (O.contents out.old, O.contents out.new) (out.new ≡ out.old) }
+        (F.unwritten system.old, F.unwritten system.new) (I.remaining input) (O.contents out.old, O.contents out.new)
+        (out.new ≡ out.old) }
 
     // A write to one of the two has failed.
     ensures failed { result ≡ Ending.WriterFailed →
@@ -73,7 +78,7 @@ where
         (system.new ≡ system.old) × (out.new ≡ out.old) }
 {
     match read_words(alloc, words) {
-        Ok(line) => match run_line(rt, alloc, line, system, out) {
+        Ok(line) => match run_line(rt, alloc, line, system, input, out) {
             Ok(()) => Ending::Done,
             Err(fault) => explain(fault, err),
         },
@@ -104,11 +109,12 @@ fn explain<X: Output>(fault: RunFault<'_>, err: &mut X) -> Ending
 }
 
 /// Does what a command line says.
-fn run_line<'a, F: FileSystem, O: Output + Take + Drop, R: Threads + Wait + Sync>(
+fn run_line<'a, F: FileSystem, I: Read + Drop, O: Output + Take + Drop, R: Threads + Wait + Sync>(
     rt: &R,
     alloc: Global,
     line: Line<'a>,
     system: &mut F,
+    input: I,
     out: &mut O,
 ) -> Result<(), RunFault<'a>>
     requires { HasLimits line }
@@ -118,10 +124,11 @@ fn run_line<'a, F: FileSystem, O: Output + Take + Drop, R: Threads + Wait + Sync
         ⊎ MayMake line.entry (F.folders system.old, F.folders system.new) }
     ensures made { OnOk result (HasMade line.entry (F.folders system.old, F.folders system.new)) }
     ensures done { OnOk result
-        (IsDone line.entry (F.files system.old, F.files system.new) (O.contents out.old, O.contents out.new)) }
+        (IsDone line.entry (F.files system.old, F.files system.new) (I.remaining input)
+        (O.contents out.old, O.contents out.new)) }
     ensures fault { IfErr result
         (IsFaultOf line.entry (F.files system.old, F.files system.new) (F.unwritten system.old, F.unwritten system.new)
-        (O.contents out.old, O.contents out.new) (out.new ≡ out.old)) }
+        (I.remaining input) (O.contents out.old, O.contents out.new) (out.new ≡ out.old)) }
     ensures failed { IfErr result (IsBlamedRightly (O.has_failed out.new)) }
 {
     match line {
@@ -139,7 +146,7 @@ fn run_line<'a, F: FileSystem, O: Output + Take + Drop, R: Threads + Wait + Sync
             };
             run_generate(alloc, directory, size, system, out)
         }
-        Line::Check { directory } => run_check(alloc, directory, system, out),
+        Line::Check { directory, log } => run_check(alloc, directory, log, system, out),
         Line::Script {
             directory,
             file,
@@ -149,7 +156,21 @@ fn run_line<'a, F: FileSystem, O: Output + Take + Drop, R: Threads + Wait + Sync
             let limits = Limits { frames, kept };
             run_script_file(alloc, directory, file, limits, system, out)
         }
-        Line::Query { directory, text } => run_query(rt, alloc, directory, text, system, out),
+        Line::Serve {
+            directory,
+            log,
+            frames,
+            kept,
+            is_numbered,
+        } => {
+            let terms = terms_of(frames, kept, is_numbered);
+            run_serve(alloc, directory, log, terms, system, input, out)
+        }
+        Line::Query {
+            directory,
+            text,
+            log,
+        } => run_query(rt, alloc, directory, text, log, system, out),
         Line::Storm {
             directory,
             terminals,

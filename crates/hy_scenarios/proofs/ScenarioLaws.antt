@@ -6,7 +6,7 @@ use Rattle.hy_scenarios.specs.Changes.{replaced}
 use Rattle.hy_program.specs.declared.ending.Ending.{Ending}
 use Rattle.hy_scenarios.specs.Commands.{Printed, Prints, given_words, wanted_by, words_of}
 use Rattle.hy_scenarios.specs.Marks.{blocks_of, body_of, is_head, text_behind}
-use Rattle.hy_scenarios.specs.Scenarios.{AreDone, IsChanged, IsCommand, IsDone, IsRun, Puts, PutsEvents}
+use Rattle.hy_scenarios.specs.Scenarios.{AreDone, IsChanged, IsCommand, IsDone, IsRun, Puts, PutsEvents, input_on}
 
 -- a file that is there, and has the lines that are taken out, is changed
 pub changed-is : (path : List ℕ) (body : List (List ℕ)) (old between new : FilesByPath) (bytes changed : List ℕ)
@@ -15,15 +15,23 @@ pub changed-is : (path : List ℕ) (body : List (List ℕ)) (old between new : F
 changed-is path body old between new bytes changed there found same put =
     rw (sym there, sym found) (refl, subst (λ files. Puts files new path changed) same put)
 
--- a command printed what is wanted, or something else
+-- a command that was given the input which the files have, and found them as they were behind its events
+pub ran-on : (words : List (List ℕ)) (between read new : FilesByPath) (input : List ℕ) (printed : Printed) (end : Ending)
+    → input ≡ input_on between → read ≡ between → Prints words input read new printed end
+    → Prints words (input_on between) between new printed end
+ran-on words between read new input printed end is same prints =
+    subst (λ bytes. Prints words bytes between new printed end) is
+    (subst (λ files. Prints words input files new printed end) same prints)
+
+-- it printed what is wanted, or something else
 pub ran-same : (words body : List (List ℕ)) (old between new : FilesByPath) (printed wanted : Printed) (end : Ending)
-    → PutsEvents old between body → Prints words between new printed end → wanted ≡ wanted_by body
+    → PutsEvents old between body → Prints words (input_on between) between new printed end → wanted ≡ wanted_by body
     → printed ≡ wanted → IsRun words body old new true
 ran-same words body old between new printed wanted end put prints is same =
     (between, printed, end, put, prints, inl (refl, same ∙ is))
 
 pub ran-other : (words body : List (List ℕ)) (old between new : FilesByPath) (printed wanted : Printed) (end : Ending)
-    → PutsEvents old between body → Prints words between new printed end → wanted ≡ wanted_by body
+    → PutsEvents old between body → Prints words (input_on between) between new printed end → wanted ≡ wanted_by body
     → (printed ≡ wanted → ⊥) → IsRun words body old new false
 ran-other words body old between new printed wanted end put prints is other =
     (between, printed, end, put, prints, inr (refl, λ same. other (same ∙ sym is)))

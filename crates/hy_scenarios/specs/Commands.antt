@@ -43,15 +43,16 @@ wanted_by steps = record {
   status = status_in steps;
 }
 
--- a run of the program on these words and files may print this and leave these files: what its contract says of two
--- writers that were empty and didn't fail
-pub record Prints (words : List (List ℕ)) (old new : FilesByPath) (printed : Printed) (end : Ending) : Type 0 where
+-- a run of the program on these words, with these bytes to read, and on these files may print this and leave those files:
+-- what its contract says of a reader of just these bytes, and of two writers that were empty and didn't fail
+pub record Prints (words : List (List ℕ)) (input : List ℕ) (old new : FilesByPath) (printed : Printed) (end : Ending)
+    : Type 0 where
   pub status : printed.status ≡ status_of end
   pub printed_all : end ≢ ending.WriterFailed
   pub files : KeepsFiles words (Some old, Some new)
   pub done : end ≡ ending.Done
-      → Completes words (Some old, Some new) (Some [], Some printed.out) × (printed.err ≡ [])
+      → Completes words (Some old, Some new) (Some input) (Some [], Some printed.out) × (printed.err ≡ [])
   pub refused : end ≡ ending.Refused
-      → AreRefused words (Some old, Some new) (None, None) (Some [], Some printed.out) (printed.out ≡ [])
+      → AreRefused words (Some old, Some new) (None, None) (Some input) (Some [], Some printed.out) (printed.out ≡ [])
       (Some [], Some printed.err)
   pub no_line : end ≡ ending.NoLine → (¬ (AreTaken words)) × (printed.out ≡ []) × (new ≡ old)

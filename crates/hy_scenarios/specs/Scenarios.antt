@@ -1,5 +1,5 @@
 -- When a scenario holds.
-use Rattle.std.specs.Prelude.{◌≡◌, ◌≢◌, ◌⊎◌, ℕ, All, Bool, true, false, IsUtf8, MatchBool, MatchOption, List, [], ◌∷◌, Some, codes, is_some, option_and_then}
+use Rattle.std.specs.Prelude.{◌≡◌, ◌≢◌, ◌⊎◌, ℕ, All, Bool, true, false, IsUtf8, MatchBool, MatchOption, List, [], ◌∷◌, Some, codes, is_some, option_and_then, unwrap_or}
 use Rattle.std.specs.List.{list_any}
 use Rattle.hy_files.specs.Files.{FilesByPath, HasFile, KeepsOthers, no_files}
 use Rattle.hy_program.specs.declared.ending.Ending.{Ending}
@@ -16,11 +16,15 @@ abbrev pub PutsEvents : FilesByPath → FilesByPath → List (List ℕ) → Type
 PutsEvents old new body = MatchBool (list_any (λ step. is_some (behind 60 step)) body)
     (Puts old new (codes "events") (text_behind 60 body)) (new ≡ old)
 
+-- what a command may read on standard input: the file `events`, or nothing where there is none
+abbrev pub input_on : FilesByPath → List ℕ
+input_on files = unwrap_or (files (codes "events")) []
+
 -- a command holds exactly where the program printed what is wanted
 abbrev pub IsRun : List (List ℕ) → List (List ℕ) → FilesByPath → FilesByPath → Bool → Type 0
 IsRun words body old new holds =
     (between : FilesByPath) × (printed : Printed) × (end : Ending) × PutsEvents old between body
-    × Prints words between new printed end
+    × Prints words (input_on between) between new printed end
     × (((holds ≡ true) × (printed ≡ wanted_by body)) ⊎ ((holds ≡ false) × (printed ≢ wanted_by body)))
 
 -- a file is made where each step behind it says bytes, and changed where it has the lines that are taken out

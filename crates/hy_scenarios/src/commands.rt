@@ -94,19 +94,21 @@ pub fn as_texts<'a>(alloc: Global, words: &[&'a [u8]]) -> Result<Option<Vec<&'a 
     Ok(Some(texts))
 }
 
-/// Runs the program on files in memory.
+/// Runs the program on files in memory, with bytes to read on standard input.
 pub fn run<R: Threads + Wait + Sync>(
     rt: &R,
     alloc: Global,
     words: &[&str],
+    input: &[u8],
     stored: &mut MemoryFiles,
 ) -> Result<Output, AllocError>
     ensures { IfOk result (λ output. (end : Ending)
-        × Prints (texts_of words.entry.now) (files_on stored.old) (files_on stored.new) (printed_in output) end) }
+        × Prints (texts_of words.entry.now) input.entry.now (files_on stored.old) (files_on stored.new)
+        (printed_in output) end) }
 {
     let mut out = nothing(alloc);
     let mut err = nothing(alloc);
-    match run_words(rt, alloc, words, stored, &mut out, &mut err) {
+    match run_words(rt, alloc, words, stored, input, &mut out, &mut err) {
         Ending::WriterFailed => Err(AllocError),
         ending => Ok(printed(out, err, ending)),
     }

@@ -6,7 +6,7 @@ ghost use Rattle.hy_cli.specs.CommandLine.{texts_of};
 ghost use Rattle.hy_files.specs.Files.{no_files};
 ghost use Rattle.hy_scenarios.specs.Commands.{given_words, words_of};
 ghost use Rattle.hy_scenarios.specs.Marks.{blocks_of};
-ghost use Rattle.hy_scenarios.specs.Scenarios.{AreDone, IsChanged, IsCommand, IsDone, IsFile, IsMade, IsRun, IsVerdict, Puts, PutsEvents};
+ghost use Rattle.hy_scenarios.specs.Scenarios.{AreDone, IsChanged, IsCommand, IsDone, IsFile, IsMade, IsRun, IsVerdict, Puts, PutsEvents, input_on};
 
 use crate::changes::{bytes_of, replaced};
 use crate::commands::{Output, as_texts, given_words, is_same, run, wanted_by};
@@ -48,6 +48,17 @@ fn put_events(alloc: Global, body: &[&[u8]], stored: &mut MemoryFiles) -> Result
     put(stored, "events", &events)
 }
 
+/// What a command may read on standard input.
+fn input_in(alloc: Global, stored: &mut MemoryFiles) -> Result<Vec<u8>, AllocError>
+    ensures input { IfOk result (λ input. input.items ≡ input_on (files_on stored.old)) }
+    ensures stays { files_on stored.new ≡ files_on stored.old }
+{
+    match file_at(alloc, "events", stored)? {
+        Some(bytes) => Ok(bytes),
+        None => Ok(Vec::new(alloc)),
+    }
+}
+
 /// Runs a command on files in memory, and compares what it prints.
 fn do_command<R: Threads + Wait + Sync>(
     rt: &R,
@@ -61,8 +72,9 @@ fn do_command<R: Threads + Wait + Sync>(
         (is_none failure)) }
 {
     put_events(alloc, body, stored)?;
+    let input = input_in(alloc, stored)?;
     let wanted = wanted_by(alloc, body)?;
-    let printed = run(rt, alloc, words, stored)?;
+    let printed = run(rt, alloc, words, &input, stored)?;
     if is_same(&printed, &wanted) {
         Ok(None)
     } else {

@@ -4,7 +4,8 @@ use Rattle.std.specs.Option.{option_copied}
 use Rattle.hy_files.specs.Files.{FilesByPath, KnownPaths}
 use Rattle.std.specs.Prelude.{Option}
 use Rattle.hy_program.specs.declared.fault.RunFault.TheVariants as fault
-use Rattle.hy_program.specs.Recover.{IsBehind, IsFound, IsSaveFault, IsWhyLost, with_rows}
+use Rattle.hy_program.specs.Recover.{IsFound, IsSaveFault, recover_limits, with_rows}
+use Rattle.hy_program.specs.Replay.{IsBehind, IsWhyLost}
 use Rattle.hy_program.proofs.RecoverLaws.{done_by, keeps_folder, lost_fault, save_fault_by, writer_fault}
 use Rattle.hy_program.proofs.recover.run_recover.Goals as goal
 
@@ -16,7 +17,7 @@ returns-in_err-recovered-clause-files g c =
 pub returns-in_err-recovered-clause-fault : goal.returns-in_err-recovered-clause-fault
 returns-in_err-recovered-clause-fault g c =
     let refusal = c.in_err-recovered.field-0.0 in
-    let lost = subst (λ (given : List ℕ). IsWhyLost c.in_ok-load.load given refusal) c.deref.ensures.value
+    let lost = subst (λ (given : List ℕ). IsWhyLost recover_limits c.in_ok-load.load given refusal) c.deref.ensures.value
     c.in_err-recovered.ensures.refused in
     let is : c.from_residual-in_err-recovered.result ≡ Err (fault.Refused refusal) = search rules in
     let bytes = g.O.Output.contents c.args.out.now in

@@ -34,7 +34,7 @@ returns-in_default g c =
           rw no_out at (c.run_words.ensures.done (is ∙ done)),
           ap items_on (c.run_words.ensures.done_without_words (is ∙ done)) ∙ no_err,
         );
-        refused = λ refused. rw (no_out, no_err) at (refused_weaker files (None, None) bytes
+        refused = λ refused. rw (no_out, no_err) at (refused_weaker files (None, None) (Some c.args.input.now) bytes
             (c.run_words.new.out ≡ c.nothing-out.result) ((writer_of c.run_words.new.out).items ≡ []) unprinted
             (texts_of c.args.words.now) second (c.run_words.ensures.refused (is ∙ refused)));
         no_line = λ none. (

@@ -7,7 +7,7 @@ use Rattle.hy_storm.specs.of_session.Texts.{answer_text}
 use Rattle.hy_program.specs.declared.fault.RunFault.TheVariants as fault
 use Rattle.hy_program.specs.Query.{by_warehouse}
 use Rattle.hy_program.proofs.AskLaws.{answered, printed-answer, query_fault, writer_fault}
-use Rattle.hy_program.proofs.query.run_query.Goals as goal
+use Rattle.hy_program.proofs.query.query_load.Goals as goal
 
 pub returns-in-Err-clause-fault : goal.returns-in-Err-clause-fault
 returns-in-Err-clause-fault g c =

@@ -1,4 +1,4 @@
-use Rattle.hy_program.proofs.recover.recovered_from.Given as goal
+use Rattle.hy_program.proofs.replay.recovered_from.Given as goal
 
 -- the kit that was just made
 abbrev pub ghosts-tables_behind-K-World : goal.ghosts-tables_behind-K-World

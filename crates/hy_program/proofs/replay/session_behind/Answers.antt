@@ -1,17 +1,15 @@
-use Rattle.std.proofs.Common.{rules, ◌≡◌, ◌∙◌, List, true, ap, arith, length, subst, sym}
+use Rattle.std.proofs.Common.{rules, ◌≡◌, ◌∙◌, List, ap, arith, length, subst, sym}
 use Rattle.std.specs.Prelude.{vec_len}
-use Rattle.std.proofs.lemmas.Bool.{false≢true}
 use Rattle.hy_rows.specs.Tables.{Lists}
 use Rattle.hy_commands.specs.declared.command.Commit.{Commit}
 use Rattle.hy_passes.specs.Worlds.{new_client}
 use Rattle.hy_recovery.specs.of_partition.Snapshots.{SnapshotState}
 use Rattle.hy_recovery.proofs.of_partition.SeatLaws.{length-numbered}
 use Rattle.hy_recovery.specs.of_crossing.Crossings.{database_behind}
-use Rattle.hy_database.specs.Database.{all_rows}
-use Rattle.hy_recovery.specs.of_forks.Forks.{SpellsDatabase, are_from}
+use Rattle.hy_recovery.specs.of_forks.Forks.{SpellsDatabase}
 use Rattle.hy_storm.specs.of_session.Snapshots.{lists_of_all}
-use Rattle.hy_program.proofs.RecoverLaws.{history_of, replayed_by, some-behind}
-use Rattle.hy_program.proofs.recover.tables_behind.Goals as goal
+use Rattle.hy_program.proofs.ReplayLaws.{history_of, lists_behind, some-behind}
+use Rattle.hy_program.proofs.replay.session_behind.Goals as goal
 
 -- one client
 pub take_last-pass-requires : goal.take_last-pass-requires
@@ -22,14 +20,7 @@ take_last-pass-requires g c =
     let count : vec_len c.in-Ok.clients ≡ 1 = search (rules, all) in
     omega (arith, count)
 
--- the snapshots are those of these partitions
-pub unreachable-requires : goal.unreachable-requires
-unreachable-requires g c =
-    false≢true (c.in-Err.ensures.mine.1
-    (subst (λ (it : List SnapshotState). are_from g.K.World.passes it c.fork_all.new.self ≡ true) (sym c.new-session.ensures)
-    c.in_ok-fork_all.ensures.mine))
-
--- they spell the database behind the serial list
+-- the snapshots spell the database behind the serial list
 pub returns-clause-rows : goal.returns-clause-rows
 returns-clause-rows g c =
     let lists = c.args.load.now in
@@ -38,14 +29,13 @@ returns-clause-rows g c =
     let taken = c.in_ok-fork_all.field-0 in
     let count : g.K.World.passes.partitions ≡ length lists.tables.warehouses =
     ap (λ kit. kit.partitions) (sym c.requires.kit) ∙ c.requires.partitions in
-    let history = history_of lists 100_000 1_000_000 g.K.World.passes.partitions batches log c.in_ok-partitions.partitions count
-    c.in_ok-partitions.ensures.recovered c.in_ok-partitions.ensures.history in
+    let history = history_of lists c.args.limits.frames c.args.limits.kept g.K.World.passes.partitions batches log
+    c.in_ok-partitions.partitions count c.in_ok-partitions.ensures.recovered c.in_ok-partitions.ensures.history in
     let load : SpellsDatabase 4_096 (database_behind lists log) taken =
     subst (λ (all : Lists). SpellsDatabase 4_096 (database_behind all log) taken) (sym c.requires.load)
     c.in_ok-fork_all.ensures.database in
     let spells : SpellsDatabase 4_096 (database_behind lists log) c.new-session.result =
     subst (λ (it : List SnapshotState). SpellsDatabase 4_096 (database_behind lists log) it) (sym c.new-session.ensures) load in
-    let rows : (lists_of_all 4_096 c.new-session.result).tables ≡ all_rows (database_behind lists log) =
-    ap (λ (all : Lists). all.tables) (c.shows.ensures (database_behind lists log) (some-behind lists log c.sound.ensures) spells) in
-    replayed_by lists batches log (lists_of_all 4_096 c.new-session.result).tables history rows
-    c.in_ok-partitions.ensures.consistent c.tables-tables.result c.tables-tables.ensures.tables
+    lists_behind lists batches log (lists_of_all 4_096 c.new-session.result) history
+    (c.shows.ensures (database_behind lists log) (some-behind lists log c.sound.ensures) spells)
+    c.in_ok-partitions.ensures.consistent

@@ -1,6 +1,6 @@
 use Rattle.std.proofs.Common.{rules, ◌≡◌}
 use Rattle.hy_program.proofs.CheckLaws.{check_fault}
-use Rattle.hy_program.proofs.check.run_check.Goals as goal
+use Rattle.hy_program.proofs.check.check_load.Goals as goal
 
 pub returns-in-Err-clause-fault : goal.returns-in-Err-clause-fault
 returns-in-Err-clause-fault g c =
