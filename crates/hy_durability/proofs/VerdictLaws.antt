@@ -18,7 +18,7 @@ abbrev IsAtMost : ℕ → Commit → Type 0
 IsAtMost most = OnNumber (λ n. n ≤ most)
 
 -- numbers from one on that are at most so much are no more than fit
-range-few : (low count most : ℕ) → All (λ n. n ≤ most) (range_with_len low count) → (low + count ≤ suc most) ⊎ (count ≡ 0)
+pub range-few : (low count most : ℕ) → All (λ n. n ≤ most) (range_with_len low count) → (low + count ≤ suc most) ⊎ (count ≡ 0)
 range-few low zero most all = inr refl
 range-few low (suc zero) most all =
     let here = All-head (λ n. n ≤ most) low (range_with_len (low + 1) zero) all in inl (omega (arith, here))
@@ -28,7 +28,7 @@ range-few low (suc (suc count)) most all =
       | inr none ↦ absurd (omega (arith, none))
     ]
 
-hold-numbers : (Holds : ℕ → Type 0) (rows : List Commit) → All (OnNumber Holds) rows → All Holds (filter_map number_of rows)
+pub hold-numbers : (Holds : ℕ → Type 0) (rows : List Commit) → All (OnNumber Holds) rows → All Holds (filter_map number_of rows)
 hold-numbers Holds [] all = All-nil Holds
 hold-numbers Holds (commits.Local edition command ∷ rows) all =
     hold-numbers Holds rows (All-tail (OnNumber Holds) (commits.Local edition command) rows all)
@@ -37,7 +37,7 @@ hold-numbers Holds (commits.Cross edition number command ∷ rows) all =
     (All-head (OnNumber Holds) (commits.Cross edition number command) rows all)
     (hold-numbers Holds rows (All-tail (OnNumber Holds) (commits.Cross edition number command) rows all))
 
-range-most : (low count most : ℕ) → low + count ≤ suc most → All (λ n. n ≤ most) (range_with_len low count)
+pub range-most : (low count most : ℕ) → low + count ≤ suc most → All (λ n. n ≤ most) (range_with_len low count)
 range-most low zero most few = All-nil (λ n. n ≤ most)
 range-most low (suc count) most few =
     All-cons (λ n. n ≤ most) low (range_with_len (low + 1) count) (omega (arith, few))

@@ -4,6 +4,7 @@ use Rattle.hy_worlds.specs.Origins.{Origin}
 use Rattle.hy_schema.specs.declared.refusal.Refusal.{Refusal}
 use Rattle.hy_schema.specs.declared.refusal.Refusal.TheVariants as refusals
 use Rattle.hy_commands.specs.declared.command.Command.{Command}
+use Rattle.hy_commands.specs.declared.edition.Edition.TheVariants as editions
 use Rattle.hy_commands.specs.declared.reply.Reply.{Reply}
 use Rattle.hy_commands.specs.declared.reply.Reply.TheVariants as replies
 use Rattle.hy_commands.specs.Commands.{warehouses_of}
@@ -22,11 +23,12 @@ use Rattle.hy_script.specs.Databases.{DatabaseState, OpenSnapshot}
 
 -- ---- commands of one warehouse
 
--- a job that does the command is begun
+-- a job that does the command is begun, of the second edition
 pub record IsBegun (command : Command) (old new : PartitionState) : Type 0 where
   pub accepted : begin_refusal old command ≡ None
   pub job : JobState
   pub command_is : job.command ≡ command
+  pub edition : job.edition ≡ editions.Second
   pub after : new ≡ with_job old job
 
 -- or it is refused, and then nothing changes
@@ -44,11 +46,12 @@ abbrev pub reply_waiting : Option DoneState → Option Reply
 reply_waiting None = None
 reply_waiting (Some done) = Some done.reply
 
--- a whole command was begun, came to its end, and its reply was taken
+-- a whole command was begun, of the second edition, came to its end, and its reply was taken
 pub record IsDone (command : Command) (before after : Log) (old new : PartitionState) (reply : Reply) : Type 0 where
   pub accepted : begin_refusal old command ≡ None
   pub job : JobState
   pub command_is : job.command ≡ command
+  pub edition : job.edition ≡ editions.Second
   pub ended : PartitionState
   pub ends : Ends (begun job) before after (with_job old job) ended
   pub replies : reply_waiting ended.finished ≡ Some reply
@@ -66,12 +69,14 @@ Runs command before after old new reply =
 abbrev pub is_crossing : Command → Bool
 is_crossing command = nat_lt 1 (length (warehouses_of command))
 
--- a whole command was run over several warehouses of the load that the partitions are of, for some client
+-- a whole command was run over several warehouses of the load that the partitions are of, by the second edition, for some
+-- client
 pub record RunsAcross (command : Command) (old new : DatabaseState) (reply : Reply) : Type 0 where
   pub lists : Lists
   pub load : AreWhole lists old.parts
   pub job : JobState
   pub command_is : job.command ≡ command
+  pub edition : job.edition ≡ editions.Second
   pub answer : DoneState
   pub crosses : CrossesAndTells lists job old.log new.log old.parts new.parts answer
   pub replies : answer.reply ≡ reply

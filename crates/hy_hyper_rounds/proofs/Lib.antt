@@ -1,0 +1,15 @@
+pub mod StepLaws
+pub mod SnapshotLaws
+pub mod ListLaws
+pub mod CrossLaws
+pub mod AnswerLaws
+pub mod RoundLaws
+pub mod ScriptLaws
+pub mod SayLaws
+pub mod AlikeLaws
+pub mod AcrossLaws
+pub mod GrantsLaws
+pub mod NamesLaws
+pub mod ShownLaws
+pub mod BothLaws
+pub mod RestartLaws

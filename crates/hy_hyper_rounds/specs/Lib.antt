@@ -1,0 +1,4 @@
+pub mod Rounds
+pub mod Restarts
+pub mod WorkedRounds
+pub mod WorkedRestarts
