@@ -1,6 +1,6 @@
 -- An event is answered alike by databases that have kept the same, unless frames or memory lacked for one of them.
 use Rattle.std.specs.Prelude.{⊤}
-use Rattle.std.proofs.Common.{◌≡◌, ◌⊎◌, ◌∙◌, ◌++◌, ℕ, zero, suc, true, false, List, [], ◌∷◌, Option, None, Some, MatchOption, slice_get, slice_set, refl, sym, ap, subst, inl, inr, arith}
+use Rattle.std.proofs.Common.{append_assoc, ◌≡◌, ◌⊎◌, ◌∙◌, ◌++◌, ℕ, zero, suc, true, false, List, [], ◌∷◌, Option, None, Some, MatchOption, slice_get, slice_set, refl, sym, ap, subst, inl, inr, arith}
 use Rattle.std.proofs.lemmas.Bool.{true≢false}
 use Rattle.hy_rows.specs.Tables.{Lists}
 use Rattle.hy_schema.specs.declared.refusal.Refusal.TheVariants as refusals
@@ -21,7 +21,7 @@ use Rattle.hy_script.specs.Answers.{Answers, Asks, AsksPart, IfThere, IsMisnamed
 use Rattle.hy_script.specs.Scripts.{AnswersLine, IsBad}
 use Rattle.hy_hyper_input.specs.Received.{Said}
 use Rattle.hy_hyper_answers.specs.declared.answers.Style.{Style}
-use Rattle.hy_hyper_answers.specs.Served.{AnswersSaid, number_of, printed}
+use Rattle.hy_hyper_answers.specs.Served.{AnswersSaid, Serves, number_of, printed}
 use Rattle.hy_hyper_rounds.specs.Restarts.{AnswerAlike, AsksOfFrames, HaveTheSame, KeepTheSame, LineAsksOfFrames, RanShort, SomeWaitsShort, TellsShortage, WasShort}
 use Rattle.hy_hyper_rounds.proofs.AcrossLaws.{KeepAll, crossed-alike}
 use Rattle.hy_hyper_rounds.proofs.GrantsLaws.{OfFrames, ShortHere, at-both, grants-alike, set-both, short-text, waits-at}
@@ -314,9 +314,11 @@ module _ (n : ℕ) (one other last its : DatabaseState) (text more : List ℕ) (
 
 -- ---- all that is said
 
-ran-now : (n : ℕ) (style : Style) (said : Said) (later : List Said) (old new : DatabaseState) (text : List ℕ)
-    → AnswersSaid n said old new text → WasShort new text → RanShort n style (said ∷ later) old
-ran-now n style said later old new text answers short = record {
+ran-now : (n : ℕ) (style : Style) (said : Said) (later : List Said) (old new last : DatabaseState)
+    (answer rest text : List ℕ) → AnswersSaid n said old new answer
+    → text ≡ printed style (number_of said) answer ++ rest → Serves n style later new last rest → WasShort new answer
+    → RanShort n style (said ∷ later) old last text
+ran-now n style said later old new last answer rest text answers text_is goes_on short = record {
   before = [];
   one = said;
   later = later;
@@ -324,25 +326,35 @@ ran-now n style said later old new text answers short = record {
   middle = old;
   next = new;
   front = [];
-  text = text;
+  answer = answer;
+  rest = rest;
+  text_is = text_is;
   serves = (refl, refl);
   answers = answers;
+  goes_on = goes_on;
   short = short;
 }
 
-ran-later : (n : ℕ) (style : Style) (said : Said) (later : List Said) (old new : DatabaseState) (text : List ℕ)
-    → AnswersSaid n said old new text → RanShort n style later new → RanShort n style (said ∷ later) old
-ran-later n style said later old new text answers ran = record {
+ran-later : (n : ℕ) (style : Style) (said : Said) (later : List Said) (old new last : DatabaseState)
+    (answer rest text : List ℕ) → AnswersSaid n said old new answer
+    → text ≡ printed style (number_of said) answer ++ rest → RanShort n style later new last rest
+    → RanShort n style (said ∷ later) old last text
+ran-later n style said later old new last answer rest text answers text_is ran = record {
   before = said ∷ ran.before;
   one = ran.one;
   later = ran.later;
   said_is = ap (λ rest. said ∷ rest) ran.said_is;
   middle = ran.middle;
   next = ran.next;
-  front = printed style (number_of said) text ++ ran.front;
-  text = ran.text;
-  serves = (new, text, ran.front, answers, refl, ran.serves);
+  front = printed style (number_of said) answer ++ ran.front;
+  answer = ran.answer;
+  rest = ran.rest;
+  text_is = text_is ∙ ap (λ behind. printed style (number_of said) answer ++ behind) ran.text_is
+      ∙ sym (append_assoc (printed style (number_of said) answer) ran.front
+      (printed style (number_of ran.one) ran.answer ++ ran.rest));
+  serves = (new, answer, ran.front, answers, refl, ran.serves);
   answers = ran.answers;
+  goes_on = ran.goes_on;
   short = ran.short;
 }
 
@@ -352,8 +364,8 @@ answers-alike n style [] one other same last its text more serves serve =
 answers-alike n style (said ∷ later) one other same last its text more serves serve =
     elim (said-alike n one other serves.0 serve.0 serves.1 serve.1 same said serves.3 serve.3) [
       | inr short ↦ elim short [
-        | inl here ↦ inr (inl (ran-now n style said later one serves.0 serves.1 serves.3 here))
-        | inr here ↦ inr (inr (ran-now n style said later other serve.0 serve.1 serve.3 here))
+        | inl here ↦ inr (inl (ran-now n style said later one serves.0 last serves.1 serves.2 text serves.3 serves.4 serves.5 here))
+        | inr here ↦ inr (inr (ran-now n style said later other serve.0 its serve.1 serve.2 more serve.3 serve.4 serve.5 here))
       ]
       | inl both ↦ elim (answers-alike n style later serves.0 serve.0 both.1 last its serves.2 serve.2 serves.5 serve.5) [
         | inl rest ↦ inl (
@@ -361,8 +373,8 @@ answers-alike n style (said ∷ later) one other same last its text more serves 
           rest.1,
         )
         | inr short ↦ elim short [
-          | inl there ↦ inr (inl (ran-later n style said later one serves.0 serves.1 serves.3 there))
-          | inr there ↦ inr (inr (ran-later n style said later other serve.0 serve.1 serve.3 there))
+          | inl there ↦ inr (inl (ran-later n style said later one serves.0 last serves.1 serves.2 text serves.3 serves.4 there))
+          | inr there ↦ inr (inr (ran-later n style said later other serve.0 its serve.1 serve.2 more serve.3 serve.4 there))
         ]
       ]
     ]

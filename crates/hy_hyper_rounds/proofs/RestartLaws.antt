@@ -33,7 +33,7 @@ use Rattle.hy_hyper_input.specs.Received.{Said}
 use Rattle.hy_hyper_answers.specs.declared.answers.Style.{Style}
 use Rattle.hy_hyper_answers.specs.Served.{Serves}
 use Rattle.hy_hyper_service.specs.Rounds.{ServiceState, said_in}
-use Rattle.hy_hyper_rounds.specs.Restarts.{HaveTheSame, IsAtRest, IsQuiet, KeepTheSame, RestartsAnswerAlike, RestartsHaveTheSame, SayTheSame}
+use Rattle.hy_hyper_rounds.specs.Restarts.{HaveTheSame, IsAtRest, IsQuiet, KeepTheSame, RanShort, RestartsAnswerAlike, RestartsHaveTheSame, SayTheSame}
 use Rattle.hy_hyper_rounds.proofs.AcrossLaws.{KeepAll}
 use Rattle.hy_hyper_rounds.proofs.AlikeLaws.{runs-none}
 use Rattle.hy_hyper_rounds.specs.Rounds.{printed_in}
@@ -317,5 +317,14 @@ restarts-answer leave n lists service most settled quiet left batches stop reads
     elim (answers-alike n service.style (said_in rounds) service.database again.database same through.0 restarted.0
     (printed_in rounds) (printed_in its_rounds) through.1 serves) [
       | inl both ↦ inl both.0
-      | inr short ↦ inr short
+      | inr short ↦ elim short [
+        | inl here ↦ inr (inl (through.0, through.2, here))
+        | inr here ↦ inr (inr (
+          restarted.0,
+          restarted.2,
+          subst (λ (all : List Said). RanShort n again.style all again.database restarted.0 (printed_in its_rounds)) (sym said)
+              (subst (λ (how : Style). RanShort n how (said_in rounds) again.database restarted.0 (printed_in its_rounds))
+              (sym style) here),
+        ))
+      ]
     ]

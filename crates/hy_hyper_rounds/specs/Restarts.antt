@@ -26,7 +26,7 @@ use Rattle.hy_hyper_answers.specs.declared.answers.Style.{Style}
 use Rattle.hy_hyper_answers.specs.Served.{AnswersSaid, Serves, number_of, printed}
 use Rattle.hy_hyper_service.specs.Opening.{IsOpened}
 use Rattle.hy_hyper_service.specs.Rounds.{AreRounds, IsSettled, RoundState, ServiceState, said_in}
-use Rattle.hy_hyper_rounds.specs.Rounds.{printed_in}
+use Rattle.hy_hyper_rounds.specs.Rounds.{AreToldLess, printed_in}
 
 -- ---- databases that have kept the same
 
@@ -124,8 +124,10 @@ PrintAlike style (one ∷ later) text other =
     × (text ≡ printed style (number_of one) answer ++ rest) × (other ≡ printed style (number_of one) its ++ more)
     × PrintAlike style later rest more
 
--- for something that was said frames or memory lacked
-pub record RanShort (page_size : ℕ) (style : Style) (said : List Said) (first : DatabaseState) : Type 0 where
+-- For something that was said frames or memory lacked, when all of it was answered from one database to another by this text: an
+-- answer within the text says so, or a reply that waited behind it.
+pub record RanShort (page_size : ℕ) (style : Style) (said : List Said) (first last : DatabaseState) (text : List ℕ)
+    : Type 0 where
   pub before : List Said
   pub one : Said
   pub later : List Said
@@ -133,10 +135,13 @@ pub record RanShort (page_size : ℕ) (style : Style) (said : List Said) (first 
   pub middle : DatabaseState
   pub next : DatabaseState
   pub front : List ℕ
-  pub text : List ℕ
+  pub answer : List ℕ
+  pub rest : List ℕ
+  pub text_is : text ≡ front ++ (printed style (number_of one) answer ++ rest)
   pub serves : Serves page_size style before first middle front
-  pub answers : AnswersSaid page_size one middle next text
-  pub short : WasShort next text
+  pub answers : AnswersSaid page_size one middle next answer
+  pub goes_on : Serves page_size style later next last rest
+  pub short : WasShort next answer
 
 -- What is said to two databases that have kept the same is answered alike by both, and they have kept the same behind it, unless
 -- frames or memory lacked for one of them.
@@ -146,7 +151,7 @@ AnswerAlike =
     → HaveTheSame page_size one other → (last its : DatabaseState) (text more : List ℕ)
     → Serves page_size style said one last text → Serves page_size style said other its more
     → (PrintAlike style said text more × HaveTheSame page_size last its)
-    ⊎ RanShort page_size style said one ⊎ RanShort page_size style said other
+    ⊎ RanShort page_size style said one last text ⊎ RanShort page_size style said other its more
 
 -- ---- a service that is started again
 
@@ -174,6 +179,11 @@ RestartsHaveTheSame =
     → (frames : ℕ) (opened : DatabaseState) (seen : Log) → IsOpened lists frames most batches opened seen
     → HaveTheSame n service.database opened
 
+-- frames or memory lacked in rounds, with nothing drained between them
+abbrev pub RoundsRanShort : ℕ → ServiceState → List RoundState → ServiceState → Type 0
+RoundsRanShort n first rounds last = (done : DatabaseState) × AreToldLess last.database done
+    × RanShort n first.style (said_in rounds) first.database done (printed_in rounds)
+
 -- Beside that service one goes on that was started again on such a log, prints in the same style, and is told the same. In whatever
 -- rounds either is told it, both print the same answers, but to lines that ask for numbers of frames, or limit them; unless frames
 -- or memory lacked.
@@ -187,5 +197,4 @@ RestartsAnswerAlike =
     → AreRounds n lists service rounds last → AreRounds n lists again its_rounds its
     → said_in its_rounds ≡ said_in rounds
     → PrintAlike service.style (said_in rounds) (printed_in rounds) (printed_in its_rounds)
-    ⊎ RanShort n service.style (said_in rounds) service.database
-    ⊎ RanShort n service.style (said_in rounds) again.database
+    ⊎ RoundsRanShort n service rounds last ⊎ RoundsRanShort n again its_rounds its

@@ -10,7 +10,7 @@ use Rattle.hy_script.specs.Scripts.{Prints}
 use Rattle.hy_hyper_input.specs.Received.{Said}
 use Rattle.hy_hyper_answers.specs.declared.answers.Style.{Style}
 use Rattle.hy_hyper_answers.specs.declared.answers.Style.TheVariants as styles
-use Rattle.hy_hyper_answers.specs.Served.{Serves}
+use Rattle.hy_hyper_answers.specs.Served.{Serves, number_of, printed}
 use Rattle.hy_hyper_service.specs.Rounds.{AreRounds, RoundState, ServiceState, said_in}
 
 -- ---- databases that are drained or aren't
@@ -63,9 +63,17 @@ pub record IsOfScript (page_size : ℕ) (said : List Said) (database : DatabaseS
   pub front : text ≡ printed ++ rest
   pub whole : AreLines said → bad ≡ None → rest ≡ []
 
--- What is answered in any style could have been answered plainly, by the same databases; and that is what a script prints.
+-- answers to what was said, each printed in a style
+abbrev pub styled : Style → List Said → List (List ℕ) → List ℕ
+styled style [] answers = []
+styled style (one ∷ later) [] = []
+styled style (one ∷ later) (answer ∷ answers) = printed style (number_of one) answer ++ styled style later answers
+
+-- The same answers could have been printed plainly, by the same databases; and that is what a script prints.
 pub record AnswersOfScripts : Type 0 where
   pub plainly : (page_size : ℕ) (style : Style) (said : List Said) (old new : DatabaseState) (text : List ℕ)
-      → Serves page_size style said old new text → (plain : List ℕ) × Serves page_size styles.Plain said old new plain
+      → Serves page_size style said old new text
+      → (answers : List (List ℕ)) × (text ≡ styled style said answers)
+      × Serves page_size styles.Plain said old new (styled styles.Plain said answers)
   pub by_script : (page_size : ℕ) (said : List Said) (old new : DatabaseState) (text : List ℕ)
       → Serves page_size styles.Plain said old new text → IsOfScript page_size said old text
