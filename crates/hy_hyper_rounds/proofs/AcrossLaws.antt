@@ -12,7 +12,7 @@ use Rattle.hy_commands.specs.declared.reply.Reply.TheVariants as replies
 use Rattle.hy_commands.specs.Parts.{Database, refusal_in}
 use Rattle.hy_database.specs.Database.{act_on_all, kept_in}
 use Rattle.hy_partition.specs.Jobs.{DoneState, JobState, Log, RunningJob}
-use Rattle.hy_partition.specs.Partition.{PartitionState, Terms, terms_of}
+use Rattle.hy_partition.specs.Partition.{PartitionState, terms_of}
 use Rattle.hy_partition.specs.Parts.{KeepsBeside}
 use Rattle.hy_partition.specs.Steps.{is_full}
 use Rattle.hy_crossing.specs.Crossings.{AcceptsAll, Crosses, EndsIfNamed, IsWhyRefused, KeepsIfNamed, LeavesIfNamed, RefusesAll, TellsIfNamed, crossing_refusal, database_behind, entry_of, is_named, next_number, some_is_full, with_full}
@@ -22,7 +22,7 @@ use Rattle.hy_forks.specs.Partitions.{CrossesAndTells}
 use Rattle.hy_script.specs.Steps.{reply_waiting}
 use Rattle.hy_hyper_rounds.specs.Restarts.{IsShortage, KeepTheSame, RunTheSame, SayTheSame, SomeWaitsShort, WaitsShort}
 use Rattle.hy_hyper_rounds.proofs.SayLaws.{behind-alike, say-more, say-nothing}
-use Rattle.hy_hyper_rounds.proofs.AlikeLaws.{HasEnded, ended-alike, full-alike, some-same}
+use Rattle.hy_hyper_rounds.proofs.AlikeLaws.{HasEnded, ended-alike, full-alike, some-same, terms-same}
 
 -- ---- partitions that stay
 
@@ -55,17 +55,16 @@ stays-told log number old new told = rw told (record {
 
 pub stays-alike : (number : ℕ) (one other last its : PartitionState) → KeepTheSame number one other
     → Stays number one last → Stays number other its → KeepTheSame number last its
-stays-alike number one other last its same stays stay = record {
-  load = ap (λ (terms : Terms). terms.load) stay.terms ∙ same.load ∙ sym (ap (λ (terms : Terms). terms.load) stays.terms);
-  warehouse = ap (λ (terms : Terms). terms.warehouse) stay.terms ∙ same.warehouse
-      ∙ sym (ap (λ (terms : Terms). terms.warehouse) stays.terms);
-  max_kept = ap (λ (terms : Terms). terms.max_kept) stay.terms ∙ same.max_kept
-      ∙ sym (ap (λ (terms : Terms). terms.max_kept) stays.terms);
-  kept = stay.kept ∙ same.kept ∙ sym stays.kept;
-  running = rw (stays.running, stay.running) (same.running);
-  part = (stays.part same.part.0, stay.part same.part.1);
-  waiting = ap reply_waiting stay.finished ∙ same.waiting ∙ sym (ap reply_waiting stays.finished);
-}
+stays-alike number one other last its same stays stay =
+    let terms = terms-same number one other last its same stays.terms stay.terms in record {
+      load = terms.0;
+      warehouse = terms.1;
+      max_kept = terms.2;
+      kept = stay.kept ∙ same.kept ∙ sym stays.kept;
+      running = rw (stays.running, stay.running) (same.running);
+      part = (stays.part same.part.0, stay.part same.part.1);
+      waiting = ap reply_waiting stay.finished ∙ same.waiting ∙ sym (ap reply_waiting stays.finished);
+    }
 
 -- ---- lists of partitions
 
@@ -149,20 +148,18 @@ module _ (command its_command : Command) (commands : its_command ≡ command) wh
       → KeepTheSame number last its
   kept-alike commit its_commit commit_is log its_log number one other last its same keeps keep = elim keeps [
     | inl named ↦ elim keep [
-      | inl its_named ↦ record {
-        load = ap (λ (terms : Terms). terms.load) its_named.1.beside.terms ∙ same.load
-            ∙ sym (ap (λ (terms : Terms). terms.load) named.1.beside.terms);
-        warehouse = ap (λ (terms : Terms). terms.warehouse) its_named.1.beside.terms ∙ same.warehouse
-            ∙ sym (ap (λ (terms : Terms). terms.warehouse) named.1.beside.terms);
-        max_kept = ap (λ (terms : Terms). terms.max_kept) its_named.1.beside.terms ∙ same.max_kept
-            ∙ sym (ap (λ (terms : Terms). terms.max_kept) named.1.beside.terms);
-        kept = its_named.1.kept ∙ ap (λ (front : List Commit). front ++ its_commit ∷ []) same.kept
-            ∙ ap (λ it. one.kept ++ it ∷ []) commit_is ∙ sym named.1.kept;
-        running = rw (named.1.beside.running, its_named.1.beside.running) (same.running);
-        part = (named.1.part, its_named.1.part);
-        waiting = ap reply_waiting its_named.1.beside.finished ∙ same.waiting
-            ∙ sym (ap reply_waiting named.1.beside.finished);
-      }
+      | inl its_named ↦
+          let terms = terms-same number one other last its same named.1.beside.terms its_named.1.beside.terms in record {
+            load = terms.0;
+            warehouse = terms.1;
+            max_kept = terms.2;
+            kept = its_named.1.kept ∙ ap (λ (front : List Commit). front ++ its_commit ∷ []) same.kept
+                ∙ ap (λ it. one.kept ++ it ∷ []) commit_is ∙ sym named.1.kept;
+            running = rw (named.1.beside.running, its_named.1.beside.running) (same.running);
+            part = (named.1.part, its_named.1.part);
+            waiting = ap reply_waiting its_named.1.beside.finished ∙ same.waiting
+                ∙ sym (ap reply_waiting named.1.beside.finished);
+          }
       | inr unnamed ↦ absurd (true≢false (sym named.0 ∙ sym (named-same number) ∙ unnamed.0))
     ]
     | inr unnamed ↦ elim keep [

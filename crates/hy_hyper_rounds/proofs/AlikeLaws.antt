@@ -18,7 +18,7 @@ use Rattle.hy_passes.specs.declared.entry.Entry.{Entry}
 use Rattle.hy_partition.specs.declared.job.Progress.{Progress}
 use Rattle.hy_partition.specs.declared.job.Progress.TheVariants as progress
 use Rattle.hy_partition.specs.Jobs.{DoneState, JobState, Log, RunningJob, begun, entered_by, is_last, refused_answer}
-use Rattle.hy_partition.specs.Partition.{PartitionState, Terms, outcome_now, refusal_now, rows_now}
+use Rattle.hy_partition.specs.Partition.{PartitionState, Terms, terms_of, outcome_now, refusal_now, rows_now}
 use Rattle.hy_partition.specs.Steps.{Accepts, Continues, Ends, IsUnbegun, Refuses, RefusesAt, StepsTo, begin_refusal, is_busy, is_full, with_job}
 use Rattle.hy_crossing.specs.Crossings.{commits_in}
 use Rattle.hy_script.specs.Steps.{reply_waiting}
@@ -79,6 +79,17 @@ module _ (number : ℕ) (one other : PartitionState) (same : KeepTheSame number 
       (begin_refusal_of one.warehouse command (rows_now one))
       (if not (is_reader command) && full then Some refusals.HistoryFull else None)) full-alike
 
+-- the load, the warehouse and the limit on commits, which no call changes
+pub terms-same : (number : ℕ) (one other last its : PartitionState) → KeepTheSame number one other
+    → terms_of last ≡ terms_of one → terms_of its ≡ terms_of other
+    → (its.load ≡ last.load) × (its.warehouse ≡ last.warehouse) × (its.max_kept ≡ last.max_kept)
+terms-same number one other last its same stays stay = (
+  ap (λ (terms : Terms). terms.load) stay ∙ same.load ∙ sym (ap (λ (terms : Terms). terms.load) stays),
+  ap (λ (terms : Terms). terms.warehouse) stay ∙ same.warehouse
+      ∙ sym (ap (λ (terms : Terms). terms.warehouse) stays),
+  ap (λ (terms : Terms). terms.max_kept) stay ∙ same.max_kept ∙ sym (ap (λ (terms : Terms). terms.max_kept) stays),
+)
+
 -- ---- a job that comes to its end
 
 -- the entries of an accepted command have its commits
@@ -93,18 +104,17 @@ module _ (number : ℕ) (one other : PartitionState) (same : KeepTheSame number 
     (answer reply : DoneState) where
   pub ends-alike : Ends one last answer → Ends other its reply → its.kept ≡ last.kept
       → reply.reply ≡ answer.reply → KeepTheSame number last its
-  ends-alike ends end kept replies = record {
-    load = ap (λ (terms : Terms). terms.load) end.rest.terms ∙ same.load
-        ∙ sym (ap (λ (terms : Terms). terms.load) ends.rest.terms);
-    warehouse = ap (λ (terms : Terms). terms.warehouse) end.rest.terms ∙ same.warehouse
-        ∙ sym (ap (λ (terms : Terms). terms.warehouse) ends.rest.terms);
-    max_kept = ap (λ (terms : Terms). terms.max_kept) end.rest.terms ∙ same.max_kept
-        ∙ sym (ap (λ (terms : Terms). terms.max_kept) ends.rest.terms);
-    kept = kept;
-    running = runs-none last.running its.running ends.running end.running;
-    part = (ends.rest.part ∙ same.part.0, end.rest.part ∙ same.part.1);
-    waiting = ap reply_waiting end.finished ∙ ap (λ reply. Some reply) replies ∙ sym (ap reply_waiting ends.finished);
-  }
+  ends-alike ends end kept replies =
+      let terms = terms-same number one other last its same ends.rest.terms end.rest.terms in record {
+        load = terms.0;
+        warehouse = terms.1;
+        max_kept = terms.2;
+        kept = kept;
+        running = runs-none last.running its.running ends.running end.running;
+        part = (ends.rest.part ∙ same.part.0, end.rest.part ∙ same.part.1);
+        waiting = ap reply_waiting end.finished ∙ ap (λ reply. Some reply) replies
+            ∙ sym (ap reply_waiting ends.finished);
+      }
 
 -- an answer that waits
 waits : (p q : PartitionState) (answer : DoneState) (why : Refusal) → Ends p q answer → answer.reply ≡ replies.Refused why
@@ -217,14 +227,11 @@ module _ (number : ℕ) (one other : PartitionState) (same : KeepTheSame number 
     (say : SayTheSame before earlier) (last its : PartitionState) where
   both-go-on : after ≡ before → later ≡ earlier → Continues job one last → Continues run other its
       → KeepTheSame number last its × SayTheSame after later
-  both-go-on still its_still goes go = (
+  both-go-on still its_still goes go = let terms = terms-same number one other last its same goes.rest.terms go.rest.terms in (
     record {
-      load = ap (λ (terms : Terms). terms.load) go.rest.terms ∙ same.load
-          ∙ sym (ap (λ (terms : Terms). terms.load) goes.rest.terms);
-      warehouse = ap (λ (terms : Terms). terms.warehouse) go.rest.terms ∙ same.warehouse
-          ∙ sym (ap (λ (terms : Terms). terms.warehouse) goes.rest.terms);
-      max_kept = ap (λ (terms : Terms). terms.max_kept) go.rest.terms ∙ same.max_kept
-          ∙ sym (ap (λ (terms : Terms). terms.max_kept) goes.rest.terms);
+      load = terms.0;
+      warehouse = terms.1;
+      max_kept = terms.2;
       kept = go.nothing.kept ∙ same.kept ∙ sym goes.nothing.kept;
       running = rw (goes.running, go.running) (record {
         editions = alike.editions;
