@@ -1,9 +1,9 @@
 -- A service that is started again has kept the same.
-use Rattle.std.proofs.Common.{cond, ◌≡◌, ◌⊎◌, ◌∙◌, ◌≤◌, ◌<◌, ◌+◌, ◌==◌, ℕ, zero, suc, Bool, true, false, List, [], ◌∷◌, length, Option, None, Some, IfSome, Result, Ok, Err, slice_get, refl, sym, ap, subst, inl, inr, arith}
+use Rattle.std.proofs.Common.{◌≡◌, ◌⊎◌, ◌∙◌, ◌≤◌, ◌<◌, ◌+◌, ◌==◌, ℕ, zero, suc, Bool, true, false, List, [], ◌∷◌, length, Option, None, Some, IfSome, Result, Ok, Err, slice_get, refl, sym, ap, subst, inl, inr, arith}
 use Rattle.std.specs.List.{list_all, list_any, range_with_len}
-use Rattle.std.specs.Prelude.{All, filter, nat_lt}
+use Rattle.std.specs.Prelude.{All, nat_lt}
 use Rattle.std.proofs.lemmas.Bool.{and_parts, eqb-true, false≢true}
-use Rattle.std.proofs.lemmas.List.Elements.{All-cons, All-head, All-nil, All-tail}
+use Rattle.std.proofs.lemmas.List.Elements.{All-filter, All-head, All-tail}
 use Rattle.hy_rows.proofs.BetweenLaws.{bounds}
 use Rattle.hy_rows.specs.Ranges.{is_between}
 use Rattle.hy_rows.specs.Tables.{Lists}
@@ -22,7 +22,7 @@ use Rattle.hy_sound.specs.Sound.{names_one_of}
 use Rattle.hy_forks.specs.Drains.{TellsHere}
 use Rattle.hy_forks.specs.Logged.{crossings_in, joined}
 use Rattle.hy_forks.proofs.NumberLaws.{OnNumber, all-below, all-filtered, named-place, numbers-hold, numbers-of, one-of}
-use Rattle.hy_durability.proofs.VerdictLaws.{hold-numbers, range-few}
+use Rattle.hy_durability.proofs.VerdictLaws.{hold-numbers, range-few, range-most}
 use Rattle.hy_recovery.specs.Recovering.{IsRecovered}
 use Rattle.hy_redo_drains.specs.Following.{DrainState, Follows, LeaveBeginnings, LeavesBeginning}
 use Rattle.hy_script.specs.Databases.{DatabaseState, IsNameAt}
@@ -65,25 +65,7 @@ numbers-below : (count : ℕ) (log : Log) → Serial count log
 numbers-below count log serial =
     numbers-hold (λ n. n ≤ crossings_in log) (commits_in log)
     (subst (All (λ n. n ≤ crossings_in log)) (sym (numbers-of log ∙ serial.numbered))
-    (below 1 (crossings_in log) (crossings_in log) (omega arith)))
-  where
-    below : (low many most : ℕ) → low + many ≤ suc most → All (λ n. n ≤ most) (range_with_len low many)
-    below low zero most few = All-nil (λ n. n ≤ most)
-    below low (suc many) most few =
-        All-cons (λ n. n ≤ most) low (range_with_len (low + 1) many) (omega (arith, few))
-        (below (low + 1) many most (omega (arith, few)))
-
--- what holds of all commits holds of those of one warehouse
-all-of-filter : {Row : Type 0} (Holds : Row → Type 0) (test : Row → Bool) (rows : List Row) → All Holds rows
-    → All Holds (filter test rows)
-all-of-filter Holds test [] all = All-nil Holds
-all-of-filter {Row = Row} Holds test (row ∷ rows) all =
-    by (test row) (all-of-filter Holds test rows (All-tail Holds row rows all))
-  where
-    by : (passes : Bool) → All Holds (filter test rows)
-        → All Holds (cond passes (row ∷ filter test rows) (filter test rows))
-    by true rest = All-cons Holds row (filter test rows) (All-head Holds row rows all) rest
-    by false rest = rest
+    (range-most 1 (crossings_in log) (crossings_in log) (omega arith)))
 
 -- so lists that have the same of each warehouse have no more numbers than one another
 fewer : (count : ℕ) (one other : Log) → Serial count one → Serial count other
@@ -96,7 +78,7 @@ fewer count one other serial its_serial same =
     λ place within. all-filtered (OnNumber (λ n. n ≤ crossings_in one)) (names warehouses_of_commit (suc place))
     (commits_in other)
     (subst (All (OnNumber (λ n. n ≤ crossings_in one))) (sym (same place within))
-    (all-of-filter (OnNumber (λ n. n ≤ crossings_in one)) (names warehouses_of_commit (suc place)) (commits_in one)
+    (All-filter (names warehouses_of_commit (suc place)) (OnNumber (λ n. n ≤ crossings_in one)) (commits_in one)
     (numbers-below count one serial))) in
     let all : All (OnNumber (λ n. n ≤ crossings_in one)) (commits_in other) =
     all-below (λ place commit. names warehouses_of_commit (suc place) commit ≡ true
